@@ -1,0 +1,3 @@
+-- The model of the service, in the order of document 01. Every definition computes.
+pub mod Plan
+pub mod Refusal

@@ -1,0 +1,111 @@
+-- Document 01, "The plan file": what the bytes of a plan say.
+use mathlib.Core.List.{List}
+use Prim.Native.Nat.{ℕ, zero, suc, _+_, _*_, _/_, min}
+use lib.ListN.{length, getD}
+use Rattle.order.specs.Sum.{sum}
+use Rattle.order.specs.Table.{table}
+
+-- One block. `popularity` is the document's P, `minReplicas` its least copies, `minRacks` its spread.
+pub record Block : Type 0 where
+  pub popularity : ℕ
+  pub minReplicas : ℕ
+  pub minRacks : ℕ
+
+-- A plan. `racks` is R, `rackSize` the machines per rack S, `capacity` C; `blocks` are in file order.
+pub record Plan : Type 0 where
+  pub racks : ℕ
+  pub rackSize : ℕ
+  pub capacity : ℕ
+  pub budget : ℕ
+  pub blocks : List Block
+
+-- M = R × S.
+abbrev pub machines : Plan → ℕ
+machines p = p .racks * p .rackSize
+
+-- The failure domains, and that of machine m: R racks, and rack m div S.
+abbrev pub domains : Plan → ℕ
+domains p = p .racks
+
+abbrev pub domain : Plan → ℕ → ℕ
+domain p m = m / p .rackSize
+
+-- B, and block i.
+abbrev pub blockCount : Plan → ℕ
+blockCount p = length (p .blocks)
+
+abbrev pub noBlock : Block
+noBlock = record { popularity = 0; minReplicas = 0; minRacks = 0 }
+
+abbrev pub blockOf : Plan → ℕ → Block
+blockOf p i = getD (p .blocks) i noBlock
+
+-- The upper count of block i: the smaller of 8 and M.
+abbrev pub maxReplicas : ℕ
+maxReplicas = 8
+
+unfoldable pub upper : Plan → ℕ → ℕ
+upper p i = min maxReplicas (machines p)
+
+-- The sum of the least copies.
+unfoldable pub minTotal : Plan → ℕ
+minTotal p = sum (blockCount p) (λ i. blockOf p i .minReplicas)
+
+-- The number in the `width` bytes from `at` on, high byte first.
+unfoldable pub field : List ℕ → ℕ → ℕ → ℕ
+field bytes at zero = 0
+field bytes at (suc width) = field bytes at width * 256 + getD bytes (at + width) 0
+
+-- The header's table: each field by its first byte and its width.
+abbrev pub headerLength : ℕ
+headerLength = 15
+
+abbrev pub markIn : List ℕ → ℕ
+markIn bytes = field bytes 0 3
+
+abbrev pub versionIn : List ℕ → ℕ
+versionIn bytes = field bytes 3 2
+
+abbrev pub racksIn : List ℕ → ℕ
+racksIn bytes = field bytes 5 1
+
+abbrev pub rackSizeIn : List ℕ → ℕ
+rackSizeIn bytes = field bytes 6 1
+
+abbrev pub capacityIn : List ℕ → ℕ
+capacityIn bytes = field bytes 7 2
+
+abbrev pub budgetIn : List ℕ → ℕ
+budgetIn bytes = field bytes 9 4
+
+abbrev pub blockCountIn : List ℕ → ℕ
+blockCountIn bytes = field bytes 13 2
+
+-- A record: the popularity, then the least copies and the spread, one byte each. Record i stands at `recordAt i`.
+abbrev pub popularityWidth : ℕ
+popularityWidth = 3
+
+abbrev pub recordLength : ℕ
+recordLength = popularityWidth + 2
+
+abbrev pub recordAt : ℕ → ℕ
+recordAt i = headerLength + recordLength * i
+
+unfoldable pub blockIn : List ℕ → ℕ → Block
+blockIn bytes i =
+    record {
+      popularity = field bytes (recordAt i) popularityWidth;
+      minReplicas = field bytes (recordAt i + popularityWidth) 1;
+      minRacks = field bytes (recordAt i + popularityWidth + 1) 1;
+    }
+
+-- The plan that the bytes hold.
+unfoldable pub planIn : List ℕ → Plan
+planIn bytes =
+    record {
+      racks = racksIn bytes;
+      rackSize = rackSizeIn bytes;
+      capacity = capacityIn bytes;
+      budget = budgetIn bytes;
+      blocks = table (blockCountIn bytes) (blockIn bytes);
+    }

@@ -1,0 +1,120 @@
+-- Document 01, "Why a plan or placement is turned back": rows 1 to 11 of its table.
+-- A refusal code is the row's number, and 0 where nothing is wrong. Each check is handed the code that the later rows give.
+use mathlib.Core.Bool.{Bool, true, false, not, _||_}
+use mathlib.Core.List.{List}
+use Prim.Native.Nat.{ℕ, zero, suc, _*_}
+use lib.Dec.{ltb, eqb}
+use lib.ListN.{length}
+use Rattle.order.specs.Search.{firstUp}
+use Rattle.model.specs.Plan.{Plan, machines, domains, blockCount, blockOf, upper, minTotal, headerLength, markIn, versionIn, racksIn, rackSizeIn, capacityIn, blockCountIn, recordAt, planIn}
+
+-- The row's code where its condition holds, else the later rows' code.
+abbrev pub refuseIf : Bool → ℕ → ℕ → ℕ
+refuseIf true code later = code
+refuseIf false code later = later
+
+-- The first of two codes that is not 0.
+abbrev pub orElse : ℕ → ℕ → ℕ
+orElse zero later = later
+orElse (suc code) later = suc code
+
+abbrev pub isRefusal : ℕ → Bool
+isRefusal code = ltb 0 code
+
+-- The limits of rows 2, 4, 5 and 6.
+abbrev pub mark : ℕ
+mark = 0x42504c
+
+abbrev pub maxMachines : ℕ
+maxMachines = 64
+
+abbrev pub maxCapacity : ℕ
+maxCapacity = 1024
+
+abbrev pub maxBlocks : ℕ
+maxBlocks = 1024
+
+-- 1: shorter than 15 bytes.
+unfoldable pub check1 : ℕ → ℕ → ℕ
+check1 size = refuseIf (ltb size headerLength) 1
+
+-- 2: mark differs.
+unfoldable pub check2 : ℕ → ℕ → ℕ
+check2 found = refuseIf (not (eqb found mark)) 2
+
+-- 3: version not 1.
+unfoldable pub check3 : ℕ → ℕ → ℕ
+check3 version = refuseIf (not (eqb version 1)) 3
+
+-- 4: R or S is 0, or M above 64.
+unfoldable pub check4 : ℕ → ℕ → ℕ → ℕ
+check4 racks rackSize = refuseIf (eqb racks 0 || eqb rackSize 0 || ltb maxMachines (racks * rackSize)) 4
+
+-- 5: C is 0 or above 1,024.
+unfoldable pub check5 : ℕ → ℕ → ℕ
+check5 capacity = refuseIf (eqb capacity 0 || ltb maxCapacity capacity) 5
+
+-- 6: B above 1,024.
+unfoldable pub check6 : ℕ → ℕ → ℕ
+check6 count = refuseIf (ltb maxBlocks count) 6
+
+-- 7: length not 15 + 5 × B.
+unfoldable pub check7 : ℕ → ℕ → ℕ → ℕ
+check7 size count = refuseIf (not (eqb size (recordAt count))) 7
+
+-- 8: least copies 0 or above the smaller of 8 and M.
+unfoldable pub check8 : ℕ → ℕ → ℕ → ℕ
+check8 most least = refuseIf (eqb least 0 || ltb most least) 8
+
+-- 9: spread 0, or above least copies, or above R.
+unfoldable pub check9 : ℕ → ℕ → ℕ → ℕ → ℕ
+check9 racks least spread = refuseIf (eqb spread 0 || ltb least spread || ltb racks spread) 9
+
+-- 10: sum of least copies above the budget.
+unfoldable pub check10 : ℕ → ℕ → ℕ → ℕ
+check10 budget total = refuseIf (ltb budget total) 10
+
+-- 11: sum of least copies above M × C.
+unfoldable pub check11 : ℕ → ℕ → ℕ → ℕ
+check11 places total = refuseIf (ltb places total) 11
+
+-- 8 and 9 are made block by block from block 0, 8 first.
+unfoldable pub blockRefusal : Plan → ℕ → ℕ
+blockRefusal p i =
+    check8 (upper p i) (blockOf p i .minReplicas)
+    (check9 (domains p) (blockOf p i .minReplicas) (blockOf p i .minRacks)
+    0)
+
+unfoldable pub blocksRefusal : Plan → ℕ
+blocksRefusal p = firstUp isRefusal 0 (blockRefusal p) (blockCount p)
+
+-- The checks go in numerical order: 1 to 7 on the header, 8 to 11 on the plan.
+unfoldable pub planRefusal : Plan → ℕ
+planRefusal p =
+    orElse (blocksRefusal p)
+    (check10 (p .budget) (minTotal p)
+    (check11 (machines p * p .capacity) (minTotal p)
+    0))
+
+unfoldable pub refusal : List ℕ → ℕ
+refusal bytes =
+    check1 (length bytes)
+    (check2 (markIn bytes)
+    (check3 (versionIn bytes)
+    (check4 (racksIn bytes) (rackSizeIn bytes)
+    (check5 (capacityIn bytes)
+    (check6 (blockCountIn bytes)
+    (check7 (length bytes) (blockCountIn bytes)
+    (planRefusal (planIn bytes))))))))
+
+-- What a plan's bytes are: turned back with a code, or a plan.
+pub data Verdict : Type 0 where
+  refused : ℕ → Verdict
+  accepted : Plan → Verdict
+
+abbrev pub verdict : ℕ → Plan → Verdict
+verdict zero p = accepted p
+verdict (suc code) p = refused (suc code)
+
+unfoldable pub judge : List ℕ → Verdict
+judge bytes = verdict (refusal bytes) (planIn bytes)

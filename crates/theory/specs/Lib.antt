@@ -1,0 +1,2 @@
+-- What is claimed of the model's definitions.
+pub mod Accepted

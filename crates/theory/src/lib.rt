@@ -1,0 +1,1 @@
+// Theorems about the definitions of the model: statements in specs/, proofs in proofs/; no code.
