@@ -96,7 +96,7 @@ blockIn bytes i =
     record {
       popularity = field bytes (recordAt i) popularityWidth;
       minReplicas = field bytes (recordAt i + popularityWidth) 1;
-      minRacks = field bytes (recordAt i + popularityWidth + 1) 1;
+      minRacks = field bytes (recordAt i + (popularityWidth + 1)) 1;
     }
 
 -- The plan that the bytes hold.

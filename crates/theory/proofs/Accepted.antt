@@ -164,3 +164,13 @@ accepted-laws bytes p e =
       valid = rw (z .1) at (refusal-zero bytes (z .0));
       length-is = header-zero bytes (z .0) .6 ∙ ap recordAt (sym (count-in bytes) ∙ ap blockCount (z .1));
     }
+
+-- The verdict, from the code.
+pub judge-refused : (bytes : List ℕ) (code : ℕ) → refusal bytes ≡ code → 1 ≤ code → judge bytes ≡ refused code
+unfolding judge
+judge-refused bytes zero e l = absurd (omega arith)
+judge-refused bytes (suc code) e l = ap (λ (n : ℕ). verdict n (planIn bytes)) e
+
+pub judge-accepted : (bytes : List ℕ) → refusal bytes ≡ 0 → judge bytes ≡ accepted (planIn bytes)
+unfolding judge
+judge-accepted bytes e = ap (λ (n : ℕ). verdict n (planIn bytes)) e
