@@ -1,3 +1,6 @@
 -- The model of the service, in the order of document 01. Every definition computes.
 pub mod Plan
 pub mod Refusal
+pub mod Replication
+pub mod Placement
+pub mod Steps

@@ -23,12 +23,16 @@ pub record Plan : Type 0 where
 abbrev pub machines : Plan → ℕ
 machines p = p .racks * p .rackSize
 
--- The failure domains, and that of machine m: R racks, and rack m div S.
+-- Machine m is in rack m div S.
+abbrev pub rackOf : Plan → ℕ → ℕ
+rackOf p m = m / p .rackSize
+
+-- The failure domains that a spread counts, and that of machine m: the racks.
 abbrev pub domains : Plan → ℕ
 domains p = p .racks
 
 abbrev pub domain : Plan → ℕ → ℕ
-domain p m = m / p .rackSize
+domain p m = rackOf p m
 
 -- B, and block i.
 abbrev pub blockCount : Plan → ℕ
