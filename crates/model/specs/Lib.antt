@@ -4,3 +4,5 @@ pub mod Refusal
 pub mod Replication
 pub mod Placement
 pub mod Steps
+pub mod Calls
+pub mod Claims

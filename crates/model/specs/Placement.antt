@@ -72,8 +72,11 @@ position p t = t % p .racks * p .rackSize + t / p .racks
 unfoldable pub laidWord : Plan → ℕ → ℕ → ℕ
 laidWord p start count = sum count (λ j. 2 ^ position p ((start + j) % machines p))
 
+unfoldable pub firstWord : Plan → ℕ → ℕ
+firstWord p i = laidWord p (sum i (chosen p)) (chosen p i)
+
 unfoldable pub firstPlacement : Plan → List ℕ
-firstPlacement p = table (blockCount p) (λ i. laidWord p (sum i (chosen p)) (chosen p i))
+firstPlacement p = table (blockCount p) (firstWord p)
 
 -- The share of a copy of block i, at the placement's counts, and the load of machine m.
 unfoldable pub shareOf : Plan → List ℕ → ℕ → ℕ

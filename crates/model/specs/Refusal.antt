@@ -1,4 +1,4 @@
--- Document 01, "Why a plan or placement is turned back": rows 1 to 11 of its table.
+-- Document 01, "Why a plan or placement is turned back": rows 1 to 12 of its table.
 -- A refusal code is the row's number, and 0 where nothing is wrong. Each check is handed the code that the later rows give.
 use mathlib.Core.Bool.{Bool, true, false, not, _||_}
 use mathlib.Core.List.{List}
@@ -77,6 +77,10 @@ check10 budget total = refuseIf (ltb budget total) 10
 -- 11: sum of least copies above M × C.
 unfoldable pub check11 : ℕ → ℕ → ℕ → ℕ
 check11 places total = refuseIf (ltb places total) 11
+
+-- 12: lent buffer has fewer than B items.
+unfoldable pub check12 : ℕ → ℕ → ℕ → ℕ
+check12 lent count = refuseIf (ltb lent count) 12
 
 -- 8 and 9 are made block by block from block 0, 8 first.
 unfoldable pub blockRefusal : Plan → ℕ → ℕ

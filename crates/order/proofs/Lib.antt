@@ -3,3 +3,7 @@ pub mod Booleans
 pub mod Sums
 pub mod Tables
 pub mod Searches
+pub mod Extremes
+pub mod Balances
+pub mod Groups
+pub mod Maxima

@@ -3,7 +3,7 @@
 use mathlib.Core.Path.{_≡_, refl, ap, ap₂, sym, _∙_}
 use mathlib.Core.Logic.{_⊎_, inl, inr}
 use Prim.Native.Nat.{ℕ, zero, suc, _+_, _*_, _≤_, _<_}
-use native.Mathlib.Nat.{le-refl, mul-add, mul-zero, add-le-add, not-suc-le-zero, le-of-suc-le-suc, eq-or-lt-of-le, suc-mul, zero-mul}
+use native.Mathlib.Nat.{le-refl, le-antisymm, mul-add, mul-zero, add-le-add, not-suc-le-zero, le-of-suc-le-suc, eq-or-lt-of-le, suc-mul, zero-mul}
 use native.Mathlib.Numerals.{add-one}
 use native.Mathlib.Decide.{ℕ-discrete, decLt}
 use native.Mathlib.Omega.{arith}
@@ -69,6 +69,16 @@ sum-term (suc n) f i l = go (eq-or-lt-of-le (le-of-suc-le-suc l)) (λ m. sum-ter
     go : (i ≡ n) ⊎ (i < n) → (i < n → f i ≤ sum n f) → f i ≤ sum n f + f n
     go (inl e) below = rw e (omega arith)
     go (inr m) below = let b = below m in omega arith
+
+-- a shorter sum is at most a longer one
+pub sum-prefix : (n : ℕ) (f : ℕ → ℕ) (i : ℕ) → i ≤ n → sum i f ≤ sum n f
+unfolding sum
+sum-prefix zero f i l = rw (le-antisymm l (omega arith)) (le-refl (sum 0 f))
+sum-prefix (suc n) f i l = go (eq-or-lt-of-le l) (λ m. sum-prefix n f i m)
+  where
+    go : (i ≡ suc n) ⊎ (i < suc n) → (i ≤ n → sum i f ≤ sum n f) → sum i f ≤ sum n f + f n
+    go (inl e) below = rw e (le-refl (sum (suc n) f))
+    go (inr m) below = let b = below (le-of-suc-le-suc m) in omega arith
 
 -- a sum below another is below it at some term
 pub sum-index : (n : ℕ) (f g : ℕ → ℕ) → sum n f < sum n g → (i : ℕ) × (i < n) × (f i < g i)

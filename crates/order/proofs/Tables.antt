@@ -1,15 +1,15 @@
 -- Laws of a list given by its length and its elements.
 -- Assumes nothing.
-use mathlib.Core.Path.{_≡_, refl, ap, sym, _∙_, subst}
+use mathlib.Core.Path.{_≡_, refl, ap, ap₂, sym, _∙_, subst}
 use mathlib.Core.Logic.{_⊎_, inl, inr}
-use mathlib.Core.List.{List, [], _∷_, _++_}
+use mathlib.Core.List.{List, [], _∷_, _++_, append-assoc}
 use Prim.Native.Nat.{ℕ, zero, suc, _+_, _≤_, _<_}
-use native.Mathlib.Nat.{eq-or-lt-of-le, le-of-suc-le-suc, not-suc-le-zero}
+use native.Mathlib.Nat.{eq-or-lt-of-le, le-of-suc-le-suc, not-suc-le-zero, le-refl}
 use native.Mathlib.Numerals.{add-one}
 use native.Mathlib.Omega.{arith}
-use lib.ListN.{length, getD, length-append, List·getD-append}
-use lib.Seq.{getD-at}
-use Rattle.order.specs.Table.{table}
+use lib.ListN.{length, getD, set, drop, length-append, length-drop, List·getD-append}
+use lib.Seq.{getD-at, set-at, drop-cons}
+use Rattle.order.specs.Table.{table, filled}
 
 module _ {ℓ} {A : Type ℓ} where
   pub length-table : (n : ℕ) (f : ℕ → A) → length (table n f) ≡ n
@@ -27,3 +27,35 @@ module _ {ℓ} {A : Type ℓ} where
       go (inl e) before = getD-at (table n f) (f n) [] d i (length-table n f ∙ sym e) ∙ ap f (sym e)
       go (inr l) before =
           List·getD-append (table n f) (f n ∷ []) d i (subst (λ (k : ℕ). i < k) (sym (length-table n f)) l) ∙ before l
+
+  -- a list that nothing was written to, and one store more: what a loop that fills a buffer shows
+  pub filled-none : (f : ℕ → A) (old : List A) → old ≡ filled 0 f old
+  unfolding filled table
+  filled-none f old = refl
+
+  pub filled-more : (n : ℕ) (f : ℕ → A) (old now : List A) (a : A) → now ≡ filled n f old → n < length old → a ≡ f n
+      → set now n a ≡ filled (n + 1) f old
+  unfolding filled table
+  filled-more n f old now a e l same =
+      rw (add-one n)
+      (ap (λ (s : List A). set s n a) (e ∙ ap (λ (s : List A). table n f ++ s) (drop-cons old n a l))
+      ∙ set-at (table n f) (getD old n a) (drop (suc n) old) a n (length-table n f)
+      ∙ ap (λ (x : A). table n f ++ x ∷ drop (suc n) old) same
+      ∙ sym (append-assoc (table n f) (f n ∷ []) (drop (suc n) old)))
+
+  pub length-filled : (n : ℕ) (f : ℕ → A) (old : List A) → n ≤ length old → length (filled n f old) ≡ length old
+  unfolding filled
+  length-filled n f old l =
+      length-append (table n f) (drop n old) ∙ (rw (length-table n f, length-drop n old) (omega arith))
+
+  pub getD-filled : (n : ℕ) (f : ℕ → A) (old : List A) (i : ℕ) (d : A) → i < n → getD (filled n f old) i d ≡ f i
+  unfolding filled
+  getD-filled n f old i d l =
+      List·getD-append (table n f) (drop n old) d i (rw (length-table n f) l) ∙ getD-table n f i d l
+
+  -- functions that agree below n fill alike
+  pub table-cong : (n : ℕ) (f g : ℕ → A) → ((i : ℕ) → i < n → f i ≡ g i) → table n f ≡ table n g
+  unfolding table
+  table-cong zero f g e = refl
+  table-cong (suc n) f g e =
+      ap₂ (λ (s : List A) (x : A). s ++ (x ∷ [])) (table-cong n f g (λ i l. e i (omega arith))) (e n (le-refl (suc n)))

@@ -1,9 +1,9 @@
 -- What the reader's answers say, in the model's terms.
 use mathlib.Core.Path.{_≡_}
 use mathlib.Core.List.{List}
-use Prim.Native.Nat.{ℕ, _*_, _<_, _≤_}
+use Prim.Native.Nat.{ℕ, _<_, _≤_, _^_}
 use lib.ListN.{length}
-use Rattle.order.specs.Table.{table}
+use Rattle.order.specs.Table.{table, filled}
 use Rattle.model.specs.Plan.{Plan, domains, upper, minTotal, recordAt, blockIn, blockCountIn, planIn}
 use Rattle.model.specs.Refusal.{blocksRefusal, maxBlocks, Verdict, refused, accepted}
 use Rattle.header.specs.declared.Header.{Header}
@@ -47,3 +47,17 @@ pub record TotalAs (bytes : List ℕ) (total : ℕ) : Type 0 where
 abbrev pub Scanned : List ℕ → Scan → Type 0
 Scanned bytes (Fault code) = FaultAs bytes code
 Scanned bytes (Total total) = TotalAs bytes total
+
+-- What taking the records apart is given: room for each field of B records that lie in the bytes.
+pub record DecodeAsked (bytes : List ℕ) (blocks : ℕ) (popularities least spreads : List ℕ) : Type 0 where
+  pub length-is : length bytes ≡ recordAt blocks
+  pub popularity-room : blocks ≤ length popularities
+  pub least-room : blocks ≤ length least
+  pub spread-room : blocks ≤ length spreads
+
+-- Each list holds a field of the records, its later items as they were; and a popularity has three bytes.
+pub record Decoded (bytes : List ℕ) (blocks : ℕ) (popularities₀ least₀ spreads₀ popularities least spreads : List ℕ) : Type 0 where
+  pub popularity-is : popularities ≡ filled blocks (λ i. blockIn bytes i .popularity) popularities₀
+  pub least-is : least ≡ filled blocks (λ i. blockIn bytes i .minReplicas) least₀
+  pub spread-is : spreads ≡ filled blocks (λ i. blockIn bytes i .minRacks) spreads₀
+  pub narrow : (i : ℕ) → i < blocks → blockIn bytes i .popularity < 2 ^ 24

@@ -7,7 +7,7 @@ ghost use lib.ListN.{length};
 ghost use Rattle.model.specs.Plan.{recordAt, blockIn, recordLength, maxReplicas};
 ghost use Rattle.model.specs.Refusal.{check8, check9, judge};
 ghost use Rattle.header.specs.Header.{PassedAs};
-ghost use Rattle.plan.specs.Reading.{verdictOf, ScanAsked, Scanned};
+ghost use Rattle.plan.specs.Reading.{verdictOf, ScanAsked, Scanned, DecodeAsked, Decoded};
 
 // What a plan's bytes are: refused with its number, or accepted with the header's fields.
 pub enum Reading {
@@ -46,7 +46,7 @@ pub fn min_racks(bytes: &[u8], i: usize) -> usize
 }
 
 // The smaller of 8 and the number of machines.
-fn most_replicas(machines: usize) -> usize
+pub fn most_replicas(machines: usize) -> usize
     ensures { λ r. ⌜ r ≡ min maxReplicas machines ⌝ }
 {
     if machines < 8 {
@@ -125,5 +125,26 @@ pub fn read(bytes: &[u8]) -> Reading
     match answer {
         HeaderAnswer::Refused(code) => Reading::Refused(code),
         HeaderAnswer::Passed(h) => judge_records(bytes, h),
+    }
+}
+
+// The records of an accepted plan, taken apart into one list for each field; later items stay.
+pub fn decode(
+    bytes: &[u8],
+    blocks: usize,
+    popularities: &mut [u64],
+    least: &mut [u8],
+    spreads: &mut [u8],
+)
+    requires { ⌜ DecodeAsked (now bytes) blocks (now popularities) (now least) (now spreads) ⌝ }
+    ensures { λ r. ⌜ Decoded (now (bytes .entry)) blocks (now (popularities .entry)) (now (least .entry)) (now (spreads .entry))
+        (now (popularities .exit)) (now (least .exit)) (now (spreads .exit)) ⌝ }
+{
+    let mut i: usize = 0;
+    while i < blocks {
+        popularities[i] = popularity(bytes, i);
+        least[i] = min_replicas(bytes, i) as u8;
+        spreads[i] = min_racks(bytes, i) as u8;
+        i += 1;
     }
 }

@@ -1,2 +1,5 @@
 -- What is claimed of the model's definitions.
 pub mod Accepted
+pub mod Counts
+pub mod Local
+pub mod Bounds
