@@ -59,3 +59,7 @@ module _ {ℓ} {A : Type ℓ} where
   table-cong zero f g e = refl
   table-cong (suc n) f g e =
       ap₂ (λ (s : List A) (x : A). s ++ (x ∷ [])) (table-cong n f g (λ i l. e i (omega arith))) (e n (le-refl (suc n)))
+
+  pub filled-cong : (n : ℕ) (f g : ℕ → A) (old : List A) → ((i : ℕ) → i < n → f i ≡ g i) → filled n f old ≡ filled n g old
+  unfolding filled
+  filled-cong n f g old e = ap (λ (s : List A). s ++ drop n old) (table-cong n f g e)

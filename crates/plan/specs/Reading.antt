@@ -1,11 +1,12 @@
 -- What the reader's answers say, in the model's terms.
 use mathlib.Core.Path.{_≡_}
 use mathlib.Core.List.{List}
-use Prim.Native.Nat.{ℕ, _<_, _≤_, _^_}
+use Prim.Native.Nat.{ℕ, _*_, _<_, _≤_, _^_}
 use lib.ListN.{length}
 use Rattle.order.specs.Table.{table, filled}
-use Rattle.model.specs.Plan.{Plan, domains, upper, minTotal, recordAt, blockIn, blockCountIn, planIn}
-use Rattle.model.specs.Refusal.{blocksRefusal, maxBlocks, Verdict, refused, accepted}
+use Rattle.model.specs.Plan.{Plan, blockCount, blockOf, domains, upper, minTotal, recordAt, blockIn, blockCountIn, planIn}
+use Rattle.model.specs.Refusal.{blocksRefusal, maxMachines, maxCapacity, maxBlocks, Verdict, refused, accepted}
+use Rattle.theory.specs.Accepted.{Valid}
 use Rattle.header.specs.declared.Header.{Header}
 use Rattle.plan.specs.declared.Reading.{Reading}
 use Rattle.plan.specs.declared.Reading.the-variants.{Refused, Accepted}
@@ -61,3 +62,13 @@ pub record Decoded (bytes : List ℕ) (blocks : ℕ) (popularities₀ least₀ s
   pub least-is : least ≡ filled blocks (λ i. blockIn bytes i .minReplicas) least₀
   pub spread-is : spreads ≡ filled blocks (λ i. blockIn bytes i .minRacks) spreads₀
   pub narrow : (i : ℕ) → i < blocks → blockIn bytes i .popularity < 2 ^ 24
+
+-- What holds of a header that was accepted with its bytes.
+pub record AcceptedHeader (bytes : List ℕ) (h : Header) : Type 0 where
+  pub valid : Valid (planOf bytes h)
+  pub machines-max : h .racks * h .«rack_size» ≤ maxMachines
+  pub capacity-max : h .capacity ≤ maxCapacity
+  pub blocks-max : h .blocks ≤ maxBlocks
+  pub blocks-is : blockCount (planOf bytes h) ≡ h .blocks
+  pub block-is : (i : ℕ) → i < h .blocks → blockOf (planOf bytes h) i ≡ blockIn bytes i
+  pub length-is : length bytes ≡ recordAt (h .blocks)

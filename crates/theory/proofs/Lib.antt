@@ -6,3 +6,4 @@ pub mod Bits
 pub mod TwoMachines
 pub mod Domains
 pub mod Bounds
+pub mod Outcomes

@@ -1,0 +1,47 @@
+-- `replication::counts` meets its contract: a refused plan keeps its number, and an accepted one has its counts chosen.
+-- Assumes nothing.
+use borrow.Author.Needs.{needs}
+use mathlib.Core.Path.{_≡_, ap, sym, _∙_}
+use Rattle.theory.proofs.Outcomes.{counts-refused}
+use Rattle.plan.specs.Reading.{verdictOf}
+use Rattle.replication.specs.Choice.{outcomeOf}
+use Rattle.replication.proofs.counts.Statement.{statement}
+use Rattle.replication.proofs.counts.Tie as tie
+
+read-requires : tie.Need-read-requires
+read-requires c κs = search needs
+
+enum-known-reading : tie.Need-enum-known-reading
+enum-known-reading c = search needs
+
+enum-known-reading-2 : tie.Need-enum-known-reading-2
+enum-known-reading-2 c = search needs
+
+count-accepted-requires : tie.Need-count-accepted-requires
+unfolding verdictOf
+count-accepted-requires c κs =
+    sym (rw (c .before .before .reading2 .given .1) at (c .before .before .before .before .read .ensures))
+
+returns : tie.Need-returns
+unfolding outcomeOf verdictOf
+returns c =
+    let refuses = rw (c .before .reading .given .1) at (c .before .before .before .read .ensures) in
+    sym (counts-refused _ _ _ (sym refuses))
+
+same-length : tie.Need-same-length
+same-length c = search needs
+
+returns-2 : tie.Need-returns-2
+returns-2 c = search needs
+
+pub counts-spec : {M : Type 1} → statement M
+counts-spec =
+    tie.close
+    (tie.spec
+    read-requires
+    enum-known-reading
+    enum-known-reading-2
+    count-accepted-requires
+    returns
+    same-length
+    returns-2)
