@@ -5,14 +5,9 @@ use Prim.Native.Nat.{ℕ, suc, _<_, _≤_, _^_}
 use lib.ListN.{length, getD}
 use Rattle.order.specs.Table.{filled}
 use Rattle.model.specs.Plan.{Plan, blockCount, blockOf, upper, maxReplicas}
-use Rattle.model.specs.Refusal.{maxBlocks, judge, accepted}
-use Rattle.model.specs.Replication.{limit as limitOf, share, largestShare, need, figure, chosen}
-use Rattle.model.specs.Calls.{Outcome, turnedBack, answered}
+use Rattle.model.specs.Refusal.{maxBlocks}
+use Rattle.model.specs.Replication.{limit as limitOf, share, need, figure, chosen}
 use Rattle.theory.specs.Accepted.{Valid, ValidBlock}
-use Rattle.header.specs.declared.Header.{Header}
-use Rattle.plan.specs.Reading.{planOf}
-use Rattle.replication.specs.declared.CountsAnswer.{CountsAnswer}
-use Rattle.replication.specs.declared.CountsAnswer.the-variants.{Refused, Counted}
 
 -- One block's numbers, in their ranges.
 pub record NeedAsked (popularity from most wanted : ℕ) : Type 0 where
@@ -66,21 +61,3 @@ pub record FillAsked (popularities least : List ℕ) (most limit blocks wanted :
 pub record Laid (p : Plan) (counts₀ shares₀ counts shares : List ℕ) : Type 0 where
   pub counts-are : counts ≡ filled (blockCount p) (chosen p) counts₀
   pub shares-are : shares ≡ filled (blockCount p) (λ i. share (blockOf p i .popularity) (chosen p i)) shares₀
-
--- An accepted plan's bytes with its header, and room for its blocks.
-pub record PrepareAsked (bytes : List ℕ) (h : Header) (counts shares spreads : List ℕ) : Type 0 where
-  pub accepts : judge bytes ≡ accepted (planOf bytes h)
-  pub count-room : h .blocks ≤ length counts
-  pub share-room : h .blocks ≤ length shares
-  pub spread-room : h .blocks ≤ length spreads
-
--- Its chosen counts, their shares and its spreads in the first B items, and the largest share.
-pub record Prepared (p : Plan) (counts₀ shares₀ spreads₀ counts shares spreads : List ℕ) (r : ℕ) : Type 0 where
-  pub laid : Laid p counts₀ shares₀ counts shares
-  pub spreads-are : spreads ≡ filled (blockCount p) (λ i. blockOf p i .minRacks) spreads₀
-  pub largest-is : r ≡ largestShare p (chosen p)
-
--- The answer and the buffer at exit, as the model's outcome.
-unfoldable pub outcomeOf : CountsAnswer → List ℕ → Outcome ℕ
-outcomeOf (Refused code) items = record { answer = turnedBack code; items = items }
-outcomeOf (Counted top) items = record { answer = answered top; items = items }

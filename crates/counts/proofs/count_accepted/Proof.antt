@@ -1,4 +1,4 @@
--- `replication::count_accepted` meets its contract: too short a buffer is row 12, and otherwise the counts are laid down.
+-- `counts::count_accepted` meets its contract: too short a buffer is row 12, and otherwise the counts are laid down.
 -- Assumes nothing.
 use borrow.Author.Needs.{needs}
 use mathlib.Core.Path.{_≡_, ap, ap₂, sym, _∙_}
@@ -9,10 +9,10 @@ use lib.ListN.{length}
 use Rattle.model.specs.Calls.{Outcome, answered}
 use Rattle.theory.proofs.Outcomes.{counts-short, counts-made}
 use Rattle.plan.proofs.Laws.{accepted-header}
-use Rattle.replication.specs.Choice.{outcomeOf}
-use Rattle.replication.specs.declared.CountsAnswer.the-variants.{Counted}
-use Rattle.replication.proofs.count_accepted.Statement.{statement}
-use Rattle.replication.proofs.count_accepted.Tie as tie
+use Rattle.counts.specs.Entry.{outcomeOf}
+use Rattle.counts.specs.declared.CountsAnswer.the-variants.{Counted}
+use Rattle.counts.proofs.count_accepted.Statement.{statement}
+use Rattle.counts.proofs.count_accepted.Tie as tie
 
 returns : tie.Need-returns
 unfolding outcomeOf

@@ -1,4 +1,4 @@
--- `replication::prepare` meets its contract: the records taken apart are the plan's numbers, and its counts are chosen from them.
+-- `counts::prepare` meets its contract: the records taken apart are the plan's numbers, and its counts are chosen from them.
 -- Assumes nothing.
 use borrow.Author.Needs.{needs}
 use mathlib.Core.Path.{_≡_, ap, sym, _∙_}
@@ -8,9 +8,9 @@ use native.Mathlib.Omega.{arith}
 use denote.Ref.{now}
 use lib.ListN.{length}
 use Rattle.plan.proofs.Laws.{accepted-header}
-use Rattle.replication.proofs.Laws.{fields-of, ranges-of, spreads-of}
-use Rattle.replication.proofs.prepare.Statement.{statement}
-use Rattle.replication.proofs.prepare.Tie as tie
+use Rattle.counts.proofs.Laws.{fields-of, ranges-of, spreads-of}
+use Rattle.counts.proofs.prepare.Statement.{statement}
+use Rattle.counts.proofs.prepare.Tie as tie
 
 mul-machines : tie.Need-mul-machines
 mul-machines c =

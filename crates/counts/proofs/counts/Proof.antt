@@ -1,12 +1,12 @@
--- `replication::counts` meets its contract: a refused plan keeps its number, and an accepted one has its counts chosen.
+-- `counts::counts` meets its contract: a refused plan keeps its number, and an accepted one has its counts chosen.
 -- Assumes nothing.
 use borrow.Author.Needs.{needs}
 use mathlib.Core.Path.{_≡_, ap, sym, _∙_}
 use Rattle.theory.proofs.Outcomes.{counts-refused}
 use Rattle.plan.specs.Reading.{verdictOf}
-use Rattle.replication.specs.Choice.{outcomeOf}
-use Rattle.replication.proofs.counts.Statement.{statement}
-use Rattle.replication.proofs.counts.Tie as tie
+use Rattle.counts.specs.Entry.{outcomeOf}
+use Rattle.counts.proofs.counts.Statement.{statement}
+use Rattle.counts.proofs.counts.Tie as tie
 
 read-requires : tie.Need-read-requires
 read-requires c κs = search needs

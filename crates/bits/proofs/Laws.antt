@@ -1,0 +1,115 @@
+-- Laws of the bits of a word that the functions on words need: shifts, `&` and `!`, and bits counted or searched lowest first.
+-- Assumes nothing.
+use mathlib.Core.Path.{_≡_, refl, ap, ap₂, sym, _∙_}
+use mathlib.Core.Logic.{_⊎_, inl, inr}
+use Prim.Native.Nat.{ℕ, zero, suc, _+_, _*_, _-_, _/_, _%_, _^_, _<_, min}
+use native.Mathlib.Nat.{not-suc-le-zero, one-mul, zero-mul, mod-one, mod-eq-of-lt, mul-add-mod-self-right, two-pow-succ}
+use native.Mathlib.Numerals.{one-add}
+use native.Mathlib.Decide.{decLt}
+use native.Mathlib.Omega.{arith}
+use lib.Dec.{lit<}
+use lib.Arith.{lt-one}
+use lib.Pow.{pow-pos, shl-exact, shr-shr, mod-pow-add}
+use lib.Bits.{bitAnd, and-step, and-shr}
+use lib.Count.{ones, ones-step, trailingZeros, under}
+use Rattle.order.specs.Sum.{sum}
+use Rattle.order.proofs.Sums.{sum-zero, sum-suc, sum-cong}
+use Rattle.order.proofs.Groups.{sum-append}
+use Rattle.model.specs.Placement.{bit}
+use Rattle.theory.proofs.Bits.{bit-low, bit-high, bit-cases, bit-above-from}
+
+-- `1u64 << m`
+pub one-shl : (m : ℕ) → m < 64 → 1 * 2 ^ m % 2 ^ 64 ≡ 2 ^ m
+one-shl m h = shl-exact {a = 1} 1 m 64 (lit< tt) (omega arith) ∙ one-mul (2 ^ m)
+
+-- bits from a on are those of the word shifted down by a
+pub bit-from : (w a x : ℕ) → bit w (a + x) ≡ bit (w / 2 ^ a) x
+unfolding bit
+bit-from w a x = ap (λ (q : ℕ). q % 2) (sym (shr-shr w a x))
+
+-- the remainder at 2 ^ (s + 1): bit s above the remainder at 2 ^ s
+mod-top : (v s : ℕ) → v % 2 ^ suc s ≡ bit v s * 2 ^ s + v % 2 ^ s
+unfolding bit
+mod-top v s = ap (λ (k : ℕ). v % 2 ^ k) (sym (one-add s)) ∙ mod-pow-add v 1 s
+
+-- the lowest s bits hold a set one exactly if the word has a remainder there
+pub any-low : (s v : ℕ) → min 1 (sum s (bit v)) ≡ min 1 (v % 2 ^ s)
+any-low zero v = rw (sum-zero (bit v), mod-one v)
+any-low (suc s) v = rw (sum-suc s (bit v)) (go (bit-cases v s) (any-low s v))
+  where
+    go : (bit v s ≡ 0) ⊎ (bit v s ≡ 1) → min 1 (sum s (bit v)) ≡ min 1 (v % 2 ^ s)
+        → min 1 (sum s (bit v) + bit v s) ≡ min 1 (v % 2 ^ suc s)
+    go (inl e) later = rw (mod-top v s, e, zero-mul (2 ^ s)) (omega arith)
+    go (inr e) later = rw (mod-top v s, e, one-mul (2 ^ s)) (omega (arith, pow-pos s))
+
+pub any-from : (w a s : ℕ) → min 1 (sum s (λ x. bit w (a + x))) ≡ min 1 (w / 2 ^ a % 2 ^ s)
+any-from w a s = ap (min 1) (sum-cong s _ (bit (w / 2 ^ a)) (λ x h. bit-from w a x)) ∙ any-low s (w / 2 ^ a)
+
+-- the lowest term first
+sum-low : (n : ℕ) (f : ℕ → ℕ) → sum (suc n) f ≡ f 0 + sum n (λ k. f (suc k))
+sum-low n f =
+    ap (λ (k : ℕ). sum k f) (sym (one-add n)) ∙ sum-append 1 n f
+    ∙ ap₂ _+_ (sum-suc 0 f ∙ (rw (sum-zero f) (omega arith))) (sum-cong n _ _ (λ k h. ap f (one-add k)))
+
+-- `count_ones`
+pub ones-sum : (k w : ℕ) → w < 2 ^ k → ones w ≡ sum k (bit w)
+unfolding ones
+ones-sum zero w h = rw (lt-one h, sum-zero (bit 0))
+ones-sum (suc k) w h =
+    let p = two-pow-succ k in
+    ones-step w
+    ∙ ap₂ _+_ (sym (bit-low w)) (ones-sum k (w / 2) (omega arith) ∙ sum-cong k _ _ (λ j l. sym (bit-high w j)))
+    ∙ sym (sum-low k (bit w))
+
+-- `trailing_zeros`
+abbrev LowestBelow : ℕ → ℕ → ℕ → Type 0
+LowestBelow k w r = (r < k) × (bit w r ≡ 1) × ((j : ℕ) → j < r → bit w j ≡ 0)
+
+pub lowest-below : (k w : ℕ) → 0 < w → w < 2 ^ k → LowestBelow k w (trailingZeros k w)
+unfolding trailingZeros
+lowest-below zero w p h = absurd (omega arith)
+lowest-below (suc k) w p h =
+    let q = two-pow-succ k in
+    go (w % 2) refl (λ l. lowest-below k (w / 2) l (omega arith))
+  where
+    clear : (t : ℕ) → w % 2 ≡ 0 → ((j : ℕ) → j < t → bit (w / 2) j ≡ 0) → (j : ℕ) → j < suc t → bit w j ≡ 0
+    clear t e first zero l = bit-low w ∙ e
+    clear t e first (suc j) l = bit-high w j ∙ first j (omega arith)
+
+    go : (d : ℕ) → w % 2 ≡ d → (0 < w / 2 → LowestBelow k (w / 2) (trailingZeros k (w / 2)))
+        → LowestBelow (suc k) w (under d (trailingZeros k (w / 2)))
+    go zero e later =
+        let t = trailingZeros k (w / 2) in
+        let l = later (omega arith) in
+        (omega (arith, l .0), bit-high w t ∙ l .1, clear t e (l .2))
+    go (suc d) e later = (omega arith, bit-low w ∙ (omega arith), λ j l. absurd (not-suc-le-zero l))
+
+-- `a & b`
+pub bit-and : (a b k : ℕ) → bit (bitAnd a b) k ≡ min (bit a k) (bit b k)
+unfolding bit
+bit-and a b k =
+    let u = a / 2 ^ k in
+    let v = b / 2 ^ k in
+    ap (λ (x : ℕ). x % 2) (and-shr a b k ∙ and-step u v)
+    ∙ mul-add-mod-self-right (bitAnd (u / 2) (v / 2)) 2 (min (u % 2) (v % 2))
+    ∙ mod-eq-of-lt (omega arith)
+
+-- `!b`
+pub bit-not : (n b k : ℕ) → b < 2 ^ n → k < n → bit (2 ^ n - 1 - b) k ≡ 1 - bit b k
+bit-not zero b k h l = absurd (not-suc-le-zero l)
+bit-not (suc n) b zero h l =
+    let p = two-pow-succ n in
+    rw (bit-low (2 ^ suc n - 1 - b), bit-low b) (omega arith)
+bit-not (suc n) b (suc k) h l =
+    let p = two-pow-succ n in
+    let half : (2 ^ suc n - 1 - b) / 2 ≡ 2 ^ n - 1 - b / 2 = omega arith in
+    rw (bit-high (2 ^ suc n - 1 - b) k, bit-high b k, half) (bit-not n (b / 2) k (omega arith) (omega arith))
+
+-- `a & !b`: the bits of a that b lacks
+pub bit-and-not : (n a b : ℕ) → a < 2 ^ n → b < 2 ^ n → (k : ℕ) → bit (bitAnd a (2 ^ n - 1 - b)) k ≡ bit a k * (1 - bit b k)
+bit-and-not n a b h l k = bit-and a (2 ^ n - 1 - b) k ∙ go (bit-cases a k) (decLt k n)
+  where
+    go : (bit a k ≡ 0) ⊎ (bit a k ≡ 1) → Dec (k < n) → min (bit a k) (bit (2 ^ n - 1 - b) k) ≡ bit a k * (1 - bit b k)
+    go (inl off) m = rw (off, zero-mul (1 - bit b k)) (omega arith)
+    go (inr on) (yes m) = rw (bit-not n b k l m, on, one-mul (1 - bit b k)) (omega arith)
+    go (inr on) (no m) = let off = bit-above-from a n h k (omega arith) in absurd (omega arith)

@@ -1,0 +1,104 @@
+// Bits of a 64-bit word. Bit m of a placement's word says whether machine m holds the block.
+ghost use mathlib.Core.Path.{_≡_};
+ghost use Prim.Native.Nat.{ℕ, _+_, _*_, _-_, _<_, _≤_, _^_, min};
+ghost use lib.Dec.{ltb};
+ghost use Rattle.order.specs.Sum.{sum};
+ghost use Rattle.model.specs.Placement.{bit};
+ghost use Rattle.model.specs.Steps.{shifted};
+ghost use Rattle.bits.specs.Words.{Lowest};
+
+// Bit m of the word, 0 or 1.
+pub fn bit_at(word: u64, m: usize) -> u64
+    requires { ⌜ m < 64 ⌝ }
+    ensures { λ r. ⌜ r ≡ bit word m ⌝ }
+{
+    (word >> m) % 2
+}
+
+// The word with bit m set, which was clear.
+pub fn with_bit(word: u64, m: usize) -> u64
+    requires { ⌜ (m < 64) × (bit word m ≡ 0) ⌝ }
+    ensures { λ r. ⌜ r ≡ word + 2 ^ m ⌝ }
+{
+    word + (1u64 << m)
+}
+
+// The word with bit m clear, which was set.
+pub fn without_bit(word: u64, m: usize) -> u64
+    requires { ⌜ (m < 64) × (bit word m ≡ 1) ⌝ }
+    ensures { λ r. ⌜ r ≡ word - 2 ^ m ⌝ }
+{
+    word - (1u64 << m)
+}
+
+// The word with the bit at m, which is set, at n instead, which is clear.
+pub fn shift_bit(word: u64, m: usize, n: usize) -> u64
+    requires { ⌜ (m < 64) × (n < 64) × (bit word m ≡ 1) × (bit word n ≡ 0) ⌝ }
+    ensures { λ r. ⌜ r ≡ shifted word m n ⌝ }
+{
+    word + (1u64 << n) - (1u64 << m)
+}
+
+// The lowest set bit of a word that is not 0.
+pub fn lowest(word: u64) -> usize
+    requires { ⌜ 0 < word ⌝ }
+    ensures { λ r. ⌜ Lowest word r ⌝ }
+{
+    u64::trailing_zeros(word) as usize
+}
+
+// The bits of a that b lacks.
+pub fn and_not(a: u64, b: u64) -> u64
+    ensures { λ r. ⌜ ((k : ℕ) → bit r k ≡ bit a k * (1 - bit b k)) ⌝ }
+{
+    a & !b
+}
+
+// The number of set bits.
+pub fn count_set(word: u64) -> usize
+    ensures { λ r. ⌜ r ≡ sum 64 (bit word) ⌝ }
+{
+    u64::count_ones(word) as usize
+}
+
+// Whether every set bit is below `machines`.
+pub fn is_below(word: u64, machines: usize) -> bool
+    requires { ⌜ machines ≤ 64 ⌝ }
+    ensures { λ r. ⌜ r ≡ ltb word (2 ^ machines) ⌝ }
+{
+    if machines == 64 {
+        return true;
+    }
+    word < (1u64 << machines)
+}
+
+// 1 where a bit of the `size` from `from` on is set, else 0.
+pub fn any_of(word: u64, from: usize, size: usize) -> usize
+    requires { ⌜ (from + size ≤ 64) × (1 ≤ size) ⌝ }
+    ensures { λ r. ⌜ r ≡ min 1 (sum size (λ x. bit word (from + x))) ⌝ }
+{
+    if size == 64 {
+        if word == 0 {
+            return 0;
+        }
+        return 1;
+    }
+    if (word >> from) % (1u64 << size) == 0 {
+        return 0;
+    }
+    1
+}
+
+// How many of the `groups` ranges of `size` bits each have a bit set.
+pub fn groups_used(word: u64, groups: usize, size: usize) -> usize
+    requires { ⌜ (groups * size ≤ 64) × (1 ≤ size) ⌝ }
+    ensures { λ r. ⌜ r ≡ sum groups (λ d. min 1 (sum size (λ x. bit word (d * size + x)))) ⌝ }
+{
+    let mut used: usize = 0;
+    let mut d: usize = 0;
+    while d < groups {
+        used += any_of(word, d * size, size);
+        d += 1;
+    }
+    used
+}
