@@ -3,6 +3,16 @@ pub mod PlanExamples
 pub mod Shares
 pub mod Counts
 pub mod Bits
-pub mod TwoMachines
 pub mod Domains
+pub mod Positions
+pub mod FirstPlacement
+pub mod TotalLoad
+pub mod Exact
+pub mod Transfer
+pub mod Lawful
+pub mod LocalTests
+pub mod NextStep
+pub mod Potential
+pub mod Runs
+pub mod TwoMachines
 pub mod Bounds

@@ -1,13 +1,13 @@
 -- The small examples of rows 1 to 11 of document 01's table, and plan H, by computing the model's verdict.
 -- Assumes nothing.
 use mathlib.Core.Path.{_≡_, refl}
-use mathlib.Core.List.{List, [], _∷_, _++_}
+use mathlib.Core.List.{List, [], _∷_}
 use Prim.Native.Nat.{ℕ}
 use lib.ListN.{set, take}
 use Rattle.order.specs.Sum.{sum}
 use Rattle.order.specs.Table.{table}
 use Rattle.order.specs.Search.{firstUp}
-use Rattle.model.specs.Plan.{Plan, Block, upper, minTotal, field, blockIn, planIn}
+use Rattle.model.specs.Plan.{upper, minTotal, field, blockIn, planIn}
 use Rattle.model.specs.Refusal.{check1, check2, check3, check4, check5, check6, check7, check8, check9, blockRefusal, blocksRefusal, check10, check11, planRefusal, refusal, refused, accepted, judge}
 
 -- plan H
