@@ -15,7 +15,7 @@ use Rattle.order.proofs.Booleans.{or3-false, in-range}
 use Rattle.order.proofs.Tables.{length-table, getD-table}
 use Rattle.order.proofs.Searches.{none-below, first-all}
 use Rattle.model.specs.Plan.{Plan, noBlock, machines, domains, blockCount, blockOf, upper, minTotal, headerLength, recordAt, planIn, blockIn, markIn, versionIn, racksIn, rackSizeIn, capacityIn, blockCountIn}
-use Rattle.model.specs.Refusal.{refuseIf, orElse, isRefusal, mark, maxMachines, maxCapacity, maxBlocks, check1, check2, check3, check4, check5, check6, check7, check8, check9, blockRefusal, blocksRefusal, check10, check11, planRefusal, refusal, refused, accepted, verdict, judge}
+use Rattle.model.specs.Refusal.{refuseIf, orElse, isRefusal, mark, maxMachines, maxCapacity, maxBlocks, check1, check2, check3, check4, check5, check6, check7, check8, check9, blockRefusal, blocksRefusal, check10, check11, check12, planRefusal, refusal, refused, accepted, verdict, judge}
 use Rattle.theory.specs.Accepted.{ValidBlock, Shaped, Valid, AcceptedLaws}
 use Rattle.theory.specs.Exact.{PastRow9}
 
@@ -100,6 +100,10 @@ check10-zero budget total later e = let z = refuse-zero _ _ _ e in (ltb-false _ 
 pub check11-zero : (places total later : ℕ) → check11 places total later ≡ 0 → (total ≤ places) × (later ≡ 0)
 unfolding check11
 check11-zero places total later e = let z = refuse-zero _ _ _ e in (ltb-false _ _ (z .0), z .1)
+
+pub check12-zero : (lent count later : ℕ) → check12 lent count later ≡ 0 → (count ≤ lent) × (later ≡ 0)
+unfolding check12
+check12-zero lent count later e = let z = refuse-zero _ _ _ e in (ltb-false _ _ (z .0), z .1)
 
 -- The code that rows 10 and 11 give.
 abbrev pub totalRefusal : Plan → ℕ

@@ -16,3 +16,6 @@ pub mod Potential
 pub mod Runs
 pub mod TwoMachines
 pub mod Bounds
+pub mod Agreement
+pub mod Handed
+pub mod Claim

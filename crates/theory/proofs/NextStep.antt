@@ -8,7 +8,7 @@ use Prim.Native.Nat.{ℕ, _+_, _≤_, _<_}
 use native.Mathlib.Decide.{decLt}
 use native.Mathlib.Omega.{arith}
 use lib.ListN.{length, drop}
-use Rattle.order.proofs.Booleans.{no-contradiction, cond-all}
+use Rattle.order.proofs.Booleans.{no-contradiction, not-so, cond-all}
 use Rattle.order.proofs.Searches.{first-none, none-below, first-all}
 use Rattle.model.specs.Plan.{Plan, machines, blockCount}
 use Rattle.model.specs.Placement.{Feasible, shareOf, load}
@@ -195,6 +195,7 @@ module _ (p : Plan) (words : List ℕ) where
           )))
 
 module _ (p : Plan) (count : ℕ → ℕ) (words : List ℕ) (feasible : Feasible p count words) where
+  -- a feasible placement is at rest exactly if it is settled with no slack
   pub rest-settled : AtRest p words → Settled p words 0
   rest-settled rest =
       record {
@@ -224,6 +225,21 @@ module _ (p : Plan) (count : ℕ → ℕ) (words : List ℕ) (feasible : Feasibl
 
       no-gap : (a b : ℕ) → (b < a → ⊥) → a ≤ b + 0
       no-gap a b h = elim (decLt b a) [ yes l ↦ absurd (h l) | no l ↦ omega arith ]
+
+  pub settled-rest : Settled p words 0 → AtRest p words
+  settled-rest settled =
+      rest-none p words .1
+      (record {
+        no-move = λ m n i ml nl il. not-so (canMove p words m n i) (λ t.
+            let s = move-local p count words feasible m n i ml nl il .0 t in
+            omega (arith, settled .no-move m n i ml nl il (s .on) (s .off) (s .room) (s .positive) (s .spread)));
+        no-swap = λ m n i j ml nl il jl. not-so (canSwap p words m n i j) (λ t.
+            let s = swap-local p count words feasible m n i j ml nl il jl .0 t in
+            omega (
+              arith,
+              settled .no-swap m n i j ml nl il jl (s .i-on) (s .i-off) (s .j-on) (s .j-off) (s .gain) (s .i-spread) (s .j-spread),
+            ));
+      })
 
   -- a step that passes its test keeps the placement feasible, at its counts
   pub passes-keeps : (s : Step) → Passes p words s → Feasible p count (after words s)

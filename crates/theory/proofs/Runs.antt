@@ -49,6 +49,15 @@ pub taken-past : (p : Plan) {words later : List ℕ} {n : ℕ} → Taken p words
 taken-past p none-taken = refl
 taken-past p (one-more {words} e more) = taken-past p more ∙ after-past p words (nextStep p words) (next-passes p words)
 
+-- a next step is one that is taken, or there is none
+pub next-taken : (p : Plan) (words : List ℕ) → (n : ℕ) × Taken p words n (after words (nextStep p words))
+unfolding after
+next-taken p words = go (bool-cases (isStep (nextStep p words)))
+  where
+    go : (isStep (nextStep p words) ≡ true) ⊎ (isStep (nextStep p words) ≡ false) → (n : ℕ) × Taken p words n (after words (nextStep p words))
+    go (inl e) = (1, one-more e none-taken)
+    go (inr e) = (0, rw (not-step (nextStep p words) e) none-taken)
+
 module _ (p : Plan) (count : ℕ → ℕ) where
   pub taken-keeps : {words later : List ℕ} {n : ℕ} → Taken p words n later → Feasible p count words → Feasible p count later
   taken-keeps none-taken f = f
