@@ -19,3 +19,4 @@ pub mod Bounds
 pub mod Agreement
 pub mod Handed
 pub mod Claim
+pub mod Ties
