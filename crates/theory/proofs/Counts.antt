@@ -11,7 +11,7 @@ use native.Mathlib.Omega.{arith}
 use borrow.Author.Tests.{leb-true, le-leb}
 use lib.Dec.{leb}
 use Rattle.order.specs.Sum.{sum}
-use Rattle.order.proofs.Booleans.{no-contradiction, and-iff, leb-iff}
+use Rattle.order.proofs.Booleans.{no-contradiction, not-so, and-iff, leb-iff}
 use Rattle.order.proofs.Sums.{sum-mono}
 use Rattle.order.proofs.Extremes.{least-le, least-passes, least-first, allb-iff, largest-term, largest-le}
 use Rattle.model.specs.Plan.{Plan, blockCount, blockOf, upper, minTotal}
@@ -152,6 +152,12 @@ module _ (p : Plan) (v : Valid p) where
         | yes l ↦ no-contradiction (sym figure-reachable ∙ below (figure p) l)
         | no l ↦ omega arith
       ]
+
+  -- so it is reachable, and the number before it is not
+  pub figure-at : (f : ℕ) → reachable p (suc f) ≡ true → reachable p f ≡ false → figure p ≡ suc f
+  figure-at f here before =
+      figure-by-bisection (suc f) here
+      (λ g l. not-so (reachable p g) (λ t. no-contradiction (sym (reachable-mono g f (omega arith) t) ∙ before)))
 
   -- no lawful counts have a largest share below the figure
   pub figure-optimal : (count : ℕ → ℕ) → FeasibleCounts p count → figure p ≤ largestShare p count

@@ -20,3 +20,4 @@ pub mod Agreement
 pub mod Handed
 pub mod Claim
 pub mod Ties
+pub mod Trials

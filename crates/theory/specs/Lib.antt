@@ -4,3 +4,4 @@ pub mod Exact
 pub mod Counts
 pub mod Local
 pub mod Bounds
+pub mod Trials
