@@ -14,7 +14,7 @@ use lib.Bits.{bitAnd, and-step, and-shr}
 use lib.Count.{ones, ones-step, trailingZeros, under}
 use Rattle.order.specs.Sum.{sum}
 use Rattle.order.proofs.Sums.{sum-zero, sum-suc, sum-cong}
-use Rattle.order.proofs.Groups.{sum-append}
+use Rattle.order.proofs.Ranges.{sum-append}
 use Rattle.model.specs.Placement.{bit}
 use Rattle.theory.proofs.Bits.{bit-low, bit-high, bit-cases, bit-above-from}
 

@@ -1,13 +1,13 @@
--- What a test that came out false, or true, says of its parts.
+-- What a test that came out false, or true, says of its parts, and tests as statements.
 -- Assumes nothing.
 use mathlib.Core.Path.{_≡_, refl}
-use mathlib.Core.Bool.{Bool, true, false, not, _||_, _&&_}
-use mathlib.Core.Logic.{_⊎_, inl, inr}
+use mathlib.Core.Bool.{Bool, true, false, cond, _||_, _&&_, and-eq-true-iff}
+use mathlib.Core.Logic.{_⊎_, inl, inr, _↔_}
 use native.Mathlib.Omega.{arith}
-use Prim.Native.Nat.{ℕ, _≤_}
+use Prim.Native.Nat.{ℕ, _≤_, _<_}
 use native.Mathlib.Nat.{pos-of-ne-zero}
-use borrow.Author.Tests.{ltb-false, eqb-false}
-use lib.Dec.{ltb, eqb}
+use borrow.Author.Tests.{ltb-true, ltb-false, lt-ltb, leb-true, le-leb, eqb-true, eqb-false, eq-eqb}
+use lib.Dec.{ltb, leb, eqb}
 
 pub no-contradiction {ℓ} : {A : Type ℓ} → true ≡ false → A
 no-contradiction e = absurd (let z : _≡_ {A = ℕ} 0 1 = cc in omega arith)
@@ -29,3 +29,28 @@ in-range n limit e =
 pub bool-cases : (b : Bool) → (b ≡ true) ⊎ (b ≡ false)
 bool-cases true = inl refl
 bool-cases false = inr refl
+
+pub not-so : (t : Bool) → (t ≡ true → ⊥) → t ≡ false
+not-so true h = absurd (h refl)
+not-so false h = refl
+
+-- the tests as statements
+pub and-iff {ℓ κ} : {P : Type ℓ} {Q : Type κ} (a b : Bool) → (a ≡ true) ↔ P → (b ≡ true) ↔ Q → ((a && b) ≡ true) ↔ (P × Q)
+and-iff a b p q = (
+  λ e. let z = and-eq-true-iff a b .0 e in (p .0 (z .0), q .0 (z .1)),
+  λ h. and-eq-true-iff a b .1 (p .1 (h .0), q .1 (h .1)),
+)
+
+pub leb-iff : (a b : ℕ) → (leb a b ≡ true) ↔ (a ≤ b)
+leb-iff a b = (leb-true a b, le-leb a b)
+
+pub ltb-iff : (a b : ℕ) → (ltb a b ≡ true) ↔ (a < b)
+ltb-iff a b = (ltb-true a b, lt-ltb a b)
+
+pub eqb-iff : (a b : ℕ) → (eqb a b ≡ true) ↔ (a ≡ b)
+eqb-iff a b = (eqb-true a b, eq-eqb a b)
+
+-- what holds of both choices holds of the one taken
+pub cond-all {ℓ κ} : {A : Type ℓ} (P : A → Type κ) (t : Bool) (a b : A) → (t ≡ true → P a) → P b → P (cond t a b)
+cond-all P true a b ha hb = ha refl
+cond-all P false a b ha hb = hb

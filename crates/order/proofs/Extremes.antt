@@ -1,17 +1,19 @@
 -- Laws of the least number that passes a test, of a test of every number, and of the largest and the smallest of a range.
 -- Assumes nothing.
-use mathlib.Core.Path.{_≡_, refl, ap₂, sym, _∙_}
+use mathlib.Core.Path.{_≡_, refl, ap, ap₂, sym, _∙_}
 use mathlib.Core.Bool.{Bool, true, false, cond, _&&_, and-eq-true-iff}
-use mathlib.Core.Logic.{_⊎_, inl, inr}
-use Prim.Native.Nat.{ℕ, zero, suc, _+_, _≤_, _<_, min, max}
-use native.Mathlib.Nat.{eq-or-lt-of-le, le-of-suc-le-suc, not-suc-le-zero, le-refl, le-antisymm, max-le, le-max-right, min-le-right, max-eq-right, min-eq-left}
+use mathlib.Core.Logic.{_⊎_, inl, inr, _↔_}
+use Prim.Native.Nat.{ℕ, zero, suc, _+_, _*_, _-_, _≤_, _<_, min, max}
+use native.Mathlib.Nat.{eq-or-lt-of-le, le-of-suc-le-suc, not-suc-le-zero, le-refl, le-antisymm, max-le, le-max-right, min-le-right, max-eq-right, min-eq-left, zero-mul, suc-mul}
 use native.Mathlib.Numerals.{add-one}
-use native.Mathlib.Decide.{decLt, decLe}
+use native.Mathlib.Decide.{decLt, decLe, ℕ-discrete}
 use native.Mathlib.Omega.{arith}
 use borrow.Author.Tests.{lt-ltb, le-ltb}
 use lib.Dec.{ltb}
+use Rattle.order.specs.Sum.{sum, delta}
 use Rattle.order.specs.Search.{least, allb, largest, smallest}
 use Rattle.order.proofs.Booleans.{no-contradiction, bool-cases}
+use Rattle.order.proofs.Sums.{sum-mono, sum-const, sum-balance-le, sum-delta, delta-same, delta-other}
 
 -- a law of every number below n + 1 is one of n and one of those below n
 pub below-suc {ℓ} : (n : ℕ) (P : ℕ → Type ℓ) → P n → ((i : ℕ) → i < n → P i) → (i : ℕ) → i < suc n → P i
@@ -110,6 +112,11 @@ unfolding allb
 allb-intro zero test h = refl
 allb-intro (suc n) test h = rw (h n (le-refl (suc n))) (allb-intro n test (λ i l. h i (omega arith)))
 
+pub allb-iff {ℓ} : (n : ℕ) (test : ℕ → Bool) (P : ℕ → Type ℓ) → ((i : ℕ) → (test i ≡ true) ↔ P i)
+    → (allb n test ≡ true) ↔ ((i : ℕ) → i < n → P i)
+allb-iff n test P each =
+    (λ e i l. each i .0 (allb-at n test e i l), λ h. allb-intro n test (λ i l. each i .1 (h i l)))
+
 pub allb-false : (n : ℕ) (test : ℕ → Bool) (i : ℕ) → i < n → test i ≡ false → allb n test ≡ false
 allb-false n test i l e =
     elim (bool-cases (allb n test)) [
@@ -166,6 +173,30 @@ pub largest-cong : (n : ℕ) (f g : ℕ → ℕ) → ((i : ℕ) → i < n → f 
 unfolding largest
 largest-cong zero f g e = refl
 largest-cong (suc n) f g e = ap₂ max (largest-cong n f g (λ i l. e i (omega arith))) (e n (le-refl (suc n)))
+
+-- a sum is at most its number of terms times the largest
+pub sum-largest : (n : ℕ) (f : ℕ → ℕ) → sum n f ≤ n * largest n f
+sum-largest n f = omega (arith, sum-mono n f (λ i. largest n f) (largest-term n f), sum-const n (largest n f))
+
+-- where every two terms are within c of one another, each of the n - 1 others is within c of the largest
+pub largest-near : (n : ℕ) (f : ℕ → ℕ) (c : ℕ) → ((i j : ℕ) → i < n → j < n → f i ≤ f j + c)
+    → n * largest n f ≤ sum n f + (n - 1) * c
+largest-near zero f c near = omega (arith, zero-mul (largest 0 f))
+largest-near (suc n) f c near = go (largest-at (suc n) f (omega arith))
+  where
+    term : (i j : ℕ) → i < suc n → j < suc n → Dec (j ≡ i) → f i + delta j i * c ≤ f j + c
+    term i j l m (yes e) = rw (delta-same j i e, e) (omega arith)
+    term i j l m (no d) = rw (delta-other j i d) (omega (arith, near i j l m))
+
+    go : (i : ℕ) × (i < suc n) × (largest (suc n) f ≡ f i) → suc n * largest (suc n) f ≤ sum (suc n) f + (suc n - 1) * c
+    go (i, l, e) =
+        let sums =
+        sum-balance-le (suc n) (λ j. f i) (λ j. delta j i * c) f (λ j. c)
+        (λ j m. term i j l m (ℕ-discrete j i))
+        in
+        let others : (suc n - 1) * c ≡ n * c = ap (λ (x : ℕ). x * c) (let z : suc n - 1 ≡ n = omega arith in z) in
+        rw e
+        (omega (arith, sum-const (suc n) (f i), sum-const (suc n) c, sum-delta (suc n) i (λ j. c) l, suc-mul n c))
 
 -- the step of a loop that counts
 pub smallest-step : (n : ℕ) (f : ℕ → ℕ) → smallest (n + 1) f ≡ min (smallest n f) (f n)

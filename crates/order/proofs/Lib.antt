@@ -1,9 +1,10 @@
 -- The laws of the definitions of specs/.
 pub mod Booleans
+pub mod Arithmetic
 pub mod Sums
+pub mod SumChanges
+pub mod Ranges
+pub mod Residues
 pub mod Tables
 pub mod Searches
 pub mod Extremes
-pub mod Balances
-pub mod Groups
-pub mod Maxima

@@ -1,14 +1,13 @@
 -- Laws of the first-index search.
 -- Assumes nothing.
-use mathlib.Core.Path.{_≡_, refl, ap, sym, _∙_, subst}
+use mathlib.Core.Path.{_≡_, refl, sym, _∙_}
 use mathlib.Core.Bool.{Bool, true, false, cond}
 use mathlib.Core.Logic.{_⊎_, inl, inr}
-use Prim.Native.Nat.{ℕ, zero, suc, _+_, _≤_, _<_}
+use Prim.Native.Nat.{ℕ, zero, suc, _<_}
 use native.Mathlib.Nat.{eq-or-lt-of-le, le-of-suc-le-suc, not-suc-le-zero, le-refl}
-use native.Mathlib.Numerals.{add-one}
 use native.Mathlib.Omega.{arith}
 use Rattle.order.specs.Search.{firstUp}
-use Rattle.order.proofs.Booleans.{no-contradiction, bool-cases}
+use Rattle.order.proofs.Booleans.{no-contradiction, bool-cases, cond-all}
 
 module _ {ℓ} {A : Type ℓ} (found : A → Bool) (none : A) (nothing : found none ≡ false) (f : ℕ → A) where
   -- nothing is found where no answer is accepted
@@ -63,3 +62,13 @@ module _ {ℓ} {A : Type ℓ} (found : A → Bool) (none : A) (nothing : found n
       go (inr b) (inl d) below place = no-contradiction (sym d ∙ (rw (b, d) at e))
       go (inr b) (inr d) below (inl same) = rw same d
       go (inr b) (inr d) below (inr m) = below b m
+
+-- what holds of every answer and of `none` holds of what is found
+pub first-all {ℓ κ} : {A : Type ℓ} (P : A → Type κ) (found : A → Bool) (none : A) (f : ℕ → A) (n : ℕ) → P none
+    → ((i : ℕ) → i < n → P (f i)) → P (firstUp found none f n)
+unfolding firstUp
+first-all P found none f zero nothing each = nothing
+first-all P found none f (suc n) nothing each =
+    let before = first-all P found none f n nothing (λ i l. each i (omega arith)) in
+    let here = cond-all P (found (f n)) (f n) none (λ e. each n (le-refl (suc n))) nothing in
+    cond-all P (found (firstUp found none f n)) (firstUp found none f n) (cond (found (f n)) (f n) none) (λ e. before) here

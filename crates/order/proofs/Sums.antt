@@ -3,7 +3,7 @@
 use mathlib.Core.Path.{_≡_, refl, ap, ap₂, sym, _∙_}
 use mathlib.Core.Logic.{_⊎_, inl, inr}
 use Prim.Native.Nat.{ℕ, zero, suc, _+_, _*_, _≤_, _<_}
-use native.Mathlib.Nat.{le-refl, le-antisymm, mul-add, mul-zero, add-le-add, not-suc-le-zero, le-of-suc-le-suc, eq-or-lt-of-le, suc-mul, zero-mul}
+use native.Mathlib.Nat.{le-refl, le-antisymm, mul-add, mul-zero, mul-one, mul-comm, add-le-add, not-suc-le-zero, le-of-suc-le-suc, eq-or-lt-of-le, suc-mul, zero-mul}
 use native.Mathlib.Numerals.{add-one}
 use native.Mathlib.Decide.{ℕ-discrete, decLt}
 use native.Mathlib.Omega.{arith}
@@ -53,6 +53,26 @@ unfolding sum
 sum-mul zero c f = sym (mul-zero c)
 sum-mul (suc n) c f = ap (λ (x : ℕ). x + c * f n) (sum-mul n c f) ∙ sym (mul-add c (sum n f) (f n))
 
+-- a constant factor on the right
+pub sum-scale : (n c : ℕ) (f : ℕ → ℕ) → sum n (λ i. f i * c) ≡ c * sum n f
+sum-scale n c f = sum-cong n (λ i. f i * c) (λ i. c * f i) (λ i l. mul-comm (f i) c) ∙ sum-mul n c f
+
+pub sum-ones : (n : ℕ) → sum n (λ i. 1) ≡ n
+sum-ones n = sum-const n 1 ∙ mul-one n
+
+-- what holds of the terms holds of the sums
+pub sum-balance : (n : ℕ) (f g h k : ℕ → ℕ) → ((i : ℕ) → i < n → f i + g i ≡ h i + k i) → sum n f + sum n g ≡ sum n h + sum n k
+sum-balance n f g h k e = sym (sum-add n f g) ∙ sum-cong n (λ i. f i + g i) (λ i. h i + k i) e ∙ sum-add n h k
+
+pub sum-balance-le : (n : ℕ) (f g h k : ℕ → ℕ) → ((i : ℕ) → i < n → f i + g i ≤ h i + k i) → sum n f + sum n g ≤ sum n h + sum n k
+sum-balance-le n f g h k e =
+    omega (arith, sum-mono n (λ i. f i + g i) (λ i. h i + k i) e, sum-add n f g, sum-add n h k)
+
+-- and strictly, where there is a term
+pub sum-strict : (n : ℕ) (f g : ℕ → ℕ) → 0 < n → ((i : ℕ) → i < n → f i < g i) → sum n f < sum n g
+sum-strict n f g pos h =
+    omega (arith, sum-balance-le n f (λ i. 1) g (λ i. 0) (λ i l. omega (arith, h i l)), sum-ones n, sum-none n)
+
 -- the order of two sums may be exchanged
 pub sum-exchange : (n m : ℕ) (f : ℕ → ℕ → ℕ) → sum n (λ i. sum m (λ j. f i j)) ≡ sum m (λ j. sum n (λ i. f i j))
 unfolding sum
@@ -101,6 +121,17 @@ pub delta-other : (a b : ℕ) → (a ≡ b → ⊥) → delta a b ≡ 0
 unfolding delta
 delta-other a b h = rw (ne-eqb a b h)
 
+-- delta depends only on whether its two numbers are equal
+pub delta-iff : (a b c d : ℕ) → (a ≡ b → c ≡ d) → (c ≡ d → a ≡ b) → delta a b ≡ delta c d
+delta-iff a b c d to from =
+    elim (ℕ-discrete a b) [
+      | yes e ↦ delta-same a b e ∙ sym (delta-same c d (to e))
+      | no h ↦ delta-other a b h ∙ sym (delta-other c d (λ e. h (from e)))
+    ]
+
+pub delta-sym : (a b : ℕ) → delta a b ≡ delta b a
+delta-sym a b = delta-iff a b b a sym sym
+
 -- a sum with one term picked out by delta
 pub sum-delta : (n a : ℕ) (f : ℕ → ℕ) → a < n → sum n (λ i. delta i a * f i) ≡ f a
 unfolding sum
@@ -122,3 +153,9 @@ sum-delta (suc n) a f l = go (eq-or-lt-of-le (le-of-suc-le-suc l)) (λ m. sum-de
         let b = below m in
         let d = delta-other n a (λ e. omega arith) in
         rw (b, d, zero-mul (f n)) (omega arith)
+
+-- the deltas of one number add up to 1
+pub sum-point : (n a : ℕ) → a < n → sum n (delta a) ≡ 1
+sum-point n a l =
+    sum-cong n (delta a) (λ i. delta i a * 1) (λ i h. delta-sym a i ∙ sym (mul-one (delta i a)))
+    ∙ sum-delta n a (λ i. 1) l

@@ -1,22 +1,23 @@
--- A plan that passes the checks has the ranges that they test.
+-- A plan that passes the checks has the ranges that they test. The rows are gone through once, for a code that is not one of
+-- rows 1 to 9: then the plan has the shape that rows 4 to 9 test, and rows 10 and 11 give its code.
 -- Assumes nothing.
-use mathlib.Core.Path.{_≡_, refl, ap, sym, _∙_, subst}
+use mathlib.Core.Path.{_≡_, refl, ap, sym, _∙_}
 use mathlib.Core.Bool.{Bool, true, false, not, _||_}
 use mathlib.Core.List.{List}
-use mathlib.Core.Logic.{_⊎_, inl, inr}
-use Prim.Native.Nat.{ℕ, zero, suc, _+_, _*_, _<_, _≤_}
+use mathlib.Core.Logic.{inr, ⊎-elim}
+use Prim.Native.Nat.{ℕ, zero, suc, _*_, _<_, _≤_}
 use native.Mathlib.Nat.{pos-of-ne-zero}
 use native.Mathlib.Omega.{arith}
 use borrow.Author.Tests.{ltb-false, eqb-true, eqb-false, not-false}
-use lib.Dec.{ltb, eqb}
+use lib.Dec.{ltb, eqb, lit<, lit≤}
 use lib.ListN.{length}
-use Rattle.order.specs.Search.{firstUp}
 use Rattle.order.proofs.Booleans.{or3-false, in-range}
 use Rattle.order.proofs.Tables.{length-table, getD-table}
-use Rattle.order.proofs.Searches.{none-below}
-use Rattle.model.specs.Plan.{Plan, Block, noBlock, machines, domains, blockCount, blockOf, upper, minTotal, headerLength, recordAt, planIn, blockIn, markIn, versionIn, racksIn, rackSizeIn, capacityIn, budgetIn, blockCountIn}
-use Rattle.model.specs.Refusal.{refuseIf, orElse, isRefusal, mark, maxMachines, maxCapacity, maxBlocks, check1, check2, check3, check4, check5, check6, check7, check8, check9, blockRefusal, blocksRefusal, check10, check11, planRefusal, refusal, Verdict, refused, accepted, verdict, judge}
-use Rattle.theory.specs.Accepted.{ValidBlock, Shaped, Valid, Accepted, AcceptedLaws}
+use Rattle.order.proofs.Searches.{none-below, first-all}
+use Rattle.model.specs.Plan.{Plan, noBlock, machines, domains, blockCount, blockOf, upper, minTotal, headerLength, recordAt, planIn, blockIn, markIn, versionIn, racksIn, rackSizeIn, capacityIn, blockCountIn}
+use Rattle.model.specs.Refusal.{refuseIf, orElse, isRefusal, mark, maxMachines, maxCapacity, maxBlocks, check1, check2, check3, check4, check5, check6, check7, check8, check9, blockRefusal, blocksRefusal, check10, check11, check12, planRefusal, refusal, refused, accepted, verdict, judge}
+use Rattle.theory.specs.Accepted.{ValidBlock, Shaped, Valid, AcceptedLaws}
+use Rattle.theory.specs.Exact.{PastRow9}
 
 -- A check that gives 0 has a false condition, and so have the later ones.
 pub refuse-zero : (t : Bool) (code later : ℕ) → refuseIf t (suc code) later ≡ 0 → (t ≡ false) × (later ≡ 0)
@@ -30,18 +31,6 @@ orElse-zero (suc code) later e = absurd (omega arith)
 pub orElse-some : (code later : ℕ) → (code ≡ 0 → ⊥) → orElse code later ≡ code
 orElse-some zero later h = absurd (h refl)
 orElse-some (suc code) later h = refl
-
-pub check1-zero : (size later : ℕ) → check1 size later ≡ 0 → (headerLength ≤ size) × (later ≡ 0)
-unfolding check1
-check1-zero size later e = let z = refuse-zero _ _ _ e in (ltb-false _ _ (z .0), z .1)
-
-pub check2-zero : (found later : ℕ) → check2 found later ≡ 0 → (found ≡ mark) × (later ≡ 0)
-unfolding check2
-check2-zero found later e = let z = refuse-zero _ _ _ e in (eqb-true _ _ (not-false _ (z .0)), z .1)
-
-pub check3-zero : (version later : ℕ) → check3 version later ≡ 0 → (version ≡ 1) × (later ≡ 0)
-unfolding check3
-check3-zero version later e = let z = refuse-zero _ _ _ e in (eqb-true _ _ (not-false _ (z .0)), z .1)
 
 pub check4-zero : (racks rackSize later : ℕ) → check4 racks rackSize later ≡ 0
     → (1 ≤ racks) × (1 ≤ rackSize) × (racks * rackSize ≤ maxMachines) × (later ≡ 0)
@@ -112,43 +101,96 @@ pub check11-zero : (places total later : ℕ) → check11 places total later ≡
 unfolding check11
 check11-zero places total later e = let z = refuse-zero _ _ _ e in (ltb-false _ _ (z .0), z .1)
 
--- what the header's checks leave
-header-zero : (bytes : List ℕ) → refusal bytes ≡ 0
+pub check12-zero : (lent count later : ℕ) → check12 lent count later ≡ 0 → (count ≤ lent) × (later ≡ 0)
+unfolding check12
+check12-zero lent count later e = let z = refuse-zero _ _ _ e in (ltb-false _ _ (z .0), z .1)
+
+-- The code that rows 10 and 11 give.
+abbrev pub totalRefusal : Plan → ℕ
+totalRefusal p = check10 (p .budget) (minTotal p) (check11 (machines p * p .capacity) (minTotal p) 0)
+
+module _ (code : ℕ) (past : PastRow9 code) where
+  not-row : (row : ℕ) → row < 9 → suc row ≡ code → ⊥
+  not-row row l e = ⊎-elim (λ (g : 9 < code). omega arith) (λ (z : code ≡ 0). omega arith) past
+
+  -- a check of rows 1 to 9 that gives such a code has a false condition, and the code is the later rows'
+  refuse-past : (t : Bool) (row later : ℕ) → refuseIf t (suc row) later ≡ code → row < 9
+      → (refuseIf t (suc row) 0 ≡ 0) × (later ≡ code)
+  refuse-past true row later e l = absurd (not-row row l e)
+  refuse-past false row later e l = (refl, e)
+
+  orElse-past : (found later : ℕ) → found ≤ 9 → orElse found later ≡ code → (found ≡ 0) × (later ≡ code)
+  orElse-past zero later l e = (refl, e)
+  orElse-past (suc row) later l e = absurd (not-row row l e)
+
+refuse-le : (t : Bool) (code later n : ℕ) → code ≤ n → later ≤ n → refuseIf t code later ≤ n
+refuse-le true code later n c l = c
+refuse-le false code later n c l = l
+
+-- rows 8 and 9 give no code above 9
+block-code : (p : Plan) (i : ℕ) → blockRefusal p i ≤ 9
+unfolding blockRefusal check8 check9
+block-code p i =
+    let b = blockOf p i in
+    refuse-le (eqb (b .minReplicas) 0 || ltb (upper p i) (b .minReplicas)) 8 _ 9 (lit≤ tt)
+    (refuse-le (eqb (b .minRacks) 0 || ltb (b .minReplicas) (b .minRacks) || ltb (domains p) (b .minRacks)) 9 0 9 (lit≤ tt) (lit≤ tt))
+
+blocks-code : (p : Plan) → blocksRefusal p ≤ 9
+unfolding blocksRefusal
+blocks-code p = first-all (λ code. code ≤ 9) isRefusal 0 (blockRefusal p) (blockCount p) (lit≤ tt) (λ i l. block-code p i)
+
+-- what rows 1 to 9 leave
+rows-past : (code : ℕ) → PastRow9 code → (bytes : List ℕ) → refusal bytes ≡ code
     → (1 ≤ racksIn bytes) × (1 ≤ rackSizeIn bytes) × (racksIn bytes * rackSizeIn bytes ≤ maxMachines)
     × (1 ≤ capacityIn bytes) × (capacityIn bytes ≤ maxCapacity) × (blockCountIn bytes ≤ maxBlocks)
-    × (length bytes ≡ recordAt (blockCountIn bytes)) × (planRefusal (planIn bytes) ≡ 0)
-unfolding refusal
-header-zero bytes e =
-    let z1 = check1-zero _ _ e in
-    let z2 = check2-zero _ _ (z1 .1) in
-    let z3 = check3-zero _ _ (z2 .1) in
-    let z4 = check4-zero _ _ _ (z3 .1) in
-    let z5 = check5-zero _ _ (z4 .3) in
-    let z6 = check6-zero _ _ (z5 .2) in
-    let z7 = check7-zero _ _ _ (z6 .1) in
-    (z4 .0, z4 .1, z4 .2, z5 .0, z5 .1, z6 .0, z7 .0, z7 .1)
+    × (length bytes ≡ recordAt (blockCountIn bytes)) × (blocksRefusal (planIn bytes) ≡ 0) × (totalRefusal (planIn bytes) ≡ code)
+unfolding refusal check1 check2 check3 check4 check5 check6 check7 planRefusal
+rows-past code past bytes e =
+    let r = racksIn bytes in
+    let s = rackSizeIn bytes in
+    let c = capacityIn bytes in
+    let b = blockCountIn bytes in
+    let z1 = refuse-past code past (ltb (length bytes) headerLength) 0 _ e (lit< tt) in
+    let z2 = refuse-past code past (not (eqb (markIn bytes) mark)) 1 _ (z1 .1) (lit< tt) in
+    let z3 = refuse-past code past (not (eqb (versionIn bytes) 1)) 2 _ (z2 .1) (lit< tt) in
+    let z4 = refuse-past code past (eqb r 0 || eqb s 0 || ltb maxMachines (r * s)) 3 _ (z3 .1) (lit< tt) in
+    let z5 = refuse-past code past (eqb c 0 || ltb maxCapacity c) 4 _ (z4 .1) (lit< tt) in
+    let z6 = refuse-past code past (ltb maxBlocks b) 5 _ (z5 .1) (lit< tt) in
+    let z7 = refuse-past code past (not (eqb (length bytes) (recordAt b))) 6 _ (z6 .1) (lit< tt) in
+    let blocks = orElse-past code past (blocksRefusal (planIn bytes)) _ (blocks-code (planIn bytes)) (z7 .1) in
+    let h4 = check4-zero r s 0 (z4 .0) in
+    let h5 = check5-zero c 0 (z5 .0) in
+    let h6 = check6-zero b 0 (z6 .0) in
+    let h7 = check7-zero (length bytes) b 0 (z7 .0) in
+    (h4 .0, h4 .1, h4 .2, h5 .0, h5 .1, h6 .0, h7 .0, blocks .0, blocks .1)
 
+module _ (bytes : List ℕ) (past : PastRow9 (refusal bytes)) where
+  pub shaped-past : Shaped (planIn bytes)
+  unfolding planIn
+  shaped-past =
+      let z = rows-past (refusal bytes) past bytes refl in
+      record {
+        racks-pos = z .0;
+        size-pos = z .1;
+        machines-max = z .2;
+        capacity-pos = z .3;
+        capacity-max = z .4;
+        blocks-max = rw (length-table (blockCountIn bytes) (blockIn bytes)) (z .5);
+        block = blocks-zero (planIn bytes) (z .7);
+      }
+
+  pub length-past : length bytes ≡ recordAt (blockCountIn bytes)
+  length-past = rows-past (refusal bytes) past bytes refl .6
+
+  pub code-past : refusal bytes ≡ totalRefusal (planIn bytes)
+  code-past = sym (rows-past (refusal bytes) past bytes refl .8)
+
+-- a plan that no row turns back
 pub refusal-zero : (bytes : List ℕ) → refusal bytes ≡ 0 → Valid (planIn bytes)
-unfolding planRefusal planIn
 refusal-zero bytes e =
-    let h = header-zero bytes e in
-    let blocks = orElse-zero (blocksRefusal (planIn bytes)) _ (h .7) in
-    let z10 = check10-zero _ _ _ (blocks .1) in
+    let z10 = check10-zero _ _ _ (sym (code-past bytes (inr e)) ∙ e) in
     let z11 = check11-zero _ _ _ (z10 .1) in
-    record {
-      shaped =
-          record {
-            racks-pos = h .0;
-            size-pos = h .1;
-            machines-max = h .2;
-            capacity-pos = h .3;
-            capacity-max = h .4;
-            blocks-max = rw (length-table (blockCountIn bytes) (blockIn bytes)) (h .5);
-            block = blocks-zero (planIn bytes) (blocks .0);
-          };
-      in-budget = z10 .0;
-      in-places = z11 .0;
-    }
+    record { shaped = shaped-past bytes (inr e); in-budget = z10 .0; in-places = z11 .0 }
 
 verdict-accepted : (code : ℕ) (p q : Plan) → verdict code p ≡ accepted q → (code ≡ 0) × (p ≡ q)
 verdict-accepted zero p q e = (refl, cc)
@@ -162,7 +204,7 @@ accepted-laws bytes p e =
     record {
       held = sym (z .1);
       valid = rw (z .1) at (refusal-zero bytes (z .0));
-      length-is = header-zero bytes (z .0) .6 ∙ ap recordAt (sym (count-in bytes) ∙ ap blockCount (z .1));
+      length-is = length-past bytes (inr (z .0)) ∙ ap recordAt (sym (count-in bytes) ∙ ap blockCount (z .1));
     }
 
 -- The verdict, from the code.

@@ -6,9 +6,9 @@ use Prim.Native.Nat.{ℕ, _+_, _*_, _-_, _≤_, _<_}
 use native.Mathlib.Nat.{le-trans, lt-of-mul-lt-mul-left, mul-assoc, mul-left-comm}
 use native.Mathlib.Decide.{decLe}
 use native.Mathlib.Omega.{arith}
-use Rattle.order.proofs.Sums.{sum-index}
-use Rattle.order.proofs.Balances.{factors-pos, sum-strict}
-use Rattle.order.proofs.Maxima.{largest-term, largest-near, sum-largest}
+use Rattle.order.proofs.Arithmetic.{factors-pos}
+use Rattle.order.proofs.Sums.{sum-strict, sum-index}
+use Rattle.order.proofs.Extremes.{largest-term, largest-near, sum-largest}
 use Rattle.model.specs.Plan.{Plan, machines, domain, domains, blockCount, blockOf}
 use Rattle.model.specs.Placement.{wordOf, held, replicasIn, domainsUsed, used, Feasible, shareOf, load, maxLoad, totalLoad, maxShare}
 use Rattle.model.specs.Steps.{shifted}

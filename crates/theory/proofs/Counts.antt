@@ -3,7 +3,7 @@
 -- Assumes nothing.
 use mathlib.Core.Path.{_≡_, sym, _∙_}
 use mathlib.Core.Logic.{_↔_, inl, inr}
-use mathlib.Core.Bool.{Bool, true, false, and-eq-true-iff}
+use mathlib.Core.Bool.{Bool, true, false}
 use Prim.Native.Nat.{ℕ, suc, _+_, _-_, _≤_, _<_}
 use native.Mathlib.Nat.{le-add-right, le-of-eq, le-min, le-antisymm, le-trans, le-refl, eq-or-lt-of-le}
 use native.Mathlib.Decide.{decLt, decLe}
@@ -11,9 +11,9 @@ use native.Mathlib.Omega.{arith}
 use borrow.Author.Tests.{leb-true, le-leb}
 use lib.Dec.{leb}
 use Rattle.order.specs.Sum.{sum}
-use Rattle.order.proofs.Booleans.{no-contradiction}
+use Rattle.order.proofs.Booleans.{no-contradiction, not-so, and-iff, leb-iff}
 use Rattle.order.proofs.Sums.{sum-mono}
-use Rattle.order.proofs.Extremes.{least-le, least-passes, least-first, allb-at, allb-intro, largest-term, largest-le}
+use Rattle.order.proofs.Extremes.{least-le, least-passes, least-first, allb-iff, largest-term, largest-le}
 use Rattle.model.specs.Plan.{Plan, blockCount, blockOf, upper, minTotal}
 use Rattle.model.specs.Replication.{limit, FeasibleCounts, share, largestShare, need, reachable, figure, chosen}
 use Rattle.theory.specs.Accepted.{ValidBlock, Valid}
@@ -74,14 +74,8 @@ pub reachable-parts : (p : Plan) (f : ℕ)
     → (reachable p f ≡ true)
     ↔ (((i : ℕ) → i < blockCount p → need p f i ≤ upper p i) × (sum (blockCount p) (need p f) ≤ limit p))
 unfolding reachable
-reachable-parts p f = (
-  λ e.
-      let parts = and-eq-true-iff _ _ .0 e in
-      (λ i l. leb-true _ _ (allb-at _ (λ i. leb (need p f i) (upper p i)) (parts .0) i l), leb-true _ _ (parts .1)),
-  λ h.
-      and-eq-true-iff _ _ .1
-      (allb-intro _ (λ i. leb (need p f i) (upper p i)) (λ i l. le-leb _ _ (h .0 i l)), le-leb _ _ (h .1)),
-)
+reachable-parts p f =
+    and-iff _ _ (allb-iff (blockCount p) _ _ (λ i. leb-iff (need p f i) (upper p i))) (leb-iff (sum (blockCount p) (need p f)) (limit p))
 
 pub share-largest : (p : Plan) (count : ℕ → ℕ) (i : ℕ) → i < blockCount p
     → share (blockOf p i .popularity) (count i) ≤ largestShare p count
@@ -158,6 +152,12 @@ module _ (p : Plan) (v : Valid p) where
         | yes l ↦ no-contradiction (sym figure-reachable ∙ below (figure p) l)
         | no l ↦ omega arith
       ]
+
+  -- so it is reachable, and the number before it is not
+  pub figure-at : (f : ℕ) → reachable p (suc f) ≡ true → reachable p f ≡ false → figure p ≡ suc f
+  figure-at f here before =
+      figure-by-bisection (suc f) here
+      (λ g l. not-so (reachable p g) (λ t. no-contradiction (sym (reachable-mono g f (omega arith) t) ∙ before)))
 
   -- no lawful counts have a largest share below the figure
   pub figure-optimal : (count : ℕ → ℕ) → FeasibleCounts p count → figure p ≤ largestShare p count

@@ -10,9 +10,8 @@ use native.Mathlib.Omega.{arith}
 use lib.Dec.{eqb}
 use lib.Arith.{digits-div, digits-lt}
 use Rattle.order.specs.Sum.{sum, delta}
-use Rattle.order.proofs.Sums.{sum-cong, sum-mono, sum-exchange, sum-term, sum-delta, delta-same, delta-other}
-use Rattle.order.proofs.Balances.{sum-balance, sum-balance-le, sum-scale, sum-point}
-use Rattle.order.proofs.Groups.{sum-group}
+use Rattle.order.proofs.Sums.{sum-cong, sum-mono, sum-balance, sum-balance-le, sum-scale, sum-exchange, sum-term, sum-delta, sum-point, delta-same, delta-other}
+use Rattle.order.proofs.Ranges.{sum-group}
 use Rattle.model.specs.Plan.{Plan, machines, domain, domains, blockCount}
 use Rattle.model.specs.Placement.{bit, wordOf, held, replicasIn, domainsUsed, shareOf, load}
 use Rattle.model.specs.Steps.{shifted}
@@ -41,7 +40,7 @@ pick true x = sym (one-mul x)
 pick false x = sym (zero-mul x)
 
 -- the copies in a domain, as a weighted sum over all machines and as a sum over its own
-replicas-delta : (p : Plan) (w d : ℕ) → replicasIn p w d ≡ sum (machines p) (λ m. delta (domain p m) d * bit w m)
+pub replicas-delta : (p : Plan) (w d : ℕ) → replicasIn p w d ≡ sum (machines p) (λ m. delta (domain p m) d * bit w m)
 unfolding replicasIn delta
 replicas-delta p w d = sum-cong (machines p) _ _ (λ m l. pick (eqb (domain p m) d) (bit w m))
 

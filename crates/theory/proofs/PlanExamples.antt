@@ -1,35 +1,19 @@
 -- The small examples of rows 1 to 11 of document 01's table, and plan H, by computing the model's verdict.
 -- Assumes nothing.
 use mathlib.Core.Path.{_≡_, refl}
-use mathlib.Core.List.{List, [], _∷_, _++_}
+use mathlib.Core.List.{List, [], _∷_}
 use Prim.Native.Nat.{ℕ}
 use lib.ListN.{set, take}
 use Rattle.order.specs.Sum.{sum}
 use Rattle.order.specs.Table.{table}
 use Rattle.order.specs.Search.{firstUp}
-use Rattle.model.specs.Plan.{Plan, Block, upper, minTotal, field, blockIn, planIn}
+use Rattle.model.specs.Plan.{upper, minTotal, field, blockIn, planIn}
 use Rattle.model.specs.Refusal.{check1, check2, check3, check4, check5, check6, check7, check8, check9, blockRefusal, blocksRefusal, check10, check11, planRefusal, refusal, refused, accepted, judge}
-
--- plan H
-unfoldable pub plan-H : List ℕ
-plan-H =
-    0x42 ∷ 0x50 ∷ 0x4C ∷ 0 ∷ 1 ∷ 2 ∷ 2 ∷ 0 ∷ 3 ∷ 0 ∷ 0 ∷ 0 ∷ 8 ∷ 0 ∷ 3
-    ∷ 0 ∷ 0 ∷ 12 ∷ 2 ∷ 2
-    ∷ 0 ∷ 0 ∷ 6 ∷ 1 ∷ 1
-    ∷ 0 ∷ 0 ∷ 2 ∷ 1 ∷ 1
-    ∷ []
+use Rattle.theory.specs.Trials.{plan-H, plan-full}
 
 -- H with another byte at a place
 abbrev with : ℕ → ℕ → List ℕ
 with at byte = set plan-H at byte
-
--- row 11's example: R, S and C all 1, two blocks of one copy, budget 2
-unfoldable pub plan-full : List ℕ
-plan-full =
-    0x42 ∷ 0x50 ∷ 0x4C ∷ 0 ∷ 1 ∷ 1 ∷ 1 ∷ 0 ∷ 1 ∷ 0 ∷ 0 ∷ 0 ∷ 2 ∷ 0 ∷ 2
-    ∷ 0 ∷ 0 ∷ 1 ∷ 1 ∷ 1
-    ∷ 0 ∷ 0 ∷ 1 ∷ 1 ∷ 1
-    ∷ []
 
 -- each example with the number that its row gives, in the rows' order
 pub record RowExamples : Type 0 where

@@ -7,8 +7,8 @@ use native.Mathlib.Nat.{add-mul, mul-comm, mul-left-comm, mul-le-mul-left, mul-l
 use native.Mathlib.Decide.{decLt, decLe}
 use native.Mathlib.Omega.{arith}
 use Rattle.order.specs.Sum.{sum}
-use Rattle.order.proofs.Sums.{sum-mul, sum-term, sum-index}
-use Rattle.order.proofs.Balances.{sum-balance, sum-scale, factors-pos}
+use Rattle.order.proofs.Arithmetic.{factors-pos}
+use Rattle.order.proofs.Sums.{sum-mul, sum-scale, sum-balance, sum-term, sum-index}
 
 -- a weighted sum below k times its weights has a term below k, of positive weight
 below-mean : (n k : ℕ) (s d : ℕ → ℕ) → sum n (λ h. d h * s h) < k * sum n d → (h : ℕ) × (h < n) × (0 < d h) × (s h < k)

@@ -1,5 +1,7 @@
 -- What is claimed of the model's definitions.
 pub mod Accepted
+pub mod Exact
 pub mod Counts
 pub mod Local
 pub mod Bounds
+pub mod Trials

@@ -1,0 +1,226 @@
+-- Demand 3: the claim about every list of calls, with the bounds at rest, and the list that begins with the first placement.
+-- Assumes nothing.
+use mathlib.Core.Path.{_≡_, refl, ap, sym, _∙_}
+use mathlib.Core.Bool.{true}
+use mathlib.Core.List.{List, [], _∷_, _++_}
+use mathlib.Core.Logic.{_⊎_, inl, inr}
+use Prim.Native.Nat.{ℕ, zero, suc, _≤_}
+use native.Mathlib.Nat.{add-zero}
+use native.Mathlib.Omega.{arith}
+use lib.ListN.{take, drop, take-append-drop, List·getD-append}
+use lib.Seq.{getD-take, drop-append-le}
+use Rattle.order.specs.Table.{filled}
+use Rattle.order.proofs.Tables.{getD-table, getD-filled}
+use Rattle.model.specs.Plan.{Plan, blockCount}
+use Rattle.model.specs.Refusal.{Verdict, refused, accepted, judge}
+use Rattle.model.specs.Replication.{chosen}
+use Rattle.model.specs.Placement.{Feasible, firstWord, firstPlacement, totalLoad, maxShare}
+use Rattle.model.specs.Steps.{none, after, nextStep, AtRest, run}
+use Rattle.model.specs.Calls.{Outcome, RunReply, onPlan, unless, onPlacement, placementRefusal, checkCall, stepCall, runCall}
+use Rattle.model.specs.Claims.{Call, checkWith, stepWith, runWith, Reply, refusedBy, checked, stepped, ran, replyOf, does, play, Gets, Refuses, Allowed, SaysRest, Bounded, After, Claim}
+use Rattle.theory.specs.Accepted.{Valid}
+use Rattle.theory.specs.Local.{Settled, Taken, none-taken}
+use Rattle.theory.proofs.Accepted.{accepted-laws}
+use Rattle.theory.proofs.Counts.{chosen-laws}
+use Rattle.theory.proofs.FirstPlacement.{first-feasible}
+use Rattle.theory.proofs.TotalLoad.{total-load}
+use Rattle.theory.proofs.NextStep.{rest-settled}
+use Rattle.theory.proofs.Runs.{taken-past, taken-keeps, next-taken, run-laws}
+use Rattle.theory.proofs.Bounds.{one-spread, larger-spreads}
+use Rattle.theory.proofs.Agreement.{Agree, agree-feasible, agree-rest}
+use Rattle.theory.proofs.Handed.{feasible-length, placement-passes}
+
+pub rest-bounded : (p : Plan) → Valid p → (count : ℕ → ℕ) (words : List ℕ) → Feasible p count words → AtRest p words → Bounded p words
+rest-bounded p valid count words f rest =
+    record {
+      one-spread = λ count' other f' one.
+          rw (add-zero (maxShare p words)) at (one-spread p words other count count' 0 valid f settled f' (total count' other f') one);
+      larger-spreads = λ count' other f' room.
+          rw (add-zero (maxShare p words)) at (larger-spreads p words other count count' 0 valid f settled f' (total count' other f') room);
+    }
+  where
+    settled : Settled p words 0
+    settled = rest-settled p count words f rest
+
+    total : (count' : ℕ → ℕ) (other : List ℕ) → Feasible p count' other → totalLoad p words ≡ totalLoad p other
+    total count' other f' = total-load p valid count words f ∙ sym (total-load p valid count' other f')
+
+-- A call that acts, and one that is refused.
+module _ {A : Type 0} (bytes words : List ℕ) (call : Plan → Outcome A) where
+  placement-call : (p : Plan) → judge bytes ≡ accepted p → placementRefusal p words ≡ 0 → onPlacement bytes words call ≡ call p
+  unfolding onPlacement onPlan unless
+  placement-call p e z = rw (e, z)
+
+  -- a refused call leaves the words
+  refused-call : (reply : A → Reply) (code : ℕ) → ((p : Plan) → replyOf reply (call p .answer) ≡ refusedBy code → ⊥)
+      → replyOf reply (onPlacement bytes words call .answer) ≡ refusedBy code → onPlacement bytes words call .items ≡ words
+  unfolding onPlacement onPlan unless
+  refused-call reply code acts = by-verdict (judge bytes)
+    where
+      by-code : (p : Plan) (n : ℕ) → replyOf reply (unless n words (call p) .answer) ≡ refusedBy code → unless n words (call p) .items ≡ words
+      by-code p zero e = absurd (acts p e)
+      by-code p (suc n) e = refl
+
+      outcome : Verdict → Outcome A
+      outcome verdict = onPlan verdict words (λ p. unless (placementRefusal p words) words (call p))
+
+      by-verdict : (v : Verdict) → replyOf reply (outcome v .answer) ≡ refusedBy code → outcome v .items ≡ words
+      by-verdict (refused n) e = refl
+      by-verdict (accepted p) e = by-code p (placementRefusal p words) e
+
+-- two constructors
+clash : _≡_ {A = ℕ} 0 1 → ⊥
+clash e = omega arith
+
+does-refused : (call : Call) (words : List ℕ) (code : ℕ) → does call words .reply ≡ refusedBy code → does call words .words ≡ words
+unfolding does checkCall stepCall runCall
+does-refused (checkWith bytes lent) words code e =
+    ap (λ (s : List ℕ). s ++ drop lent words) (refused-call bytes (take lent words) _ (λ n. checked) code (λ p q. clash (cc)) e)
+    ∙ take-append-drop lent words
+does-refused (stepWith bytes lent) words code e =
+    ap (λ (s : List ℕ). s ++ drop lent words) (refused-call bytes (take lent words) _ stepped code (λ p q. clash (cc)) e)
+    ∙ take-append-drop lent words
+does-refused (runWith bytes lent budget) words code e =
+    ap (λ (s : List ℕ). s ++ drop lent words) (refused-call bytes (take lent words) _ ran code (λ p q. clash (cc)) e)
+    ∙ take-append-drop lent words
+
+-- neither a refusal nor a check says that it rests
+refused-silent : (r : Reply) (code : ℕ) → r ≡ refusedBy code → SaysRest r → ⊥
+refused-silent r code e (inl says) = clash (cc)
+refused-silent r code e (inr (n, says)) = clash (cc)
+
+checked-silent : SaysRest checked → ⊥
+checked-silent (inl says) = clash (cc)
+checked-silent (inr (n, says)) = clash (cc)
+
+-- what says that it rests is at rest
+step-says : (p : Plan) (words : List ℕ) → SaysRest (stepped (nextStep p words)) → AtRest p (after words (nextStep p words))
+unfolding after
+step-says p words (inl says) = let e : nextStep p words ≡ none = cc in rw e e
+step-says p words (inr (n, says)) = absurd (clash (cc))
+
+run-says : (p : Plan) (budget : ℕ) (words : List ℕ)
+    → SaysRest (ran (record { rested = run p budget words .rested; steps = run p budget words .steps }))
+    → AtRest p (run p budget words .words)
+run-says p budget words (inl says) = absurd (clash (cc))
+run-says p budget words (inr (n, says)) =
+    let e : _≡_ {A = RunReply} (record { rested = run p budget words .rested; steps = run p budget words .steps }) (record { rested = true; steps = n }) = cc in
+    run-laws p budget words .rest (ap (λ (r : RunReply). r .rested) e)
+
+module _ (bytes : List ℕ) (p : Plan) (reads : judge bytes ≡ accepted p) (before : List ℕ) where
+  valid : Valid p
+  valid = accepted-laws bytes p reads .valid
+
+  module _ (words : List ℕ) (reply : Reply) (held : After p before (record { reply = reply; words = words })) where
+    after-refused : (call : Call) → Refuses call words → After p before (does call words)
+    after-refused call (code, e) =
+        let same = does-refused call words code e in
+        record {
+          lawful = rw same (held .lawful);
+          beyond = rw same (held .beyond);
+          resting = λ says. absurd (refused-silent _ code e says);
+          bounded = rw same (held .bounded);
+        }
+
+    module _ (lent : ℕ) (enough : blockCount p ≤ lent) where
+      lent-feasible : Feasible p (chosen p) (take lent words)
+      lent-feasible =
+          agree-feasible p words (take lent words) (λ i l. sym (getD-take lent words i 0 (omega arith))) (chosen p) (held .lawful)
+
+      lent-passes : placementRefusal p (take lent words) ≡ 0
+      lent-passes = placement-passes p valid (take lent words) lent-feasible
+
+      -- a call that takes next steps on the words lent
+      after-steps : {later : List ℕ} {n : ℕ} → Taken p (take lent words) n later → (now : Reply) → (SaysRest now → AtRest p later)
+          → After p before (record { reply = now; words = later ++ drop lent words })
+      after-steps {later} taken now rests =
+          record {
+            lawful = lawful;
+            beyond =
+                past later feasible
+                ∙ ap (λ (s : List ℕ). s ++ drop lent words) (taken-past p taken)
+                ∙ sym (past (take lent words) lent-feasible)
+                ∙ ap (drop (blockCount p)) (take-append-drop lent words)
+                ∙ held .beyond;
+            resting = λ says. agree-rest p later joined same (chosen p) feasible (rests says);
+            bounded = rest-bounded p valid (chosen p) joined lawful;
+          }
+        where
+          joined : List ℕ
+          joined = later ++ drop lent words
+
+          feasible : Feasible p (chosen p) later
+          feasible = taken-keeps p (chosen p) taken lent-feasible
+
+          same : Agree p later joined
+          same i l =
+              let long = feasible-length p valid (chosen p) later feasible in
+              sym (List·getD-append later (drop lent words) 0 i (omega arith))
+
+          lawful : Feasible p (chosen p) joined
+          lawful = agree-feasible p later joined same (chosen p) feasible
+
+          past : (s : List ℕ) → Feasible p (chosen p) s
+              → drop (blockCount p) (s ++ drop lent words) ≡ drop (blockCount p) s ++ drop lent words
+          past s f = drop-append-le (blockCount p) s (drop lent words) (feasible-length p valid (chosen p) s f)
+
+      after-check : After p before (does (checkWith bytes lent) words)
+      unfolding does checkCall
+      after-check =
+          rw (placement-call bytes (take lent words) _ p reads lent-passes)
+          (after-steps none-taken checked (λ says. absurd (checked-silent says)))
+
+      after-step : After p before (does (stepWith bytes lent) words)
+      unfolding does stepCall
+      after-step =
+          rw (placement-call bytes (take lent words) _ p reads lent-passes)
+          (after-steps (next-taken p (take lent words) .1) _ (step-says p (take lent words)))
+
+      after-run : (budget : ℕ) → After p before (does (runWith bytes lent budget) words)
+      unfolding does runCall
+      after-run budget =
+          rw (placement-call bytes (take lent words) _ p reads lent-passes)
+          (after-steps (run-laws p budget (take lent words) .taken) _ (run-says p budget (take lent words)))
+
+    after-gets : (call : Call) → Gets bytes (blockCount p) call → After p before (does call words)
+    after-gets (checkWith other lent) (same, enough) = rw same (after-check lent enough)
+    after-gets (stepWith other lent) (same, enough) = rw same (after-step lent enough)
+    after-gets (runWith other lent budget) (same, enough) = rw same (after-run lent enough budget)
+
+    after-call : (call : Call) → Gets bytes (blockCount p) call ⊎ Refuses call words → After p before (does call words)
+    after-call call (inl gets) = after-gets call gets
+    after-call call (inr refuses) = after-refused call refuses
+
+  after-calls : (calls : List Call) (words : List ℕ) (reply : Reply) → After p before (record { reply = reply; words = words })
+      → Allowed bytes (blockCount p) calls words → After p before (play reply calls words)
+  unfolding play Allowed
+  after-calls [] words reply held allowed = held
+  after-calls (call ∷ calls) words reply held allowed =
+      after-calls calls (does call words .words) (does call words .reply) (after-call words reply held call (allowed .0)) (allowed .1)
+
+pub claim : Claim
+claim bytes p reads words feasible calls allowed =
+    after-calls bytes p reads words calls words checked
+    (record {
+      lawful = feasible;
+      beyond = refl;
+      resting = λ says. absurd (checked-silent says);
+      bounded = rest-bounded p (accepted-laws bytes p reads .valid) (chosen p) words feasible;
+    })
+    allowed
+
+-- the first placement, in any buffer
+pub filled-feasible : (p : Plan) → Valid p → (lent : List ℕ) → Feasible p (chosen p) (filled (blockCount p) (firstWord p) lent)
+unfolding firstPlacement
+filled-feasible p valid lent =
+    agree-feasible p (firstPlacement p) (filled (blockCount p) (firstWord p) lent)
+    (λ i l. getD-table (blockCount p) (firstWord p) i 0 l ∙ sym (getD-filled (blockCount p) (firstWord p) lent i 0 l))
+    (chosen p) (first-feasible p (valid .shaped) (chosen-laws p valid .feasible))
+
+-- so a list of calls may begin with it
+pub first-claim : (bytes : List ℕ) (p : Plan) → judge bytes ≡ accepted p
+    → (lent words : List ℕ) → words ≡ filled (blockCount p) (firstWord p) lent
+    → (calls : List Call) → Allowed bytes (blockCount p) calls words
+    → After p words (play checked calls words)
+first-claim bytes p reads lent words made =
+    claim bytes p reads words (rw made (filled-feasible p (accepted-laws bytes p reads .valid) lent))
