@@ -22,3 +22,4 @@ pub mod Handed
 pub mod Claim
 pub mod Ties
 pub mod Trials
+pub mod Held

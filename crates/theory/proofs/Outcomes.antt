@@ -10,7 +10,8 @@ use Rattle.order.specs.Table.{filled}
 use Rattle.model.specs.Plan.{Plan, blockCount}
 use Rattle.model.specs.Refusal.{check12, Verdict, refused, accepted, judge}
 use Rattle.model.specs.Replication.{largestShare, chosen}
-use Rattle.model.specs.Calls.{Outcome, answered, refuse, onPlan, unless, countsCall}
+use Rattle.model.specs.Placement.{firstWord}
+use Rattle.model.specs.Calls.{Outcome, answered, refuse, onPlan, unless, countsCall, firstCall, placementRefusal, onPlacement}
 
 module _ {A : Type 0} (items : List ℕ) where
   pub on-refused : (v : Verdict) (code : ℕ) (call : Plan → Outcome A) → v ≡ refused code → onPlan v items call ≡ refuse code items
@@ -56,3 +57,36 @@ module _ (bytes items : List ℕ) where
   unfolding countsCall
   counts-made p e l =
       on-accepted items (judge bytes) p _ e ∙ unless-none items _ _ (room-enough (length items) (blockCount p) 0 l)
+
+-- making the first placement
+module _ (bytes words : List ℕ) where
+  pub first-refused : (code : ℕ) → judge bytes ≡ refused code → firstCall bytes words ≡ refuse code words
+  unfolding firstCall
+  first-refused code e = on-refused words (judge bytes) code _ e
+
+  pub first-short : (p : Plan) → judge bytes ≡ accepted p → length words < blockCount p → firstCall bytes words ≡ refuse 12 words
+  unfolding firstCall
+  first-short p e l =
+      on-accepted words (judge bytes) p _ e ∙ unless-some words 12 _ _ (room-short (length words) (blockCount p) 0 l) (omega arith)
+
+  pub first-made : (p : Plan) → judge bytes ≡ accepted p → blockCount p ≤ length words
+      → firstCall bytes words
+      ≡ record { answer = answered (blockCount p); items = filled (blockCount p) (firstWord p) words }
+  unfolding firstCall
+  first-made p e l =
+      on-accepted words (judge bytes) p _ e ∙ unless-none words _ _ (room-enough (length words) (blockCount p) 0 l)
+
+-- any call on a placement handed in
+module _ {A : Type 0} (bytes words : List ℕ) (call : Plan → Outcome A) where
+  pub handed-refused : (code : ℕ) → judge bytes ≡ refused code → onPlacement bytes words call ≡ refuse code words
+  unfolding onPlacement
+  handed-refused code e = on-refused words (judge bytes) code _ e
+
+  pub handed-back : (p : Plan) (code : ℕ) → judge bytes ≡ accepted p → placementRefusal p words ≡ code → 1 ≤ code
+      → onPlacement bytes words call ≡ refuse code words
+  unfolding onPlacement
+  handed-back p code e same l = on-accepted words (judge bytes) p _ e ∙ unless-some words code _ _ same l
+
+  pub handed-taken : (p : Plan) → judge bytes ≡ accepted p → placementRefusal p words ≡ 0 → onPlacement bytes words call ≡ call p
+  unfolding onPlacement
+  handed-taken p e none = on-accepted words (judge bytes) p _ e ∙ unless-none words _ _ none
