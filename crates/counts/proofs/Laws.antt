@@ -2,14 +2,15 @@
 -- Assumes nothing.
 use mathlib.Core.Path.{_≡_, ap, sym, _∙_}
 use mathlib.Core.List.{List}
-use Prim.Native.Nat.{ℕ, _*_, _<_, _≤_, min}
+use Prim.Native.Nat.{ℕ, _*_, _<_, _≤_, _^_, min}
 use native.Mathlib.Nat.{min-le-left}
 use native.Mathlib.Omega.{arith}
 use lib.ListN.{length, getD}
 use Rattle.order.specs.Table.{filled}
 use Rattle.order.proofs.Tables.{getD-filled, filled-cong}
 use Rattle.model.specs.Plan.{Plan, Block, blockCount, blockOf, blockIn, upper, maxReplicas}
-use Rattle.model.specs.Replication.{limit as limitOf}
+use Rattle.model.specs.Replication.{limit as limitOf, share, chosen}
+use Rattle.theory.proofs.Shares.{share-bound}
 use Rattle.header.specs.declared.Header.{Header}
 use Rattle.plan.specs.Reading.{planOf, Decoded, AcceptedHeader}
 use Rattle.replication.specs.Choice.{Fields, Ranges}
@@ -54,6 +55,12 @@ module _ (bytes : List ℕ) (h : Header) (laws : AcceptedHeader bytes h) where
         decoded .spread-is
         ∙ filled-cong (h .blocks) _ _ spreads₀ (λ i l. ap (λ (b : Block). b .minRacks) (sym (laws .block-is i l)))
         ∙ ap (λ (n : ℕ). filled n (λ i. blockOf (planOf bytes h) i .minRacks) spreads₀) (sym (laws .blocks-is))
+
+    pub narrow-of : (i : ℕ) → i < blockCount (planOf bytes h)
+        → share (blockOf (planOf bytes h) i .popularity) (chosen (planOf bytes h) i) < 2 ^ 34
+    narrow-of i l =
+        let within : i < h .blocks = rw (laws .blocks-is) at l in
+        share-bound _ _ (rw (laws .block-is i within) (decoded .narrow i within))
 
     pub ranges-of : h .blocks ≤ length popularities → h .blocks ≤ length least → Ranges popularities least most (h .blocks)
     ranges-of popularity-room least-room =

@@ -22,7 +22,7 @@ use Rattle.layout.specs.declared.Cursor.{Cursor}
 use Rattle.layout.specs.declared.Placed.{Placed}
 use Rattle.layout.specs.declared.Laid.{Laid}
 
--- The number of positions, and the cursor with other racks and levels, at a position or written out.
+-- The number of positions of a cursor's circle, the cursor of that circle at position t, and a cursor by its fields.
 abbrev around : Cursor → ℕ
 around c = c .racks * c .«rack_size»
 
@@ -120,6 +120,22 @@ lay-none c =
       cursor-is = λ t l at. rw (add-zero t, mod-eq-of-lt l) at;
     }
 
+-- A plan that has the cursor's racks: the model's laws are about plans.
+abbrev bare : Cursor → Plan
+bare c = record { racks = c .racks; rackSize = c .«rack_size»; capacity = 1; budget = 0; blocks = [] }
+
+bare-shaped : (c : Cursor) → OnCircle c → Shaped (bare c)
+bare-shaped c circle =
+    record {
+      racks-pos = omega arith;
+      size-pos = omega arith;
+      machines-max = circle .machines-max;
+      capacity-pos = lit≤ tt;
+      capacity-max = lit≤ tt;
+      blocks-max = lit≤ tt;
+      block = λ i l. absurd (omega arith);
+    }
+
 -- One copy more, from a cursor that has laid k of them.
 module _ (c : Cursor) (count : ℕ) (asked : LayAsked c count) (k : ℕ) (few : k < count) (laid : Laid) (so-far : LaidAs c k laid) where
   within : (q : ℕ) → q % around c < around c
@@ -154,29 +170,14 @@ module _ (c : Cursor) (count : ℕ) (asked : LayAsked c count) (k : ℕ) (few : 
               ∙ ap (turned c) (mod-add-mod (t + k) (around c) 1 ∙ ap (λ (q : ℕ). q % around c) (add-assoc t k 1));
         }
 
-    -- a plan that has the cursor's racks: the model's laws are about plans
-    abbrev bare : Plan
-    bare = record { racks = c .racks; rackSize = c .«rack_size»; capacity = 1; budget = 0; blocks = [] }
-
-    bare-shaped : Shaped bare
-    bare-shaped =
-        record {
-          racks-pos = omega (arith, asked .circle);
-          size-pos = omega (arith, asked .circle);
-          machines-max = asked .circle .machines-max;
-          capacity-pos = lit≤ tt;
-          capacity-max = lit≤ tt;
-          blocks-max = lit≤ tt;
-          block = λ i l. absurd (omega arith);
-        }
-
     -- the machine holds none of the k copies
     pub lay-fresh : (placed .machine < maxMachines) × (bit (laid .word) (placed .machine) ≡ 0)
     lay-fresh =
         let at : c ≡ turned c (asked .at % around c) = rw (mod-eq-of-lt (asked .at-below)) (asked .at-is) in
-        rw (on-machine bare (asked .at) refl refl at, so-far .word-is bare (asked .at) bare-shaped refl refl at) (
-          lt-of-lt-of-le (machineOf-below bare bare-shaped (asked .at + k)) (asked .circle .machines-max),
-          laid-fresh bare bare-shaped (asked .at) k (omega (arith, asked .few)),
+        let shaped = bare-shaped c (asked .circle) in
+        rw (on-machine (bare c) (asked .at) refl refl at, so-far .word-is (bare c) (asked .at) shaped refl refl at) (
+          lt-of-lt-of-le (machineOf-below (bare c) shaped (asked .at + k)) (asked .circle .machines-max),
+          laid-fresh (bare c) shaped (asked .at) k (omega (arith, asked .few)),
         )
 
 -- Where the copies of block i begin: past those of the blocks before it.

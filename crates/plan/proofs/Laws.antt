@@ -46,6 +46,8 @@ accepted-header bytes h e =
     let count : blockCount (planOf bytes h) ≡ h .blocks = length-table (h .blocks) (blockIn bytes) in
     record {
       valid = laws .valid;
+      racks-pos = laws .valid .shaped .racks-pos;
+      size-pos = laws .valid .shaped .size-pos;
       machines-max = laws .valid .shaped .machines-max;
       capacity-max = laws .valid .shaped .capacity-max;
       blocks-max = rw count at (laws .valid .shaped .blocks-max);

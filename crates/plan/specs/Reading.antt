@@ -66,6 +66,8 @@ pub record Decoded (bytes : List ℕ) (blocks : ℕ) (popularities₀ least₀ s
 -- What holds of a header that was accepted with its bytes.
 pub record AcceptedHeader (bytes : List ℕ) (h : Header) : Type 0 where
   pub valid : Valid (planOf bytes h)
+  pub racks-pos : 1 ≤ h .racks
+  pub size-pos : 1 ≤ h .«rack_size»
   pub machines-max : h .racks * h .«rack_size» ≤ maxMachines
   pub capacity-max : h .capacity ≤ maxCapacity
   pub blocks-max : h .blocks ≤ maxBlocks

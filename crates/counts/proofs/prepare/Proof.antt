@@ -8,7 +8,7 @@ use native.Mathlib.Omega.{arith}
 use denote.Ref.{now}
 use lib.ListN.{length}
 use Rattle.plan.proofs.Laws.{accepted-header}
-use Rattle.counts.proofs.Laws.{fields-of, ranges-of, spreads-of}
+use Rattle.counts.proofs.Laws.{fields-of, ranges-of, spreads-of, narrow-of}
 use Rattle.counts.proofs.prepare.Statement.{statement}
 use Rattle.counts.proofs.prepare.Tie as tie
 
@@ -92,6 +92,7 @@ returns c =
       laid = made .0;
       spreads-are = spreads-of _ _ laws _ _ _ _ _ _ _ 0 (taken .ensures) (most .ensures);
       largest-is = made .1;
+      shares-narrow = narrow-of _ _ laws _ _ _ _ _ _ _ 0 (taken .ensures) (most .ensures);
     }
 
 pub prepare-spec : {M : Type 1} → statement M
