@@ -14,7 +14,7 @@ pub enum CheckAnswer {
 }
 
 // Hottest load, coolest load, sum of loads, largest share.
-pub struct Report {
+pub struct LoadReport {
     pub max_load: u64,
     pub min_load: u64,
     pub total_load: u64,
@@ -23,7 +23,7 @@ pub struct Report {
 
 pub enum ReportAnswer {
     Refused(u8),
-    Reported(Report),
+    Reported(LoadReport),
 }
 
 fn check_accepted(bytes: &[u8], h: Header, words: &[u64]) -> CheckAnswer
@@ -63,7 +63,7 @@ fn report_accepted(bytes: &[u8], h: Header, words: &[u64]) -> ReportAnswer
     let machines = h.racks * h.rack_size;
     let tally = survey.tally;
     let loads = tally.loads;
-    ReportAnswer::Reported(Report {
+    ReportAnswer::Reported(LoadReport {
         max_load: tally::max_load(loads, machines),
         min_load: tally::min_load(loads, machines),
         total_load: tally::total_load(loads, machines),

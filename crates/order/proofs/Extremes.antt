@@ -216,3 +216,9 @@ unfolding smallest
 smallest-at zero f l = absurd (not-suc-le-zero l)
 smallest-at (suc zero) f l = (0, l, omega arith)
 smallest-at (suc (suc n)) f l = with-last (suc n) f (smallest-at (suc n) f (omega arith)) (min-cases _ _)
+
+pub smallest-cong : (n : ℕ) (f g : ℕ → ℕ) → f 0 ≡ g 0 → ((i : ℕ) → i < n → f i ≡ g i) → smallest n f ≡ smallest n g
+unfolding smallest
+smallest-cong zero f g first e = first
+smallest-cong (suc n) f g first e =
+    ap₂ min (smallest-cong n f g first (λ i l. e i (omega arith))) (e n (le-refl (suc n)))
