@@ -1,10 +1,10 @@
 -- What the checks of a placement handed in are given, in the model's terms.
 use mathlib.Core.Path.{_≡_}
 use mathlib.Core.List.{List}
-use Prim.Native.Nat.{ℕ, _*_, _<_, _≤_, _^_}
+use Prim.Native.Nat.{ℕ, _*_, _<_, _≤_}
 use lib.ListN.{length, getD}
 use Rattle.model.specs.Plan.{Plan, machines as machinesOf, blockCount, blockOf}
-use Rattle.model.specs.Refusal.{maxMachines, maxBlocks}
+use Rattle.model.specs.Refusal.{maxMachines}
 use Rattle.model.specs.Replication.{chosen}
 use Rattle.model.specs.Placement.{used as usedOf}
 use Rattle.theory.specs.Accepted.{Valid}

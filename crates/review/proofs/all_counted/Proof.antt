@@ -9,7 +9,6 @@ use borrow.Author.Tests.{eq-eqb, ne-eqb}
 use denote.Ref.{now}
 use Rattle.order.specs.Search.{allb}
 use Rattle.order.proofs.Extremes.{allb-false}
-use Rattle.model.specs.Plan.{machines}
 use Rattle.review.proofs.Laws.{allb-none, allb-more, isCounted, counted-row}
 use Rattle.review.proofs.all_counted.Statement.{statement}
 use Rattle.review.proofs.all_counted.Tie as tie

@@ -7,8 +7,6 @@ use native.Mathlib.Omega.{arith}
 use borrow.Author.Tests.{lt-leb, le-leb}
 use Rattle.order.specs.Search.{allb}
 use Rattle.order.proofs.Extremes.{allb-false}
-use Rattle.model.specs.Plan.{machines}
-use Rattle.model.specs.Placement.{used}
 use Rattle.review.proofs.Laws.{allb-none, allb-more, isFit, fit-row}
 use Rattle.review.proofs.all_fit.Statement.{statement}
 use Rattle.review.proofs.all_fit.Tie as tie

@@ -8,7 +8,6 @@ use borrow.Author.Tests.{not-true, not-false}
 use denote.Ref.{now}
 use Rattle.order.specs.Search.{allb}
 use Rattle.order.proofs.Extremes.{allb-false}
-use Rattle.model.specs.Plan.{machines}
 use Rattle.review.proofs.Laws.{allb-none, allb-more, isWithin, within-row}
 use Rattle.review.proofs.all_within.Statement.{statement}
 use Rattle.review.proofs.all_within.Tie as tie

@@ -17,8 +17,8 @@ use Rattle.review.proofs.review.Statement.{statement}
 use Rattle.review.proofs.review.Tie as tie
 
 -- the arguments are a plan's and a placement's
-abbrev Handed : tie.Start → Plan → Type 0
-Handed start p =
+abbrev HandedIn : tie.Start → Plan → Type 0
+HandedIn start p =
     let a = start .args in
     Reviewed p (now (a .words)) (now (a .counts)) (now (a .spreads)) (a .tally) (a .racks) (a .rack-size) (a .capacity) (a .blocks)
 
@@ -27,22 +27,22 @@ entry c = c .before .before .before .before
 
 -- what is known of the words where a row has passed
 enough : (c : tie.After-all-within) (p : Plan) → let start = entry c in
-    Handed start p → ltb (length (now (start .args .words))) (blockCount p) ≡ false
+    HandedIn start p → ltb (length (now (start .args .words))) (blockCount p) ≡ false
 enough c p r =
     le-ltb (length (now (entry c .args .words))) (blockCount p)
     (omega (arith, entry c .pre .word-room, r .sizes .blocks-is))
 
 within : (c : tie.Else1) (p : Plan) → let start = entry (c .before) in
-    Handed start p → allWithin p (now (start .args .words)) ≡ true
+    HandedIn start p → allWithin p (now (start .args .words)) ≡ true
 within c p r = sym (c .before .all-within .ensures p (r .sizes)) ∙ not-false _ (c .if1 .left)
 
 counted : (c : tie.Else2) (p : Plan) → let start = entry (c .before .before .before) in
-    Handed start p → allCounted p (now (start .args .words)) ≡ true
+    HandedIn start p → allCounted p (now (start .args .words)) ≡ true
 counted c p r =
     sym (c .before .all-counted .ensures p (r .sizes) (r .counts-are) (within (c .before .before) p r)) ∙ not-false _ (c .if2 .left)
 
 spread : (c : tie.Else3) (p : Plan) → let start = entry (c .before .before .before .before .before) in
-    Handed start p → allSpread p (now (start .args .words)) ≡ true
+    HandedIn start p → allSpread p (now (start .args .words)) ≡ true
 spread c p r = sym (c .before .all-spread .ensures p (r .sizes) (r .spreads-are)) ∙ not-false _ (c .if3 .left)
 
 mul-machines : tie.Need-mul-machines
@@ -90,8 +90,7 @@ returns-4 c p r =
     let e2 = e3 .before .before in
     let e1 = e2 .before .before in
     let out = sym (c .before .all-fit .ensures p _ (r .uses)) ∙ not-true _ (c .if4 .taken) in
-    sym
-    (rw (enough (e1 .before) p r, within e1 p r, counted e2 p r, spread e3 p r, out))
+    sym (rw (enough (e1 .before) p r, within e1 p r, counted e2 p r, spread e3 p r, out))
 
 returns-5 : tie.Need-returns-5
 unfolding placementRefusal check12
@@ -100,8 +99,7 @@ returns-5 c p r =
     let e2 = e3 .before .before in
     let e1 = e2 .before .before in
     let fit = sym (c .before .all-fit .ensures p _ (r .uses)) ∙ not-false _ (c .if4 .left) in
-    sym
-    (rw (enough (e1 .before) p r, within e1 p r, counted e2 p r, spread e3 p r, fit))
+    sym (rw (enough (e1 .before) p r, within e1 p r, counted e2 p r, spread e3 p r, fit))
 
 pub review-spec : {M : Type 1} → statement M
 review-spec =

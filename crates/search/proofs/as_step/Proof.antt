@@ -1,0 +1,66 @@
+-- `search::as_step` meets its contract, variant by variant.
+-- Assumes nothing.
+use Rattle.transfers.specs.Pair.{hitOf}
+use Rattle.search.specs.Scene.{stepOf}
+use borrow.Author.Needs.{needs}
+use Rattle.search.proofs.as_step.Statement.{statement}
+use Rattle.search.proofs.as_step.Tie as tie
+
+enum-told : tie.Need-enum-told
+enum-told c = search needs
+
+enum-known-hit : tie.Need-enum-known-hit
+enum-known-hit c = search needs
+
+returns : tie.Need-returns
+unfolding stepOf hitOf
+returns c =
+    record {
+      is = rw (c .before .before .hit .given .1, c .if1 .taken);
+      sound = λ words racks size blocks h. rw (c .before .before .hit .given .1) at h;
+    }
+
+enum-known-hit-2 : tie.Need-enum-known-hit-2
+enum-known-hit-2 c = search needs
+
+returns-2 : tie.Need-returns-2
+unfolding stepOf hitOf
+returns-2 c =
+    record {
+      is = rw (c .before .before .hit2 .given .1, c .if2 .taken);
+      sound = λ words racks size blocks h. rw (c .before .before .hit2 .given .1) at h;
+    }
+
+returns-3 : tie.Need-returns-3
+unfolding stepOf hitOf
+returns-3 c =
+    record { is = rw (c .enum-told .given .1); sound = λ words racks size blocks h. tt }
+
+returns-4 : tie.Need-returns-4
+unfolding stepOf hitOf
+returns-4 c =
+    record {
+      is = rw (c .before .before .hit .given .1, c .if1 .left);
+      sound = λ words racks size blocks h. rw (c .before .before .hit .given .1) at h;
+    }
+
+returns-5 : tie.Need-returns-5
+unfolding stepOf hitOf
+returns-5 c =
+    record {
+      is = rw (c .before .before .hit2 .given .1, c .if2 .left);
+      sound = λ words racks size blocks h. rw (c .before .before .hit2 .given .1) at h;
+    }
+
+pub as-step-spec : {M : Type 1} → statement M
+as-step-spec =
+    tie.close
+    (tie.spec
+    enum-told
+    enum-known-hit
+    returns
+    enum-known-hit-2
+    returns-2
+    returns-3
+    returns-4
+    returns-5)

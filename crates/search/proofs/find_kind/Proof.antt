@@ -1,0 +1,98 @@
+-- `search::find_kind` meets its contract. The loop's invariant: the definition finds nothing from the machines passed.
+-- Assumes nothing.
+use mathlib.Core.Path.{_≡_, ap, sym, _∙_}
+use mathlib.Core.Bool.{false}
+use Prim.Native.Nat.{ℕ, _*_, _-_, _<_, _≤_}
+use native.Mathlib.Omega.{arith}
+use borrow.Author.Needs.{needs}
+use borrow.Author.Count.{below-more}
+use denote.Ref.{now}
+use Rattle.model.specs.Plan.{Plan, machines}
+use Rattle.model.specs.Steps.{isStep}
+use Rattle.transfers.specs.Pair.{hitOf}
+use Rattle.transfers.proofs.Searches.{step-found, none-found}
+use Rattle.search.specs.Scene.{SceneOf, rowOf, kindOf}
+use Rattle.search.proofs.Laws.{in-plan, of-plan}
+use Rattle.search.proofs.find_kind.Statement.{statement}
+use Rattle.search.proofs.find_kind.Tie as tie
+
+abbrev Inv-loop : tie.InvT-loop
+Inv-loop words shares spreads on loads copies racks size capacity blocks swapping across machines m₀ m =
+    (m ≤ racks * size)
+    × ((k : ℕ) → k < m → (p : Plan) → SceneOf p words shares spreads loads copies racks size capacity blocks
+    → isStep (rowOf p words swapping across k) ≡ false)
+
+abbrev μ-loop : tie.MeasureT-loop
+μ-loop words shares spreads on loads copies racks size capacity blocks swapping across machines m₀ m = racks * size - m
+
+mul-machines : tie.Need-mul-machines Inv-loop μ-loop
+mul-machines c = omega arith
+
+loop-holds : tie.Need-loop-holds Inv-loop μ-loop
+loop-holds c = (omega arith, λ k l. absurd (omega arith))
+
+find-row-requires : tie.Need-find-row-requires Inv-loop μ-loop
+find-row-requires c κs =
+    let start = c .before .before .before .before .before .before .before .before in
+    record { all = start .pre; m-below = c .loop-test .taken }
+
+is-found-requires : tie.Need-is-found-requires Inv-loop μ-loop
+is-found-requires c κs = search needs
+
+returns : tie.Need-returns Inv-loop μ-loop
+unfolding kindOf
+returns c =
+    let at = c .before .before .before .before in
+    let a = at .before .before .before .before .before .before .before .args in
+    let found = c .before .before .find-row in
+    record {
+      sound = found .ensures .sound;
+      is = λ p scene.
+          sym (step-found (machines p) (at .loop .m) (rowOf p (now (a .words)) (a .swapping) (a .across)) (hitOf (a .across) (found .result))
+          (in-plan p (now (a .words)) _ _ _ _ _ _ _ _ scene (at .loop .m) (c .before .before .before .loop-test .taken))
+          (λ k l. at .loop .inv .1 k l p scene) (sym (found .ensures .is p scene)) (c .before .is-found .ensures (a .across) ∙ c .if1 .taken));
+    }
+
+add-m : tie.Need-add-m Inv-loop μ-loop
+add-m c = omega arith
+
+loop-less : tie.Need-loop-less Inv-loop μ-loop
+loop-less c = omega arith
+
+loop-again : tie.Need-loop-again Inv-loop μ-loop
+loop-again c =
+    let at = c .before .before .before .before in
+    let a = at .before .before .before .before .before .before .before .args in
+    let found = c .before .before .find-row in (
+      omega arith,
+      below-more _ (at .loop .m) (at .loop .inv .1)
+          (λ p scene. ap isStep (sym (found .ensures .is p scene)) ∙ c .before .is-found .ensures (a .across) ∙ c .if1 .left),
+    )
+
+returns-2 : tie.Need-returns-2 Inv-loop μ-loop
+unfolding hitOf kindOf
+returns-2 c =
+    let at = c .before in
+    let a = at .before .before .before .before .before .before .before .args in
+    record {
+      sound = tt;
+      is = λ p scene.
+          sym (none-found (machines p) (rowOf p (now (a .words)) (a .swapping) (a .across))
+          (λ k l. let b = of-plan p (now (a .words)) _ _ _ _ _ _ _ _ scene k l in at .loop .inv .1 k (omega arith) p scene));
+    }
+
+pub find-kind-spec : {M : Type 1} → statement M
+find-kind-spec =
+    tie.close
+    (tie.spec
+    Inv-loop
+    μ-loop
+    mul-machines
+    loop-holds
+    find-row-requires
+    is-found-requires
+    returns
+    add-m
+    loop-less
+    loop-again
+    returns-2)

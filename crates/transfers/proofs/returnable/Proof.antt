@@ -1,0 +1,31 @@
+-- `transfers::returnable` meets its contract: each early return is a part of the test that fails.
+-- Assumes nothing.
+use mathlib.Core.Path.{sym}
+use native.Mathlib.Omega.{arith}
+use Rattle.order.proofs.Booleans.{no-contradiction}
+use borrow.Author.Needs.{needs}
+use Rattle.transfers.proofs.returnable.Statement.{statement}
+use Rattle.transfers.proofs.returnable.Tie as tie
+
+returns : tie.Need-returns
+returns c =
+    λ p lies. (λ e. no-contradiction (sym e), λ h. absurd (omega (arith, h .gain)))
+
+add-if2 : tie.Need-add-if2
+add-if2 c = search needs
+
+returns-2 : tie.Need-returns-2
+returns-2 c =
+    λ p lies. (λ e. no-contradiction (sym e), λ h. absurd (omega (arith, h .lower)))
+
+keeps-requires : tie.Need-keeps-requires
+keeps-requires c κs = search needs
+
+returns-3 : tie.Need-returns-3
+returns-3 c =
+    λ p lies.
+    let kept = c .keeps .ensures p lies in
+    (λ e. record { gain = omega arith; lower = omega arith; spread-kept = kept .0 e }, λ h. kept .1 (h .spread-kept))
+
+pub returnable-spec : {M : Type 1} → statement M
+returnable-spec = tie.close (tie.spec returns add-if2 returns-2 keeps-requires returns-3)
