@@ -1,9 +1,8 @@
 -- Laws of one kind of step: which machines are of the kind, and what the definition finds at a pair.
 -- Assumes nothing.
-use mathlib.Core.Path.{_≡_, refl, ap, sym, _∙_}
+use mathlib.Core.Path.{_≡_, refl, ap, sym}
 use mathlib.Core.Bool.{Bool, true, false, not, Bool·beq}
 use mathlib.Core.List.{List}
-use mathlib.Core.Logic.{_↔_}
 use Prim.Native.Nat.{ℕ, _+_, _*_, _-_, _/_, _<_, _≤_, _^_}
 use native.Mathlib.Nat.{div-lt-iff-lt-mul}
 use native.Mathlib.Decide.{decLt}

@@ -2,13 +2,13 @@
 use mathlib.Core.Path.{_≡_}
 use mathlib.Core.Bool.{Bool, true, false, not, cond, Bool·beq}
 use mathlib.Core.List.{List}
-use Prim.Native.Nat.{ℕ, _+_, _*_, _/_, _<_, _≤_, _^_}
+use Prim.Native.Nat.{ℕ, _*_, _/_, _<_, _≤_, _^_}
 use lib.Dec.{eqb}
 use lib.ListN.{length, getD}
 use Rattle.model.specs.Plan.{Plan, machines, blockCount, blockOf}
 use Rattle.model.specs.Refusal.{maxMachines, maxBlocks}
 use Rattle.model.specs.Placement.{used, Feasible, shareOf, load}
-use Rattle.model.specs.Steps.{Step as ModelStep, none, move, swap, acrossRacks, isStep, first, pairs, nextStep}
+use Rattle.model.specs.Steps.{Step as ModelStep, none, move, swap, acrossRacks, first, nextStep}
 use Rattle.theory.specs.Accepted.{Valid}
 use Rattle.candidates.specs.Index.{Indexed}
 use Rattle.transfers.specs.declared.Hit.{Hit}
@@ -107,9 +107,10 @@ pub record LoopAsked (words shares spreads on loads copies : List ℕ) (racks si
   pub copies-sized : length copies ≡ maxMachines
   pub indexed : Indexed words blocks on
 
-pub record RowAsked (words shares spreads on loads copies : List ℕ) (racks size blocks m : ℕ) : Type 0 where
+pub record RowAsked (words shares spreads on loads copies : List ℕ) (racks size blocks low m : ℕ) : Type 0 where
   pub all : LoopAsked words shares spreads on loads copies racks size blocks
   pub m-below : m < racks * size
+  pub low-is : low ≡ m / size * size
 
 pub record PairAt (words shares spreads on loads copies : List ℕ) (racks size blocks low m n : ℕ) : Type 0 where
   pub all : LoopAsked words shares spreads on loads copies racks size blocks

@@ -1,6 +1,8 @@
 // The next step of the definition: the first Move, Swap, RackMove or RackSwap, by machines and blocks lowest first.
 use tally::Tally;
+use transfers::Grid;
 use transfers::Hit;
+use transfers::Pair;
 ghost use mathlib.Core.Path.{_≡_};
 ghost use mathlib.Core.Bool.{Bool};
 ghost use Rattle.model.specs.Steps.{isStep};
@@ -35,6 +37,14 @@ pub enum Step {
     },
 }
 
+// A kind of step and the machine m that it leaves, whose rack starts at `low`.
+struct Row {
+    swapping: bool,
+    across: bool,
+    low: usize,
+    m: usize,
+}
+
 // Whether something was found.
 fn is_found(hit: Hit) -> bool
     ensures { λ r. ⌜ ((across : Bool) → isStep (hitOf across hit) ≡ r) ⌝ }
@@ -54,25 +64,15 @@ fn as_step(hit: Hit, across: bool) -> Step
         Hit::Nothing => Step::Rest,
         Hit::Move { m, n, i } => {
             if across {
-                return Step::RackMove { m: m, n: n, i: i };
+                return Step::RackMove { m, n, i };
             }
-            Step::Move { m: m, n: n, i: i }
+            Step::Move { m, n, i }
         }
         Hit::Swap { m, n, i, j } => {
             if across {
-                return Step::RackSwap {
-                    m: m,
-                    n: n,
-                    i: i,
-                    j: j,
-                };
+                return Step::RackSwap { m, n, i, j };
             }
-            Step::Swap {
-                m: m,
-                n: n,
-                i: i,
-                j: j,
-            }
+            Step::Swap { m, n, i, j }
         }
     }
 }
@@ -91,111 +91,64 @@ fn of_kind(low: usize, size: usize, n: usize, across: bool) -> bool
     !across
 }
 
-// The first step of the kind from m, whose rack starts at `low`, to n.
+// The first step of the row's kind from its machine to n.
 fn find_pair(
     words: &[u64],
     shares: &[u64],
     spreads: &[u8],
     on: &[u64],
     loads: &[u64],
-    copies: &[u64],
-    racks: usize,
-    size: usize,
-    capacity: u64,
-    blocks: usize,
-    swapping: bool,
-    across: bool,
-    low: usize,
-    m: usize,
+    used: &[u64],
+    grid: Grid,
+    row: Row,
     n: usize,
 ) -> Hit
-    requires { ⌜ PairAt (now words) (now shares) (now spreads) (now on) (now loads) (now copies) racks size blocks low m n ⌝ }
-    ensures { λ r. ⌜ HitIs (now (words .entry)) (now (shares .entry)) (now (spreads .entry)) (now (loads .entry)) (now (copies .entry))
-        racks size capacity blocks across
-        (λ p. pairOf p (now (words .entry)) swapping across m n) r ⌝ }
+    requires { ⌜ PairAt (now words) (now shares) (now spreads) (now on) (now loads) (now used)
+        (grid .racks) (grid .size) (grid .blocks) (row .low) (row .m) n ⌝ }
+    ensures { λ r. ⌜ HitIs (now (words .entry)) (now (shares .entry)) (now (spreads .entry)) (now (loads .entry)) (now (used .entry))
+        (grid .racks) (grid .size) (grid .capacity) (grid .blocks) (row .across)
+        (λ p. pairOf p (now (words .entry)) (row .swapping) (row .across) (row .m) n) r ⌝ }
 {
-    if !of_kind(low, size, n, across) {
+    let across = row.across;
+    let m = row.m;
+    if !of_kind(row.low, grid.size, n, across) {
         return Hit::Nothing;
     }
     if loads[m] <= loads[n] {
         return Hit::Nothing;
     }
     let gap = loads[m] - loads[n];
-    if swapping {
-        return transfers::find_swap(
-            words,
-            shares,
-            spreads,
-            on,
-            racks,
-            size,
-            blocks,
-            across,
-            m,
-            n,
-            gap,
-        );
+    let pair = Pair { across, m, n, gap };
+    if row.swapping {
+        return transfers::find_swap(words, shares, spreads, on, grid, pair);
     }
-    if capacity <= copies[n] {
+    if grid.capacity <= used[n] {
         return Hit::Nothing;
     }
-    transfers::find_move(
-        words,
-        shares,
-        spreads,
-        on,
-        racks,
-        size,
-        blocks,
-        across,
-        m,
-        n,
-        gap,
-    )
+    transfers::find_move(words, shares, spreads, on, grid, pair)
 }
 
-// The first step of the kind from m.
+// The first step of the row's kind from its machine.
 fn find_row(
     words: &[u64],
     shares: &[u64],
     spreads: &[u8],
     on: &[u64],
     loads: &[u64],
-    copies: &[u64],
-    racks: usize,
-    size: usize,
-    capacity: u64,
-    blocks: usize,
-    swapping: bool,
-    across: bool,
-    m: usize,
+    used: &[u64],
+    grid: Grid,
+    row: Row,
 ) -> Hit
-    requires { ⌜ RowAsked (now words) (now shares) (now spreads) (now on) (now loads) (now copies) racks size blocks m ⌝ }
-    ensures { λ r. ⌜ HitIs (now (words .entry)) (now (shares .entry)) (now (spreads .entry)) (now (loads .entry)) (now (copies .entry))
-        racks size capacity blocks across
-        (λ p. rowOf p (now (words .entry)) swapping across m) r ⌝ }
+    requires { ⌜ RowAsked (now words) (now shares) (now spreads) (now on) (now loads) (now used)
+        (grid .racks) (grid .size) (grid .blocks) (row .low) (row .m) ⌝ }
+    ensures { λ r. ⌜ HitIs (now (words .entry)) (now (shares .entry)) (now (spreads .entry)) (now (loads .entry)) (now (used .entry))
+        (grid .racks) (grid .size) (grid .capacity) (grid .blocks) (row .across)
+        (λ p. rowOf p (now (words .entry)) (row .swapping) (row .across) (row .m)) r ⌝ }
 {
-    let low = m / size * size;
-    let machines = racks * size;
+    let machines = grid.racks * grid.size;
     let mut n: usize = 0;
     while n < machines {
-        let hit = find_pair(
-            words,
-            shares,
-            spreads,
-            on,
-            loads,
-            copies,
-            racks,
-            size,
-            capacity,
-            blocks,
-            swapping,
-            across,
-            low,
-            m,
-            n,
-        );
+        let hit = find_pair(words, shares, spreads, on, loads, used, grid, row, n);
         if is_found(hit) {
             return hit;
         }
@@ -204,44 +157,36 @@ fn find_row(
     Hit::Nothing
 }
 
-// The first step of the kind.
+// The first step of the kind: moves or exchanges, within a rack or across racks.
 fn find_kind(
     words: &[u64],
     shares: &[u64],
     spreads: &[u8],
     on: &[u64],
     loads: &[u64],
-    copies: &[u64],
-    racks: usize,
-    size: usize,
-    capacity: u64,
-    blocks: usize,
+    used: &[u64],
+    grid: Grid,
     swapping: bool,
     across: bool,
 ) -> Hit
-    requires { ⌜ LoopAsked (now words) (now shares) (now spreads) (now on) (now loads) (now copies) racks size blocks ⌝ }
-    ensures { λ r. ⌜ HitIs (now (words .entry)) (now (shares .entry)) (now (spreads .entry)) (now (loads .entry)) (now (copies .entry))
-        racks size capacity blocks across
+    requires { ⌜ LoopAsked (now words) (now shares) (now spreads) (now on) (now loads) (now used)
+        (grid .racks) (grid .size) (grid .blocks) ⌝ }
+    ensures { λ r. ⌜ HitIs (now (words .entry)) (now (shares .entry)) (now (spreads .entry)) (now (loads .entry)) (now (used .entry))
+        (grid .racks) (grid .size) (grid .capacity) (grid .blocks) across
         (λ p. kindOf p (now (words .entry)) swapping across) r ⌝ }
 {
-    let machines = racks * size;
+    let size = grid.size;
+    let machines = grid.racks * size;
     let mut m: usize = 0;
     while m < machines {
-        let hit = find_row(
-            words,
-            shares,
-            spreads,
-            on,
-            loads,
-            copies,
-            racks,
-            size,
-            capacity,
-            blocks,
+        let low = m / size * size;
+        let row = Row {
             swapping,
             across,
+            low,
             m,
-        );
+        };
+        let hit = find_row(words, shares, spreads, on, loads, used, grid, row);
         if is_found(hit) {
             return hit;
         }
@@ -257,84 +202,28 @@ fn find_first(
     spreads: &[u8],
     on: &[u64],
     loads: &[u64],
-    copies: &[u64],
-    racks: usize,
-    size: usize,
-    capacity: u64,
-    blocks: usize,
+    used: &[u64],
+    grid: Grid,
 ) -> Step
-    requires { ⌜ LoopAsked (now words) (now shares) (now spreads) (now on) (now loads) (now copies) racks size blocks ⌝ }
-    ensures { λ r. ⌜ NextOfAll (now (words .entry)) (now (shares .entry)) (now (spreads .entry)) (now (loads .entry)) (now (copies .entry))
-        racks size capacity blocks r ⌝ }
+    requires { ⌜ LoopAsked (now words) (now shares) (now spreads) (now on) (now loads) (now used)
+        (grid .racks) (grid .size) (grid .blocks) ⌝ }
+    ensures { λ r. ⌜ NextOfAll (now (words .entry)) (now (shares .entry)) (now (spreads .entry)) (now (loads .entry)) (now (used .entry))
+        (grid .racks) (grid .size) (grid .capacity) (grid .blocks) r ⌝ }
 {
-    let near = find_kind(
-        words,
-        shares,
-        spreads,
-        on,
-        loads,
-        copies,
-        racks,
-        size,
-        capacity,
-        blocks,
-        false,
-        false,
-    );
+    let near = find_kind(words, shares, spreads, on, loads, used, grid, false, false);
     if is_found(near) {
         return as_step(near, false);
     }
-    let swap = find_kind(
-        words,
-        shares,
-        spreads,
-        on,
-        loads,
-        copies,
-        racks,
-        size,
-        capacity,
-        blocks,
-        true,
-        false,
-    );
+    let swap = find_kind(words, shares, spreads, on, loads, used, grid, true, false);
     if is_found(swap) {
         return as_step(swap, false);
     }
-    let far = find_kind(
-        words,
-        shares,
-        spreads,
-        on,
-        loads,
-        copies,
-        racks,
-        size,
-        capacity,
-        blocks,
-        false,
-        true,
-    );
+    let far = find_kind(words, shares, spreads, on, loads, used, grid, false, true);
     if is_found(far) {
         return as_step(far, true);
     }
-    as_step(
-        find_kind(
-            words,
-            shares,
-            spreads,
-            on,
-            loads,
-            copies,
-            racks,
-            size,
-            capacity,
-            blocks,
-            true,
-            true,
-        ),
-        true,
-    )
+    let last = find_kind(words, shares, spreads, on, loads, used, grid, true, true);
+    as_step(last, true)
 }
 
 // The next step of the placement whose shares, spreads and tally these are.
@@ -353,17 +242,12 @@ pub fn find(
 {
     let on = candidates::index(words, blocks);
     let loads = tally.loads;
-    let copies = tally.used;
-    find_first(
-        words,
-        shares,
-        spreads,
-        &on[..],
-        &loads[..],
-        &copies[..],
-        racks,
-        rack_size,
-        capacity,
-        blocks,
-    )
+    let used = tally.used;
+    let grid = Grid {
+        racks: racks,
+        size: rack_size,
+        capacity: capacity,
+        blocks: blocks,
+    };
+    find_first(words, shares, spreads, &on[..], &loads[..], &used[..], grid)
 }

@@ -12,15 +12,14 @@ use lib.Dec.{eqb}
 use lib.ListN.{getD}
 use Rattle.order.specs.Sum.{sum}
 use Rattle.order.proofs.Sums.{sum-cong}
-use Rattle.order.proofs.Booleans.{not-so}
-use Rattle.model.specs.Plan.{Plan, machines, blockCount, blockOf, domain}
-use Rattle.model.specs.Placement.{bit, wordOf, held, domainsUsed, used, shareOf}
+use Rattle.model.specs.Plan.{Plan, machines, blockCount}
+use Rattle.model.specs.Placement.{bit, wordOf, held, domainsUsed, used}
 use Rattle.model.specs.Steps.{none, move, swap, shifted, isStep, first, canMove, canSwap}
 use Rattle.theory.specs.Local.{LocalMove, LocalSwap}
 use Rattle.theory.proofs.Domains.{replicas-members, domains-shift-inside, domains-shift-pos}
 use Rattle.theory.proofs.LocalTests.{move-local, swap-local}
 use Rattle.candidates.specs.Index.{Indexed, NextOf}
-use Rattle.transfers.specs.Pair.{KeepsAsked, Lies, Movable, Returnable, pairStep, PairScene, Partner}
+use Rattle.transfers.specs.Pair.{KeepsAsked, Lies, Movable, pairStep, PairScene, Partner}
 use Rattle.transfers.proofs.Searches.{step-found, none-found, test-found, test-none}
 
 -- whether two machines lie apart does not hang on their order

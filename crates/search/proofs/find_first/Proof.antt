@@ -14,7 +14,7 @@ use Rattle.search.proofs.find_first.Tie as tie
 -- where the first kinds found nothing, the later ones are left
 past-move : {s : Step} (c : tie.Else1) (p : Plan)
     → let a = c .before .before .before .before .before .before .before .before .before .args in
-    SceneOf p (now (a .words)) (now (a .shares)) (now (a .spreads)) (now (a .loads)) (now (a .copies)) (a .racks) (a .size) (a .capacity) (a .blocks)
+    SceneOf p (now (a .words)) (now (a .shares)) (now (a .spreads)) (now (a .loads)) (now (a .used)) (a .grid .racks) (a .grid .size) (a .grid .capacity) (a .grid .blocks)
     → (later : Step) → s ≡ later
     → s ≡ orStep (kindOf p (now (a .words)) false false) later
 past-move c p scene later e =
@@ -22,7 +22,7 @@ past-move c p scene later e =
 
 past-swap : {s : Step} (c : tie.Else2) (p : Plan)
     → let a = c .before .before .before .before .before .before .before .before .before .before .before .before .args in
-    SceneOf p (now (a .words)) (now (a .shares)) (now (a .spreads)) (now (a .loads)) (now (a .copies)) (a .racks) (a .size) (a .capacity) (a .blocks)
+    SceneOf p (now (a .words)) (now (a .shares)) (now (a .spreads)) (now (a .loads)) (now (a .used)) (a .grid .racks) (a .grid .size) (a .grid .capacity) (a .grid .blocks)
     → (later : Step) → s ≡ later
     → s ≡ orStep (kindOf p (now (a .words)) false false) (orStep (kindOf p (now (a .words)) true false) later)
 past-swap c p scene later e =
@@ -31,7 +31,7 @@ past-swap c p scene later e =
 
 past-rack-move : {s : Step} (c : tie.Else3) (p : Plan)
     → let a = c .before .before .before .before .before .before .before .before .before .before .before .before .before .before .before .args in
-    SceneOf p (now (a .words)) (now (a .shares)) (now (a .spreads)) (now (a .loads)) (now (a .copies)) (a .racks) (a .size) (a .capacity) (a .blocks)
+    SceneOf p (now (a .words)) (now (a .shares)) (now (a .spreads)) (now (a .loads)) (now (a .used)) (a .grid .racks) (a .grid .size) (a .grid .capacity) (a .grid .blocks)
     → (later : Step) → s ≡ later
     → s ≡ orStep (kindOf p (now (a .words)) false false) (orStep (kindOf p (now (a .words)) true false) (orStep (kindOf p (now (a .words)) false true) later))
 past-rack-move c p scene later e =

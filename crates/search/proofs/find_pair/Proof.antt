@@ -18,10 +18,10 @@ use Rattle.search.proofs.find_pair.Tie as tie
 -- past the first test the pair is of the kind
 kind-here : (c : tie.Else1)
     → let a = c .before .before .before .before .before .before .before .before .args in
-    true ≡ Bool·beq (a .across) (not (eqb (a .m / a .size) (a .n / a .size)))
+    true ≡ Bool·beq (a .row .across) (not (eqb (a .row .m / a .grid .size) (a .n / a .grid .size)))
 kind-here c =
     let start = c .before .before .before .before .before .before .before .before in
-    sym (not-false _ (c .if1 .left)) ∙ c .before .of-kind .ensures (start .args .m) (start .pre .low-is)
+    sym (not-false _ (c .if1 .left)) ∙ c .before .of-kind .ensures (start .args .row .m) (start .pre .low-is)
 
 of-kind-requires : tie.Need-of-kind-requires
 of-kind-requires c κs =
@@ -31,8 +31,8 @@ of-kind-requires c κs =
     let a = start .args in
     record {
       size-pos = ranges .size-pos;
-      low-small = omega (arith, at .low-is, div-add-mod' (a .m) (a .size), at .m-below, ranges .machines-max);
-      size-small = omega (arith, mul-le-mul {n₁ = 1} {m₁ = a .size} {n₂ = a .racks} {m₂ = a .size} (ranges .racks-pos) (le-refl (a .size)), ranges .machines-max);
+      low-small = omega (arith, at .low-is, div-add-mod' (a .row .m) (a .grid .size), at .m-below, ranges .machines-max);
+      size-small = omega (arith, mul-le-mul {n₁ = 1} {m₁ = a .grid .size} {n₂ = a .grid .racks} {m₂ = a .grid .size} (ranges .racks-pos) (le-refl (a .grid .size)), ranges .machines-max);
     }
 
 returns : tie.Need-returns
@@ -44,8 +44,8 @@ returns c =
     record {
       sound = tt;
       is = λ p scene.
-          other-kind p (now (a .words)) _ _ _ _ _ _ _ _ scene (a .swapping) (a .across) (a .m) (a .n) (at .m-below) (at .n-below)
-          (sym (not-true _ (c .if1 .taken)) ∙ c .before .of-kind .ensures (a .m) (at .low-is));
+          other-kind p (now (a .words)) _ _ _ _ _ _ _ _ scene (a .row .swapping) (a .row .across) (a .row .m) (a .n) (at .m-below) (at .n-below)
+          (sym (not-true _ (c .if1 .taken)) ∙ c .before .of-kind .ensures (a .row .m) (at .low-is));
     }
 
 mul-if2 : tie.Need-mul-if2
@@ -70,8 +70,8 @@ returns-2 c =
     record {
       sound = tt;
       is = λ p scene.
-          no-gap p (now (a .words)) _ _ _ _ _ _ _ _ scene (a .swapping) (a .across) (a .m) (a .n) (at .m-below) (at .n-below) (c .if2 .taken)
-          ∙ this-kind p (now (a .words)) _ _ _ _ _ _ _ _ scene (a .swapping) (a .across) (a .m) (a .n) (at .m-below) (at .n-below) (kind-here e);
+          no-gap p (now (a .words)) _ _ _ _ _ _ _ _ scene (a .row .swapping) (a .row .across) (a .row .m) (a .n) (at .m-below) (at .n-below) (c .if2 .taken)
+          ∙ this-kind p (now (a .words)) _ _ _ _ _ _ _ _ scene (a .row .swapping) (a .row .across) (a .row .m) (a .n) (at .m-below) (at .n-below) (kind-here e);
     }
 
 mul-gap : tie.Need-mul-gap
@@ -95,7 +95,7 @@ find-swap-requires c κs =
     let start = e .before .before .before .before .before .before .before .before in
     let a = start .args in
     let at = start .pre in
-    pair-asked _ _ _ _ _ _ _ _ _ _ _ _ _ _ at (kind-here e) (omega (arith, at .all .ranges .load-narrow (a .m) (omega (arith, at .m-below, at .all .ranges .machines-max))))
+    pair-asked _ _ _ _ _ _ _ _ _ _ _ _ _ _ at (kind-here e) (omega (arith, at .all .ranges .load-narrow (a .row .m) (omega (arith, at .m-below, at .all .ranges .machines-max))))
 
 returns-3 : tie.Need-returns-3
 returns-3 c =
@@ -107,9 +107,9 @@ returns-3 c =
     record {
       sound = found .sound;
       is = λ p scene.
-          found .is p (pair-scene p (now (a .words)) _ _ _ _ _ _ _ _ scene (a .swapping) (a .across) (a .m) (a .n) (at .m-below) (at .n-below) _ (omega arith))
-          ∙ ap (λ (kind : Bool). pairStep p (now (a .words)) kind (a .across) (a .m) (a .n)) (sym (c .before .if3 .taken))
-          ∙ this-kind p (now (a .words)) _ _ _ _ _ _ _ _ scene (a .swapping) (a .across) (a .m) (a .n) (at .m-below) (at .n-below) (kind-here e);
+          found .is p (pair-scene p (now (a .words)) _ _ _ _ _ _ _ _ scene (a .row .swapping) (a .row .across) (a .row .m) (a .n) (at .m-below) (at .n-below) _ (omega arith))
+          ∙ ap (λ (kind : Bool). pairStep p (now (a .words)) kind (a .row .across) (a .row .m) (a .n)) (sym (c .before .if3 .taken))
+          ∙ this-kind p (now (a .words)) _ _ _ _ _ _ _ _ scene (a .row .swapping) (a .row .across) (a .row .m) (a .n) (at .m-below) (at .n-below) (kind-here e);
     }
 
 mul-if4 : tie.Need-mul-if4
@@ -121,29 +121,29 @@ shared-slice-read-if4 c = search needs
 returns-4 : tie.Need-returns-4
 unfolding hitOf
 returns-4 c =
-    let e = c .before .before .before .before .before .before .before .before in
+    let e = c .before .before .before .before .before .before .before .before .before in
     let start = e .before .before .before .before .before .before .before .before in
     let a = start .args in
     let at = start .pre in
     record {
       sound = tt;
       is = λ p scene.
-          no-room p (now (a .words)) _ _ _ _ _ _ _ _ scene (a .swapping) (a .across) (a .m) (a .n) (at .m-below) (at .n-below) (c .if4 .taken)
-          ∙ ap (λ (kind : Bool). pairStep p (now (a .words)) kind (a .across) (a .m) (a .n)) (sym (c .before .before .if3 .left))
-          ∙ this-kind p (now (a .words)) _ _ _ _ _ _ _ _ scene (a .swapping) (a .across) (a .m) (a .n) (at .m-below) (at .n-below) (kind-here e);
+          no-room p (now (a .words)) _ _ _ _ _ _ _ _ scene (a .row .swapping) (a .row .across) (a .row .m) (a .n) (at .m-below) (at .n-below) (omega (arith, c .if4 .taken))
+          ∙ ap (λ (kind : Bool). pairStep p (now (a .words)) kind (a .row .across) (a .row .m) (a .n)) (sym (c .before .before .before .if3 .left))
+          ∙ this-kind p (now (a .words)) _ _ _ _ _ _ _ _ scene (a .row .swapping) (a .row .across) (a .row .m) (a .n) (at .m-below) (at .n-below) (kind-here e);
     }
 
 find-move-requires : tie.Need-find-move-requires
 find-move-requires c κs =
-    let e = c .before .before .before .before .before .before .before .before in
+    let e = c .before .before .before .before .before .before .before .before .before in
     let start = e .before .before .before .before .before .before .before .before in
     let a = start .args in
     let at = start .pre in
-    pair-asked _ _ _ _ _ _ _ _ _ _ _ _ _ _ at (kind-here e) (omega (arith, at .all .ranges .load-narrow (a .m) (omega (arith, at .m-below, at .all .ranges .machines-max))))
+    pair-asked _ _ _ _ _ _ _ _ _ _ _ _ _ _ at (kind-here e) (omega (arith, at .all .ranges .load-narrow (a .row .m) (omega (arith, at .m-below, at .all .ranges .machines-max))))
 
 returns-5 : tie.Need-returns-5
 returns-5 c =
-    let e = c .before .before .before .before .before .before .before .before .before in
+    let e = c .before .before .before .before .before .before .before .before .before .before in
     let start = e .before .before .before .before .before .before .before .before in
     let a = start .args in
     let at = start .pre in
@@ -153,9 +153,9 @@ returns-5 c =
       is = λ p scene.
           let room : used p (now (a .words)) (a .n) < p .capacity =
           rw (scene .used-are (a .n) (in-plan p (now (a .words)) _ _ _ _ _ _ _ _ scene (a .n) (at .n-below)), scene .capacity-is) at (c .before .if4 .left) in
-          found .is p (pair-scene p (now (a .words)) _ _ _ _ _ _ _ _ scene (a .swapping) (a .across) (a .m) (a .n) (at .m-below) (at .n-below) _ (omega arith)) room
-          ∙ ap (λ (kind : Bool). pairStep p (now (a .words)) kind (a .across) (a .m) (a .n)) (sym (c .before .before .before .if3 .left))
-          ∙ this-kind p (now (a .words)) _ _ _ _ _ _ _ _ scene (a .swapping) (a .across) (a .m) (a .n) (at .m-below) (at .n-below) (kind-here e);
+          found .is p (pair-scene p (now (a .words)) _ _ _ _ _ _ _ _ scene (a .row .swapping) (a .row .across) (a .row .m) (a .n) (at .m-below) (at .n-below) _ (omega (arith, c .before .before .before .before .before .before .before .if2 .left))) room
+          ∙ ap (λ (kind : Bool). pairStep p (now (a .words)) kind (a .row .across) (a .row .m) (a .n)) (sym (c .before .before .before .before .if3 .left))
+          ∙ this-kind p (now (a .words)) _ _ _ _ _ _ _ _ scene (a .row .swapping) (a .row .across) (a .row .m) (a .n) (at .m-below) (at .n-below) (kind-here e);
     }
 
 pub find-pair-spec : {M : Type 1} → statement M

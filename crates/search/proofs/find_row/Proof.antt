@@ -1,9 +1,8 @@
 -- `search::find_row` meets its contract. The loop's invariant: the definition finds nothing at the machines passed.
 -- Assumes nothing.
-use mathlib.Core.Path.{_≡_, refl, ap, sym, _∙_}
+use mathlib.Core.Path.{_≡_, ap, sym, _∙_}
 use mathlib.Core.Bool.{false}
 use Prim.Native.Nat.{ℕ, _*_, _-_, _<_, _≤_}
-use native.Mathlib.Nat.{div-add-mod'}
 use native.Mathlib.Omega.{arith}
 use borrow.Author.Needs.{needs}
 use borrow.Author.Count.{below-more}
@@ -18,20 +17,14 @@ use Rattle.search.proofs.find_row.Statement.{statement}
 use Rattle.search.proofs.find_row.Tie as tie
 
 abbrev Inv-loop : tie.InvT-loop
-Inv-loop words shares spreads on loads copies racks size capacity blocks swapping across m low machines n₀ n =
-    (n ≤ racks * size)
-    × ((k : ℕ) → k < n → (p : Plan) → SceneOf p words shares spreads loads copies racks size capacity blocks
-    → isStep (pairOf p words swapping across m k) ≡ false)
+Inv-loop words shares spreads on loads used grid row machines n₀ n =
+    (n ≤ grid .racks * grid .size)
+    × ((k : ℕ) → k < n → (p : Plan) → SceneOf p words shares spreads loads used (grid .racks) (grid .size) (grid .capacity) (grid .blocks)
+    → isStep (pairOf p words (row .swapping) (row .across) (row .m) k) ≡ false)
 
 abbrev μ-loop : tie.MeasureT-loop
-μ-loop words shares spreads on loads copies racks size capacity blocks swapping across m low machines n₀ n =
-    racks * size - n
-
-div-low : tie.Need-div-low Inv-loop μ-loop
-div-low c = omega arith
-
-mul-low : tie.Need-mul-low Inv-loop μ-loop
-mul-low c = omega (arith, div-add-mod' (c .before .before .before .before .before .before .args .m) (c .before .before .before .before .before .before .args .size))
+μ-loop words shares spreads on loads used grid row machines n₀ n =
+    grid .racks * grid .size - n
 
 mul-machines : tie.Need-mul-machines Inv-loop μ-loop
 mul-machines c = omega arith
@@ -41,8 +34,8 @@ loop-holds c = (omega arith, λ k l. absurd (omega arith))
 
 find-pair-requires : tie.Need-find-pair-requires Inv-loop μ-loop
 find-pair-requires c κs =
-    let start = c .before .before .before .before .before .before .before .before in
-    record { all = start .pre .all; m-below = start .pre .m-below; n-below = c .loop-test .taken; low-is = refl }
+    let start = c .before .before .before .before .before .before .before .before .before in
+    record { all = start .pre .all; m-below = start .pre .m-below; n-below = c .loop-test .taken; low-is = start .pre .low-is }
 
 is-found-requires : tie.Need-is-found-requires Inv-loop μ-loop
 is-found-requires c κs = search needs
@@ -51,14 +44,14 @@ returns : tie.Need-returns Inv-loop μ-loop
 unfolding rowOf
 returns c =
     let at = c .before .before .before .before in
-    let a = at .before .before .before .before .before .before .before .args in
+    let a = at .before .before .before .before .before .before .before .before .args in
     let found = c .before .before .find-pair in
     record {
       sound = found .ensures .sound;
       is = λ p scene.
-          sym (step-found (machines p) (at .loop .n) (pairOf p (now (a .words)) (a .swapping) (a .across) (a .m)) (hitOf (a .across) (found .result))
+          sym (step-found (machines p) (at .loop .n) (pairOf p (now (a .words)) (a .row .swapping) (a .row .across) (a .row .m)) (hitOf (a .row .across) (found .result))
           (in-plan p (now (a .words)) _ _ _ _ _ _ _ _ scene (at .loop .n) (c .before .before .before .loop-test .taken))
-          (λ k l. at .loop .inv .1 k l p scene) (sym (found .ensures .is p scene)) (c .before .is-found .ensures (a .across) ∙ c .if1 .taken));
+          (λ k l. at .loop .inv .1 k l p scene) (sym (found .ensures .is p scene)) (c .before .is-found .ensures (a .row .across) ∙ c .if1 .taken));
     }
 
 add-n : tie.Need-add-n Inv-loop μ-loop
@@ -70,22 +63,22 @@ loop-less c = omega arith
 loop-again : tie.Need-loop-again Inv-loop μ-loop
 loop-again c =
     let at = c .before .before .before .before in
-    let a = at .before .before .before .before .before .before .before .args in
+    let a = at .before .before .before .before .before .before .before .before .args in
     let found = c .before .before .find-pair in (
       omega arith,
       below-more _ (at .loop .n) (at .loop .inv .1)
-          (λ p scene. ap isStep (sym (found .ensures .is p scene)) ∙ c .before .is-found .ensures (a .across) ∙ c .if1 .left),
+          (λ p scene. ap isStep (sym (found .ensures .is p scene)) ∙ c .before .is-found .ensures (a .row .across) ∙ c .if1 .left),
     )
 
 returns-2 : tie.Need-returns-2 Inv-loop μ-loop
 unfolding hitOf rowOf
 returns-2 c =
     let at = c .before in
-    let a = at .before .before .before .before .before .before .before .args in
+    let a = at .before .before .before .before .before .before .before .before .args in
     record {
       sound = tt;
       is = λ p scene.
-          sym (none-found (machines p) (pairOf p (now (a .words)) (a .swapping) (a .across) (a .m))
+          sym (none-found (machines p) (pairOf p (now (a .words)) (a .row .swapping) (a .row .across) (a .row .m))
           (λ k l. let b = of-plan p (now (a .words)) _ _ _ _ _ _ _ _ scene k l in at .loop .inv .1 k (omega arith) p scene));
     }
 
@@ -95,8 +88,6 @@ find-row-spec =
     (tie.spec
     Inv-loop
     μ-loop
-    div-low
-    mul-low
     mul-machines
     loop-holds
     find-pair-requires

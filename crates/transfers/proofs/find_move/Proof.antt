@@ -16,14 +16,14 @@ use Rattle.transfers.proofs.find_move.Statement.{statement}
 use Rattle.transfers.proofs.find_move.Tie as tie
 
 abbrev Inv-loop : tie.InvT-loop
-Inv-loop words shares spreads on racks size blocks across m n gap i₀ i =
+Inv-loop words shares spreads on grid pair m n blocks i₀ i =
     ((k : ℕ) → k < i → k < blocks
-    → (p : Plan) → PairScene p words shares spreads racks size blocks m n gap → canMove p words m n k ≡ false)
+    → (p : Plan) → PairScene p words shares spreads (grid .racks) (grid .size) blocks m n (pair .gap) → canMove p words m n k ≡ false)
     × (i < blocks → held words m i ≡ 1)
     × (i < blocks → held words n i ≡ 0)
 
 abbrev μ-loop : tie.MeasureT-loop
-μ-loop words shares spreads on racks size blocks across m n gap i₀ i = blocks - i
+μ-loop words shares spreads on grid pair m n blocks i₀ i = blocks - i
 
 next-requires : tie.Need-next-requires Inv-loop μ-loop
 next-requires c κs =
@@ -41,8 +41,8 @@ loop-holds c =
     let start = c .before .before .before .before .before in
     let asked = start .pre in
     let words = now (start .args .words) in
-    let ml : start .args .m < 64 = omega (arith, asked) in
-    let nl : start .args .n < 64 = omega (arith, asked) in (
+    let ml : start .args .pair .m < 64 = omega (arith, asked) in
+    let nl : start .args .pair .n < 64 = omega (arith, asked) in (
       λ k l b p scene. not-so _ (λ e.
           let z = move-holds p words _ _ _ _ _ _ _ _ scene (asked .m-below) (asked .n-below) k b e in
           candidate-passed words _ _ _ _ _ _ (asked .indexed) (c .next .ensures) ml nl k (omega arith) l b (z .0) (z .1)),
@@ -102,7 +102,7 @@ returns c =
           let passes =
           move-passes p words _ _ _ _ _ _ _ _ scene (asked .m-below) (asked .n-below) i below room (at .loop .inv .1 below) (at .loop .inv .2 below) test
           in
-          sym (move-found p words (start .args .across) (start .args .m) (start .args .n) i (rw (scene .blocks-is) at below) (λ k l. at .loop .inv .0 k l (omega arith) p scene) passes);
+          sym (move-found p words (start .args .pair .across) (start .args .pair .m) (start .args .pair .n) i (rw (scene .blocks-is) at below) (λ k l. at .loop .inv .0 k l (omega arith) p scene) passes);
     }
 
 add-next : tie.Need-add-next Inv-loop μ-loop
@@ -131,8 +131,8 @@ loop-again c =
     let asked = start .pre in
     let words = now (start .args .words) in
     let i = at .loop .i in
-    let ml : start .args .m < 64 = omega (arith, asked) in
-    let nl : start .args .n < 64 = omega (arith, asked) in (
+    let ml : start .args .pair .m < 64 = omega (arith, asked) in
+    let nl : start .args .pair .n < 64 = omega (arith, asked) in (
       λ k l b p scene. elim (decLt k i) [
         | yes before ↦ at .loop .inv .0 k before b p scene
         | no after ↦ elim (ℕ-discrete k i) [
@@ -157,7 +157,7 @@ returns-2 c =
     record {
       sound = tt;
       is = λ p scene room.
-          sym (move-none p words (start .args .across) (start .args .m) (start .args .n)
+          sym (move-none p words (start .args .pair .across) (start .args .pair .m) (start .args .pair .n)
           (λ k l. let b = rw (sym (scene .blocks-is)) at l in at .loop .inv .0 k (omega arith) b p scene));
     }
 

@@ -17,14 +17,14 @@ use Rattle.transfers.proofs.find_swap.Statement.{statement}
 use Rattle.transfers.proofs.find_swap.Tie as tie
 
 abbrev Inv-loop : tie.InvT-loop
-Inv-loop words shares spreads on racks size blocks across m n gap i₀ i =
-    ((k : ℕ) → k < i → k < blocks → (p : Plan) → PairScene p words shares spreads racks size blocks m n gap
+Inv-loop words shares spreads on grid pair m n blocks i₀ i =
+    ((k : ℕ) → k < i → k < blocks → (p : Plan) → PairScene p words shares spreads (grid .racks) (grid .size) blocks m n (pair .gap)
     → (j : ℕ) → j < blocks → canSwap p words m n k j ≡ false)
     × (i < blocks → held words m i ≡ 1)
     × (i < blocks → held words n i ≡ 0)
 
 abbrev μ-loop : tie.MeasureT-loop
-μ-loop words shares spreads on racks size blocks across m n gap i₀ i = blocks - i
+μ-loop words shares spreads on grid pair m n blocks i₀ i = blocks - i
 
 next-requires : tie.Need-next-requires Inv-loop μ-loop
 next-requires c κs =
@@ -42,8 +42,8 @@ loop-holds c =
     let start = c .before .before .before .before .before in
     let asked = start .pre in
     let words = now (start .args .words) in
-    let ml : start .args .m < 64 = omega (arith, asked) in
-    let nl : start .args .n < 64 = omega (arith, asked) in (
+    let ml : start .args .pair .m < 64 = omega (arith, asked) in
+    let nl : start .args .pair .n < 64 = omega (arith, asked) in (
       λ k l b p scene j jl. not-so _ (λ e.
           let z = swap-holds p words _ _ _ _ _ _ _ _ scene (asked .m-below) (asked .n-below) k b j jl e in
           candidate-passed words _ _ _ _ _ _ (asked .indexed) (c .next .ensures) ml nl k (omega arith) l b (z .0) (z .1)),
@@ -92,8 +92,8 @@ returns c =
         },
       );
       is = λ p scene.
-          let count : start .args .blocks ≡ blockCount p = scene .blocks-is in
-          sym (swap-found p words (start .args .across) (start .args .m) (start .args .n) i j (rw count at below) (rw count at jl)
+          let count : start .args .grid .blocks ≡ blockCount p = scene .blocks-is in
+          sym (swap-found p words (start .args .pair .across) (start .args .pair .m) (start .args .pair .n) i j (rw count at below) (rw count at jl)
           (λ k l h hl. at .loop .inv .0 k l (omega arith) p scene h (omega arith))
           (λ h l. found .passed h l (omega arith) p scene) (found .found jl p scene));
     }
@@ -124,8 +124,8 @@ loop-again c =
     let asked = start .pre in
     let words = now (start .args .words) in
     let i = at .loop .i in
-    let ml : start .args .m < 64 = omega (arith, asked) in
-    let nl : start .args .n < 64 = omega (arith, asked) in (
+    let ml : start .args .pair .m < 64 = omega (arith, asked) in
+    let nl : start .args .pair .n < 64 = omega (arith, asked) in (
       λ k l b p scene j jl. elim (decLt k i) [
         | yes before ↦ at .loop .inv .0 k before b p scene j jl
         | no after ↦ elim (ℕ-discrete k i) [
@@ -148,8 +148,8 @@ returns-2 c =
     record {
       sound = tt;
       is = λ p scene.
-          let count : start .args .blocks ≡ blockCount p = scene .blocks-is in
-          sym (swap-none p words (start .args .across) (start .args .m) (start .args .n)
+          let count : start .args .grid .blocks ≡ blockCount p = scene .blocks-is in
+          sym (swap-none p words (start .args .pair .across) (start .args .pair .m) (start .args .pair .n)
           (λ k l j jl. at .loop .inv .0 k (omega arith) (omega arith) p scene j (omega arith)));
     }
 

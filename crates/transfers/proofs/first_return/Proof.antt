@@ -15,14 +15,14 @@ use Rattle.transfers.proofs.first_return.Statement.{statement}
 use Rattle.transfers.proofs.first_return.Tie as tie
 
 abbrev Inv-loop : tie.InvT-loop
-Inv-loop words shares spreads on racks size blocks across m n gap given j₀ j =
+Inv-loop words shares spreads on grid pair given back blocks j₀ j =
     ((k : ℕ) → k < j → k < blocks
-    → (p : Plan) → PairScene p words shares spreads racks size blocks m n gap → Partner p words m n gap given k → ⊥)
-    × (j < blocks → held words n j ≡ 1)
-    × (j < blocks → held words m j ≡ 0)
+    → (p : Plan) → PairScene p words shares spreads (grid .racks) (grid .size) blocks (pair .m) (pair .n) (pair .gap) → Partner p words (pair .m) (pair .n) (pair .gap) given k → ⊥)
+    × (j < blocks → held words (pair .n) j ≡ 1)
+    × (j < blocks → held words (pair .m) j ≡ 0)
 
 abbrev μ-loop : tie.MeasureT-loop
-μ-loop words shares spreads on racks size blocks across m n gap given j₀ j = blocks - j
+μ-loop words shares spreads on grid pair given back blocks j₀ j = blocks - j
 
 next-requires : tie.Need-next-requires Inv-loop μ-loop
 next-requires c κs =
@@ -40,8 +40,8 @@ loop-holds c =
     let start = c .before .before .before .before .before in
     let asked = start .pre in
     let words = now (start .args .words) in
-    let ml : start .args .m < 64 = omega (arith, asked) in
-    let nl : start .args .n < 64 = omega (arith, asked) in (
+    let ml : start .args .pair .m < 64 = omega (arith, asked) in
+    let nl : start .args .pair .n < 64 = omega (arith, asked) in (
       λ k l b p scene t.
           candidate-passed words _ _ _ _ _ _ (asked .indexed) (c .next .ensures) nl ml k (omega arith) l b (t .holds) (t .lacks),
       candidate-holds words _ _ _ _ _ _ (asked .indexed) (c .next .ensures) nl ml,
@@ -78,7 +78,7 @@ returnable-requires c κs =
             n-below = asked .m-below;
             holds = at .loop .inv .1 below;
             lacks = at .loop .inv .2 below;
-            across-is = asked .across-is ∙ apart-sym (start .args .m / start .args .size) (start .args .n / start .args .size);
+            across-is = asked .across-is ∙ apart-sym (start .args .pair .m / start .args .grid .size) (start .args .pair .n / start .args .grid .size);
           };
       share-narrow = asked .share-narrow (at .loop .j) below;
       gap-narrow = asked .gap-narrow;
@@ -130,8 +130,8 @@ loop-again c =
     let asked = start .pre in
     let words = now (start .args .words) in
     let j = at .loop .j in
-    let ml : start .args .m < 64 = omega (arith, asked) in
-    let nl : start .args .n < 64 = omega (arith, asked) in (
+    let ml : start .args .pair .m < 64 = omega (arith, asked) in
+    let nl : start .args .pair .n < 64 = omega (arith, asked) in (
       λ k l b p scene t. elim (decLt k j) [
         | yes before ↦ at .loop .inv .0 k before b p scene t
         | no after ↦ elim (ℕ-discrete k j) [
