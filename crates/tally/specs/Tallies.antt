@@ -9,15 +9,19 @@ use Rattle.model.specs.Placement.{bit, held}
 use Rattle.tally.specs.declared.Tally.{Tally}
 
 -- Room for one more share and one more copy on every machine.
-pub record AddAsked (t : Tally) (share : ℕ) : Type 0 where
-  pub load-room : (m : ℕ) → m < 64 → getD (t .loads) m 0 < 2 ^ 62
-  pub used-room : (m : ℕ) → m < 64 → getD (t .used) m 0 < 2 ^ 62
+pub record AddAsked (loads used : List ℕ) (share : ℕ) : Type 0 where
+  pub loads-sized : length loads ≡ 64
+  pub used-sized : length used ≡ 64
+  pub load-room : (m : ℕ) → m < 64 → getD loads m 0 < 2 ^ 62
+  pub used-room : (m : ℕ) → m < 64 → getD used m 0 < 2 ^ 62
   pub share-narrow : share < 2 ^ 34
 
 -- Every machine that the word names has the share and the copy more.
-pub record AddedTo (t : Tally) (word share : ℕ) (r : Tally) : Type 0 where
-  pub load-is : (m : ℕ) → m < 64 → getD (r .loads) m 0 ≡ getD (t .loads) m 0 + bit word m * share
-  pub used-is : (m : ℕ) → m < 64 → getD (r .used) m 0 ≡ getD (t .used) m 0 + bit word m
+pub record AddedTo (loads used : List ℕ) (word share : ℕ) (loads' used' : List ℕ) : Type 0 where
+  pub loads-sized : length loads' ≡ 64
+  pub used-sized : length used' ≡ 64
+  pub load-is : (m : ℕ) → m < 64 → getD loads' m 0 ≡ getD loads m 0 + bit word m * share
+  pub used-is : (m : ℕ) → m < 64 → getD used' m 0 ≡ getD used m 0 + bit word m
 
 pub record TallyAsked (words shares : List ℕ) (blocks : ℕ) : Type 0 where
   pub blocks-max : blocks ≤ maxBlocks

@@ -12,20 +12,18 @@ pub struct Tally {
     pub used: [u64; 64],
 }
 
-// The tally with one more block, whose copies are the word's set bits.
-pub fn add_word(tally: Tally, word: u64, share: u64) -> Tally
-    requires { ⌜ AddAsked tally share ⌝ }
-    ensures { λ r. ⌜ AddedTo tally word share r ⌝ }
+// One more block counted, whose copies are the word's set bits.
+fn add_word(loads: &mut [u64], used: &mut [u64], word: u64, share: u64)
+    requires { ⌜ AddAsked (now loads) (now used) share ⌝ }
+    ensures { λ r. ⌜ AddedTo (now (loads .entry)) (now (used .entry)) word share (now (loads .exit)) (now (used .exit)) ⌝ }
 {
-    let mut t = tally;
     let mut rest = word;
     while rest != 0 {
         let m = bits::lowest(rest);
-        t.loads[m] = t.loads[m] + share;
-        t.used[m] = t.used[m] + 1;
+        loads[m] = loads[m] + share;
+        used[m] = used[m] + 1;
         rest = bits::without_bit(rest, m);
     }
-    t
 }
 
 // The tally of the first `blocks` words.
@@ -33,16 +31,14 @@ pub fn tally_words(words: &[u64], shares: &[u64], blocks: usize) -> Tally
     requires { ⌜ TallyAsked (now words) (now shares) blocks ⌝ }
     ensures { λ r. ⌜ Tallied (now (words .entry)) (now (shares .entry)) blocks r ⌝ }
 {
-    let mut t = Tally {
-        loads: [0u64; 64],
-        used: [0u64; 64],
-    };
+    let mut loads = [0u64; 64];
+    let mut used = [0u64; 64];
     let mut i: usize = 0;
     while i < blocks {
-        t = add_word(t, words[i], shares[i]);
+        add_word(&mut loads[..], &mut used[..], words[i], shares[i]);
         i += 1;
     }
-    t
+    Tally { loads, used }
 }
 
 // The largest load of the first `machines`.

@@ -6,7 +6,7 @@ use Prim.Native.Nat.{ℕ, _+_, _*_, _-_, _<_, _≤_, _^_}
 use native.Mathlib.Nat.{mul-le-mul-right}
 use native.Mathlib.Decide.{ℕ-discrete}
 use native.Mathlib.Omega.{arith}
-use lib.ListN.{length, getD, set, length-set, length-map}
+use lib.ListN.{length, getD, set, length-set}
 use lib.Seq.{getD-set-same, getD-set-other}
 use lib.Pow.{pow-pos}
 use Rattle.order.proofs.Sums.{delta-same, delta-other}
@@ -56,58 +56,54 @@ paid : {entry list : List ℕ} {word rest x : ℕ} → rest ≡ 0 → Owing entr
 paid e owing m l = let same = rw (e, bit-zero m) at (owing .is m l) in omega arith
 
 abbrev Inv-loop : tie.InvT-loop
-Inv-loop word share t₀ rest₀ t rest =
-    Owing (t₀ .loads) (t .loads) word rest share × Owing (t₀ .used) (t .used) word rest 1
+Inv-loop loads₀ used₀ word share rest₀ loads used rest = Owing loads₀ loads word rest share × Owing used₀ used word rest 1
 
 abbrev μ-loop : tie.MeasureT-loop
-μ-loop word share t₀ rest₀ t rest = rest
+μ-loop loads₀ used₀ word share rest₀ loads used rest = rest
 
 loop-holds : tie.Need-loop-holds Inv-loop μ-loop
 loop-holds c =
-    let held = c .good .0 .1 .1 in
-    let t = c .args .tally in (
-      record { sized = sym (length-map (t .loads) (λ v. v)) ∙ held .0 .1 .0 .1; is = λ m l. refl },
-      record { sized = sym (length-map (t .used) (λ v. v)) ∙ held .1 .0 .1 .0 .1; is = λ m l. refl },
-    )
+    let asked = c .before .before .pre in
+    (record { sized = asked .loads-sized; is = λ m l. refl }, record { sized = asked .used-sized; is = λ m l. refl })
 
 lowest-requires : tie.Need-lowest-requires Inv-loop μ-loop
 lowest-requires c κs = omega arith
 
-mul-t : tie.Need-mul-t Inv-loop μ-loop
-mul-t c = omega arith
+mul-loads : tie.Need-mul-loads Inv-loop μ-loop
+mul-loads c = omega arith
 
-element-copy-out-t : tie.Need-element-copy-out-t Inv-loop μ-loop
-element-copy-out-t c = omega arith
+slice-read-loads : tie.Need-slice-read-loads Inv-loop μ-loop
+slice-read-loads c = omega arith
 
-add-t : tie.Need-add-t Inv-loop μ-loop
-add-t c =
+add-loads : tie.Need-add-loads Inv-loop μ-loop
+add-loads c =
     let at = c .before .before .before in
     let low = c .before .lowest .ensures in
-    omega (arith, ungrown low (at .loop .inv .0), at .before .pre .load-room _ (low .below))
+    omega (arith, ungrown low (at .loop .inv .0), at .before .before .before .pre .load-room _ (low .below))
 
-mul-t-2 : tie.Need-mul-t-2 Inv-loop μ-loop
-mul-t-2 c = omega arith
+mul-loads-2 : tie.Need-mul-loads-2 Inv-loop μ-loop
+mul-loads-2 c = omega arith
 
-element-write-t : tie.Need-element-write-t Inv-loop μ-loop
-element-write-t c = omega arith
+slice-write-loads : tie.Need-slice-write-loads Inv-loop μ-loop
+slice-write-loads c = omega arith
 
-mul-t-3 : tie.Need-mul-t-3 Inv-loop μ-loop
-mul-t-3 c = omega arith
+mul-used : tie.Need-mul-used Inv-loop μ-loop
+mul-used c = omega arith
 
-element-copy-out-t-2 : tie.Need-element-copy-out-t-2 Inv-loop μ-loop
-element-copy-out-t-2 c = omega arith
+slice-read-used : tie.Need-slice-read-used Inv-loop μ-loop
+slice-read-used c = omega arith
 
-add-t-2 : tie.Need-add-t-2 Inv-loop μ-loop
-add-t-2 c =
+add-used : tie.Need-add-used Inv-loop μ-loop
+add-used c =
     let at = c .before .before .before .before in
     let low = c .before .before .lowest .ensures in
-    omega (arith, ungrown low (at .loop .inv .1), at .before .pre .used-room _ (low .below))
+    omega (arith, ungrown low (at .loop .inv .1), at .before .before .before .pre .used-room _ (low .below))
 
-mul-t-4 : tie.Need-mul-t-4 Inv-loop μ-loop
-mul-t-4 c = omega arith
+mul-used-2 : tie.Need-mul-used-2 Inv-loop μ-loop
+mul-used-2 c = omega arith
 
-element-write-t-2 : tie.Need-element-write-t-2 Inv-loop μ-loop
-element-write-t-2 c = omega arith
+slice-write-used : tie.Need-slice-write-used Inv-loop μ-loop
+slice-write-used c = omega arith
 
 without-bit-requires : tie.Need-without-bit-requires Inv-loop μ-loop
 without-bit-requires c κs = (omega arith, c .before .before .lowest .ensures .on)
@@ -124,10 +120,18 @@ loop-again c =
     let low = c .before .before .before .lowest .ensures in
     rw (c .without-bit .ensures) (step low (inv .0), step low (inv .1))
 
+same-length : tie.Need-same-length Inv-loop μ-loop
+same-length c = c .before .loop .inv .0 .sized ∙ sym (c .before .before .before .before .pre .loads-sized)
+
+same-length-2 : tie.Need-same-length-2 Inv-loop μ-loop
+same-length-2 c = c .before .loop .inv .1 .sized ∙ sym (c .before .before .before .before .pre .used-sized)
+
 returns : tie.Need-returns Inv-loop μ-loop
 returns c =
     let inv = c .before .loop .inv in
     record {
+      loads-sized = inv .0 .sized;
+      used-sized = inv .1 .sized;
       load-is = paid (c .loop-test .left) (inv .0);
       used-is = λ m l. paid (c .loop-test .left) (inv .1) m l ∙ (omega arith);
     }
@@ -140,17 +144,19 @@ add-word-spec =
     μ-loop
     loop-holds
     lowest-requires
-    mul-t
-    element-copy-out-t
-    add-t
-    mul-t-2
-    element-write-t
-    mul-t-3
-    element-copy-out-t-2
-    add-t-2
-    mul-t-4
-    element-write-t-2
+    mul-loads
+    slice-read-loads
+    add-loads
+    mul-loads-2
+    slice-write-loads
+    mul-used
+    slice-read-used
+    add-used
+    mul-used-2
+    slice-write-used
     without-bit-requires
     loop-less
     loop-again
+    same-length
+    same-length-2
     returns)
