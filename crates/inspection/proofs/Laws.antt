@@ -16,14 +16,14 @@ use Rattle.theory.specs.Accepted.{Valid}
 use Rattle.tally.specs.declared.Tally.{Tally}
 use Rattle.survey.specs.Ready.{Ready}
 
-pub report-is : (p : Plan) (words shares spreads : List ℕ) (t : Tally) (top hottest coolest total : ℕ) → Valid p
+pub report-is : (p : Plan) (words shares spreads : List ℕ) (t : Tally) (top maximum minimum total : ℕ) → Valid p
     → Ready p words shares spreads t top
-    → hottest ≡ largest (machines p) (λ m. getD (t .loads) m 0)
-    → coolest ≡ smallest (machines p) (λ m. getD (t .loads) m 0)
+    → maximum ≡ largest (machines p) (λ m. getD (t .loads) m 0)
+    → minimum ≡ smallest (machines p) (λ m. getD (t .loads) m 0)
     → total ≡ sum (machines p) (λ m. getD (t .loads) m 0)
-    → _≡_ {A = Report} (record { hottest = hottest; coolest = coolest; total = total; top = top }) (reportOf p words)
+    → _≡_ {A = Report} (record { maximum = maximum; minimum = minimum; total = total; top = top }) (reportOf p words)
 unfolding reportOf maxLoad minLoad totalLoad
-report-is p words shares spreads t top hottest coolest total valid ready max-is min-is total-is =
+report-is p words shares spreads t top maximum minimum total valid ready max-is min-is total-is =
     let same : (m : ℕ) → m < machines p → getD (t .loads) m 0 ≡ load p words m = ready .loads-are in
     let e1 = max-is ∙ largest-cong (machines p) _ _ same in
     let e2 =
@@ -32,4 +32,4 @@ report-is p words shares spreads t top hottest coolest total valid ready max-is 
     in
     let e3 = total-is ∙ sum-cong (machines p) _ _ same in
     let e4 = ready .top-is in
-    λ i. record { hottest = e1 i; coolest = e2 i; total = e3 i; top = e4 i }
+    λ i. record { maximum = e1 i; minimum = e2 i; total = e3 i; top = e4 i }

@@ -3,13 +3,13 @@ use mathlib.Core.List.{List}
 use Prim.Native.Nat.{ℕ}
 use Rattle.model.specs.Calls.{Outcome, answered, refuse, Report as ReportOf}
 use Rattle.inspection.specs.declared.CheckAnswer.{CheckAnswer}
-use Rattle.inspection.specs.declared.CheckAnswer.the-variants.{Refused as CheckRefused, Lawful}
+use Rattle.inspection.specs.declared.CheckAnswer.the-variants.{Refused as CheckRefused, Feasible}
 use Rattle.inspection.specs.declared.ReportAnswer.{ReportAnswer}
 use Rattle.inspection.specs.declared.ReportAnswer.the-variants.{Refused as ReportRefused, Reported}
 
 unfoldable pub checkOutcome : CheckAnswer → List ℕ → Outcome ℕ
 checkOutcome (CheckRefused code) words = refuse code words
-checkOutcome (Lawful blocks) words = record { answer = answered blocks; items = words }
+checkOutcome (Feasible blocks) words = record { answer = answered blocks; items = words }
 
 unfoldable pub reportOutcome : ReportAnswer → List ℕ → Outcome ReportOf
 reportOutcome (ReportRefused code) words = refuse code words
@@ -17,6 +17,6 @@ reportOutcome (Reported r) words =
     record {
       answer =
           answered
-          (record { hottest = r .«max_load»; coolest = r .«min_load»; total = r .«total_load»; top = r .«max_share» });
+          (record { maximum = r .«max_load»; minimum = r .«min_load»; total = r .«total_load»; top = r .«max_share» });
       items = words;
     }

@@ -10,7 +10,7 @@ ghost use Rattle.inspection.specs.Entries.{checkOutcome, reportOutcome};
 // What a check answers: refused with its number, or the number of blocks that lie as they should.
 pub enum CheckAnswer {
     Refused(u8),
-    Lawful(usize),
+    Feasible(usize),
 }
 
 // Hottest load, coolest load, sum of loads, largest share.
@@ -36,7 +36,7 @@ fn check_accepted(bytes: &[u8], h: Header, words: &[u64]) -> CheckAnswer
     if survey.code != 0 {
         return CheckAnswer::Refused(survey.code);
     }
-    CheckAnswer::Lawful(h.blocks)
+    CheckAnswer::Feasible(h.blocks)
 }
 
 // Checks a placement of any words. It never writes.

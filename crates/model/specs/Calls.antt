@@ -78,14 +78,14 @@ checkCall bytes words =
 
 -- The report on a placement: hottest load, coolest load, sum of loads, largest share.
 pub record Report : Type 0 where
-  pub hottest : ℕ
-  pub coolest : ℕ
+  pub maximum : ℕ
+  pub minimum : ℕ
   pub total : ℕ
   pub top : ℕ
 
 unfoldable pub reportOf : Plan → List ℕ → Report
 reportOf p words =
-    record { hottest = maxLoad p words; coolest = minLoad p words; total = totalLoad p words; top = maxShare p words }
+    record { maximum = maxLoad p words; minimum = minLoad p words; total = totalLoad p words; top = maxShare p words }
 
 unfoldable pub reportCall : List ℕ → List ℕ → Outcome Report
 reportCall bytes words =

@@ -78,7 +78,7 @@ pub record Bounded (p : Plan) (words : List ℕ) : Type 0 where
 
 -- What holds after the calls, with the words held before them.
 pub record After (p : Plan) (before : List ℕ) (out : Played) : Type 0 where
-  pub lawful : Feasible p (chosen p) (out .words)
+  pub feasible : Feasible p (chosen p) (out .words)
   pub beyond : drop (blockCount p) (out .words) ≡ drop (blockCount p) before
   pub resting : SaysRest (out .reply) → AtRest p (out .words)
   pub bounded : AtRest p (out .words) → Bounded p (out .words)

@@ -56,13 +56,13 @@ allSpread p words = allb (blockCount p) (λ i. leb (blockOf p i .minRacks) (doma
 unfoldable pub allFit : Plan → List ℕ → Bool
 allFit p words = allb (machines p) (λ m. leb (used p words m) (p .capacity))
 
-unfoldable pub lawfulCounts : Plan → (ℕ → ℕ) → Bool
-lawfulCounts p count =
+unfoldable pub countsFeasible : Plan → (ℕ → ℕ) → Bool
+countsFeasible p count =
     allb (blockCount p) (λ i. leb (blockOf p i .minReplicas) (count i) && leb (count i) (upper p i))
     && leb (sum (blockCount p) count) (limit p)
 
-unfoldable pub lawful : Plan → List ℕ → Bool
-lawful p words = lawfulCounts p (countOf p words) && allWithin p words && allSpread p words && allFit p words
+unfoldable pub isFeasible : Plan → List ℕ → Bool
+isFeasible p words = countsFeasible p (countOf p words) && allWithin p words && allSpread p words && allFit p words
 
 -- Position t is machine (t mod R) × S + t div R.
 unfoldable pub position : Plan → ℕ → ℕ

@@ -8,7 +8,7 @@ use lib.ListN.{set}
 use Rattle.order.specs.Sum.{sum}
 use Rattle.order.specs.Search.{firstUp}
 use Rattle.model.specs.Plan.{Plan, machines, rackOf, blockCount}
-use Rattle.model.specs.Placement.{held, wordOf, used, lawful, load}
+use Rattle.model.specs.Placement.{held, wordOf, used, isFeasible, load}
 
 -- A step, or none. The first argument is whether m and n lie in different racks: Move and Swap are `move false` and `swap false`,
 -- RackMove and RackSwap `move true` and `swap true`. The others are m, n, i and, of a swap, j.
@@ -36,7 +36,7 @@ after words (swap racks m n i j) = afterSwap words m n i j
 -- A step must leave a lawful placement, and both machines' loads afterwards must be strictly below Lm.
 unfoldable pub improves : Plan → List ℕ → List ℕ → ℕ → ℕ → Bool
 improves p words later m n =
-    lawful p later && ltb (load p later m) (load p words m) && ltb (load p later n) (load p words m)
+    isFeasible p later && ltb (load p later m) (load p words m) && ltb (load p later n) (load p words m)
 
 abbrev pub holds : List ℕ → ℕ → ℕ → Bool
 holds words m i = eqb (held words m i) 1

@@ -17,7 +17,7 @@ use Rattle.model.specs.Placement.{bit, wordOf, replicas, domainsUsed, allWithin
 use Rattle.model.specs.Calls.{allCounted}
 use Rattle.theory.proofs.Bits.{bit-above-from}
 use Rattle.theory.proofs.Domains.{member, replicas-members}
-use Rattle.theory.proofs.Lawful.{within-iff}
+use Rattle.theory.proofs.FeasibleTests.{within-iff}
 use Rattle.review.specs.Handed.{Sizes, Counts, Spreads, Uses}
 
 -- a loop that tests: none yet, and one more that passes

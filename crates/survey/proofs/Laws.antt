@@ -12,7 +12,7 @@ use Rattle.model.specs.Replication.{share, chosen}
 use Rattle.model.specs.Placement.{held, used, shareOf}
 use Rattle.model.specs.Calls.{placementRefusal}
 use Rattle.theory.proofs.Held.{share-held, top-held, load-held}
-use Rattle.theory.proofs.Handed.{placement-lawful}
+use Rattle.theory.proofs.Handed.{placement-feasible}
 use Rattle.header.specs.declared.Header.{Header}
 use Rattle.plan.specs.Reading.{planOf, AcceptedHeader}
 use Rattle.counts.specs.Entry.{Prepared}
@@ -65,7 +65,7 @@ module _ (bytes : List ℕ) (h : Header) (laws : AcceptedHeader bytes h)
         → Ready (planOf bytes h) words shares spreads t top
     ready-of room none =
         let p = planOf bytes h in
-        let feasible = placement-lawful p (laws .valid) words none in
+        let feasible = placement-feasible p (laws .valid) words none in
         let shares-are : (i : ℕ) → i < blockCount p → getD shares i 0 ≡ shareOf p words i =
         λ i l. share-at i l ∙ share-held p (chosen p) words feasible i l
         in

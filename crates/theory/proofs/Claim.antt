@@ -116,7 +116,7 @@ module _ (bytes : List ℕ) (p : Plan) (reads : judge bytes ≡ accepted p) (bef
     after-refused call (code, e) =
         let same = does-refused call words code e in
         record {
-          lawful = rw same (held .lawful);
+          feasible = rw same (held .feasible);
           beyond = rw same (held .beyond);
           resting = λ says. absurd (refused-silent _ code e says);
           bounded = rw same (held .bounded);
@@ -125,7 +125,7 @@ module _ (bytes : List ℕ) (p : Plan) (reads : judge bytes ≡ accepted p) (bef
     module _ (lent : ℕ) (enough : blockCount p ≤ lent) where
       lent-feasible : Feasible p (chosen p) (take lent words)
       lent-feasible =
-          agree-feasible p words (take lent words) (λ i l. sym (getD-take lent words i 0 (omega arith))) (chosen p) (held .lawful)
+          agree-feasible p words (take lent words) (λ i l. sym (getD-take lent words i 0 (omega arith))) (chosen p) (held .feasible)
 
       lent-passes : placementRefusal p (take lent words) ≡ 0
       lent-passes = placement-passes p valid (take lent words) lent-feasible
@@ -135,7 +135,7 @@ module _ (bytes : List ℕ) (p : Plan) (reads : judge bytes ≡ accepted p) (bef
           → After p before (record { reply = now; words = later ++ drop lent words })
       after-steps {later} taken now rests =
           record {
-            lawful = lawful;
+            feasible = joined-feasible;
             beyond =
                 past later feasible
                 ∙ ap (λ (s : List ℕ). s ++ drop lent words) (taken-past p taken)
@@ -143,7 +143,7 @@ module _ (bytes : List ℕ) (p : Plan) (reads : judge bytes ≡ accepted p) (bef
                 ∙ ap (drop (blockCount p)) (take-append-drop lent words)
                 ∙ held .beyond;
             resting = λ says. agree-rest p later joined same (chosen p) feasible (rests says);
-            bounded = rest-bounded p valid (chosen p) joined lawful;
+            bounded = rest-bounded p valid (chosen p) joined joined-feasible;
           }
         where
           joined : List ℕ
@@ -157,8 +157,8 @@ module _ (bytes : List ℕ) (p : Plan) (reads : judge bytes ≡ accepted p) (bef
               let long = feasible-length p valid (chosen p) later feasible in
               sym (List·getD-append later (drop lent words) 0 i (omega arith))
 
-          lawful : Feasible p (chosen p) joined
-          lawful = agree-feasible p later joined same (chosen p) feasible
+          joined-feasible : Feasible p (chosen p) joined
+          joined-feasible = agree-feasible p later joined same (chosen p) feasible
 
           past : (s : List ℕ) → Feasible p (chosen p) s
               → drop (blockCount p) (s ++ drop lent words) ≡ drop (blockCount p) s ++ drop lent words
@@ -202,7 +202,7 @@ pub claim : Claim
 claim bytes p reads words feasible calls allowed =
     after-calls bytes p reads words calls words checked
     (record {
-      lawful = feasible;
+      feasible = feasible;
       beyond = refl;
       resting = λ says. absurd (checked-silent says);
       bounded = rest-bounded p (accepted-laws bytes p reads .valid) (chosen p) words feasible;

@@ -22,7 +22,7 @@ use Rattle.theory.proofs.Accepted.{refuse-zero, check12-zero}
 use Rattle.theory.proofs.Bits.{bit-zero}
 use Rattle.theory.proofs.Shares.{count-range}
 use Rattle.theory.proofs.Counts.{chosen-laws}
-use Rattle.theory.proofs.Lawful.{within-iff, spread-iff, fit-iff}
+use Rattle.theory.proofs.FeasibleTests.{within-iff, spread-iff, fit-iff}
 
 -- a block with copies has a word
 pub feasible-length : (p : Plan) → Valid p → (count : ℕ → ℕ) (words : List ℕ) → Feasible p count words → blockCount p ≤ length words
@@ -59,9 +59,9 @@ module _ (p : Plan) (valid : Valid p) (words : List ℕ) where
         fit-iff p words .1 (f .fits),
       )
 
-  pub placement-lawful : placementRefusal p words ≡ 0 → Feasible p (chosen p) words
+  pub placement-feasible : placementRefusal p words ≡ 0 → Feasible p (chosen p) words
   unfolding placementRefusal
-  placement-lawful e =
+  placement-feasible e =
       let z12 = check12-zero _ _ _ e in
       let z13 = refuse-zero (not (allWithin p words)) 12 _ (z12 .1) in
       let z14 = refuse-zero (not (allCounted p words)) 13 _ (z13 .1) in

@@ -9,7 +9,7 @@ pub mod FirstPlacement
 pub mod TotalLoad
 pub mod Exact
 pub mod Transfer
-pub mod Lawful
+pub mod FeasibleTests
 pub mod LocalTests
 pub mod NextStep
 pub mod Potential

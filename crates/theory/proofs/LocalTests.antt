@@ -18,7 +18,7 @@ use Rattle.model.specs.Placement.{bit, wordOf, held, domainsUsed, countOf, used
 use Rattle.model.specs.Steps.{afterMove, afterSwap, improves, canMove, canSwap}
 use Rattle.theory.specs.Local.{LocalMove, LocalSwap}
 use Rattle.theory.proofs.Bits.{bit-cases, shift-below}
-use Rattle.theory.proofs.Lawful.{lawful-iff, feasible-own}
+use Rattle.theory.proofs.FeasibleTests.{feasible-iff, feasible-own}
 use Rattle.theory.proofs.Transfer.{move-word, move-each, move-count, move-used, move-load-source, move-load-target, swap-word-i, swap-word-j, swap-each, swap-count, swap-used, swap-load-source, swap-load-target}
 
 -- The parts of the tests.
@@ -35,7 +35,7 @@ improves-iff : (p : Plan) (words later : List ℕ) (m n : ℕ)
     → (improves p words later m n ≡ true)
     ↔ ((Feasible p (countOf p later) later × (load p later m < load p words m)) × (load p later n < load p words m))
 unfolding improves
-improves-iff p words later m n = and-iff _ _ (and-iff _ _ (lawful-iff p later) (ltb-iff _ _)) (ltb-iff _ _)
+improves-iff p words later m n = and-iff _ _ (and-iff _ _ (feasible-iff p later) (ltb-iff _ _)) (ltb-iff _ _)
 
 move-iff : (p : Plan) (words : List ℕ) (m n i : ℕ)
     → (canMove p words m n i ≡ true)

@@ -11,7 +11,7 @@ use Rattle.order.specs.Table.{table}
 use Rattle.order.specs.Search.{firstUp, allb, largest}
 use Rattle.model.specs.Plan.{Plan, upper}
 use Rattle.model.specs.Replication.{limit, unit, share}
-use Rattle.model.specs.Placement.{bit, replicas, replicasIn, domainsUsed, used, allWithin, allSpread, allFit, lawfulCounts, lawful, shareOf, load, maxLoad}
+use Rattle.model.specs.Placement.{bit, replicas, replicasIn, domainsUsed, used, allWithin, allSpread, allFit, countsFeasible, isFeasible, shareOf, load, maxLoad}
 use Rattle.model.specs.Steps.{move, shifted, afterMove, afterSwap, after, improves, canMove, canSwap, pairs, nextMove, nextSwap, nextStep, run}
 
 abbrev tied : Plan
@@ -32,8 +32,8 @@ abbrev fours : List ℕ
 fours = 4 ∷ 4 ∷ 4 ∷ 1 ∷ 1 ∷ 1 ∷ 1 ∷ 4 ∷ 2 ∷ 2 ∷ 2 ∷ 2 ∷ []
 
 pub record Ties : Type 0 where
-  pub allowed : lawful tied sixes ≡ true
-  pub hottest : maxLoad tied sixes ≡ 6 * unit
+  pub allowed : isFeasible tied sixes ≡ true
+  pub maximum : maxLoad tied sixes ≡ 6 * unit
   -- a step is left, and it does not lower the largest load
   pub step-left : nextStep tied sixes ≡ move false 0 2 0
   pub no-lower : maxLoad tied (after sixes (move false 0 2 0)) ≡ 6 * unit
@@ -43,11 +43,11 @@ pub record Ties : Type 0 where
   pub best : maxLoad tied fours ≡ 4 * unit
 
 pub ties : Ties
-unfolding shifted afterMove afterSwap after improves canMove canSwap pairs nextMove nextSwap nextStep run bit replicas replicasIn domainsUsed used allWithin allSpread allFit lawfulCounts lawful shareOf load maxLoad share limit upper sum table firstUp allb largest
+unfolding shifted afterMove afterSwap after improves canMove canSwap pairs nextMove nextSwap nextStep run bit replicas replicasIn domainsUsed used allWithin allSpread allFit countsFeasible isFeasible shareOf load maxLoad share limit upper sum table firstUp allb largest
 ties =
     record {
       allowed = refl;
-      hottest = refl;
+      maximum = refl;
       step-left = refl;
       no-lower = refl;
       rests = refl;

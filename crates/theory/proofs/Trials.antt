@@ -11,7 +11,7 @@ use Rattle.order.specs.Search.{firstUp, least, allb, largest}
 use Rattle.model.specs.Plan.{upper, minTotal, field, blockIn, planIn}
 use Rattle.model.specs.Refusal.{check1, check2, check3, check4, check5, check6, check7, check8, check9, blockRefusal, blocksRefusal, check10, check11, check12, planRefusal, refusal, judge}
 use Rattle.model.specs.Replication.{limit, share, largestShare, need, reachable, figure, chosen}
-use Rattle.model.specs.Placement.{bit, replicas, replicasIn, domainsUsed, used, allWithin, allSpread, allFit, lawfulCounts, lawful, position, laidWord, firstWord, shareOf, load}
+use Rattle.model.specs.Placement.{bit, replicas, replicasIn, domainsUsed, used, allWithin, allSpread, allFit, countsFeasible, isFeasible, position, laidWord, firstWord, shareOf, load}
 use Rattle.model.specs.Steps.{shifted, afterMove, afterSwap, after, improves, canMove, canSwap, pairs, nextMove, nextSwap, nextStep, run}
 use Rattle.model.specs.Calls.{onPlan, unless, countsCall, firstCall, allCounted, placementRefusal, onPlacement, stepCall, runCall}
 use Rattle.theory.specs.Trials.{plan-H, plan-full, plan-Y, plan-Z, Trials}
@@ -42,7 +42,7 @@ figures =
     }
 
 pub trials : Trials
-unfolding countsCall firstCall stepCall runCall onPlan unless onPlacement placementRefusal allCounted judge refusal check1 check2 check3 check4 check5 check6 check7 planRefusal blocksRefusal blockRefusal check8 check9 check10 check11 planIn blockIn field upper minTotal check12 chosen largestShare position laidWord firstWord shifted afterMove afterSwap after improves canMove canSwap pairs nextMove nextSwap nextStep run bit replicas replicasIn domainsUsed used allWithin allSpread allFit lawfulCounts lawful shareOf load filled largest need share limit sum table least allb firstUp plan-H plan-full plan-Y plan-Z
+unfolding countsCall firstCall stepCall runCall onPlan unless onPlacement placementRefusal allCounted judge refusal check1 check2 check3 check4 check5 check6 check7 planRefusal blocksRefusal blockRefusal check8 check9 check10 check11 planIn blockIn field upper minTotal check12 chosen largestShare position laidWord firstWord shifted afterMove afterSwap after improves canMove canSwap pairs nextMove nextSwap nextStep run bit replicas replicasIn domainsUsed used allWithin allSpread allFit countsFeasible isFeasible shareOf load filled largest need share limit sum table least allb firstUp plan-H plan-full plan-Y plan-Z
 trials =
     record {
       H-accepted = refl;

@@ -11,7 +11,7 @@ use Rattle.model.specs.Calls.{checkCall, Outcome, answered}
 use Rattle.theory.proofs.Outcomes.{handed-back, handed-taken}
 use Rattle.plan.proofs.Laws.{accepted-header}
 use Rattle.inspection.specs.Entries.{checkOutcome}
-use Rattle.inspection.specs.declared.CheckAnswer.the-variants.{Lawful}
+use Rattle.inspection.specs.declared.CheckAnswer.the-variants.{Feasible}
 use Rattle.inspection.proofs.check_accepted.Statement.{statement}
 use Rattle.inspection.proofs.check_accepted.Tie as tie
 
@@ -39,7 +39,7 @@ returns-2 c =
     let a = c .before .before .before .before .before .before .before .before .before in
     let judged = c .before .before .before .before .survey-words .ensures in
     let laws = accepted-header _ _ (a .pre) in
-    ap (λ (blocks : ℕ). checkOutcome (Lawful blocks) (now (a .args .words))) (sym (laws .blocks-is))
+    ap (λ (blocks : ℕ). checkOutcome (Feasible blocks) (now (a .args .words))) (sym (laws .blocks-is))
     ∙ sym (handed-taken _ _ _ _ (a .pre) (sym (judged .code-is) ∙ c .if1 .left))
 
 pub check-accepted-spec : {M : Type 1} → statement M

@@ -11,7 +11,7 @@ use Rattle.order.proofs.Booleans.{and-iff, leb-iff, ltb-iff}
 use Rattle.order.proofs.Extremes.{allb-iff}
 use Rattle.model.specs.Plan.{Plan, machines, blockCount, blockOf, upper}
 use Rattle.model.specs.Replication.{limit, FeasibleCounts}
-use Rattle.model.specs.Placement.{wordOf, domainsUsed, countOf, used, Feasible, allWithin, allSpread, allFit, lawfulCounts, lawful}
+use Rattle.model.specs.Placement.{wordOf, domainsUsed, countOf, used, Feasible, allWithin, allSpread, allFit, countsFeasible, isFeasible}
 
 -- counts and placements that agree on the blocks
 pub recount : (p : Plan) (count other : ℕ → ℕ) → ((i : ℕ) → i < blockCount p → count i ≡ other i)
@@ -38,8 +38,8 @@ feasible-recount p count other words same f =
 pub feasible-own : (p : Plan) (count : ℕ → ℕ) (words : List ℕ) → Feasible p count words → Feasible p (countOf p words) words
 feasible-own p count words f = feasible-recount p count (countOf p words) words (λ i l. sym (f .counted i l)) f
 
-pub counts-iff : (p : Plan) (count : ℕ → ℕ) → (lawfulCounts p count ≡ true) ↔ FeasibleCounts p count
-unfolding lawfulCounts
+pub counts-iff : (p : Plan) (count : ℕ → ℕ) → (countsFeasible p count ≡ true) ↔ FeasibleCounts p count
+unfolding countsFeasible
 counts-iff p count =
     let parts =
     and-iff _ _
@@ -66,9 +66,9 @@ pub fit-iff : (p : Plan) (words : List ℕ) → (allFit p words ≡ true) ↔ ((
 unfolding allFit
 fit-iff p words = allb-iff (machines p) _ _ (λ m. leb-iff (used p words m) (p .capacity))
 
-pub lawful-iff : (p : Plan) (words : List ℕ) → (lawful p words ≡ true) ↔ Feasible p (countOf p words) words
-unfolding lawful
-lawful-iff p words =
+pub feasible-iff : (p : Plan) (words : List ℕ) → (isFeasible p words ≡ true) ↔ Feasible p (countOf p words) words
+unfolding isFeasible
+feasible-iff p words =
     let parts =
     and-iff _ _ (and-iff _ _ (and-iff _ _ (counts-iff p (countOf p words)) (within-iff p words)) (spread-iff p words)) (fit-iff p words)
     in (
