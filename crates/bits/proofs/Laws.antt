@@ -10,7 +10,7 @@ use native.Mathlib.Omega.{arith}
 use lib.Dec.{lit<}
 use lib.Arith.{lt-one}
 use lib.Pow.{pow-pos, shl-exact, shr-shr, mod-pow-add}
-use lib.Bits.{bitAnd, and-step, and-shr}
+use lib.Bits.{bitAnd, bitXor, and-step, and-shr, xor-step, xor-shr, differ}
 use lib.Count.{ones, ones-step, trailingZeros, under}
 use Rattle.order.specs.Sum.{sum}
 use Rattle.order.proofs.Sums.{sum-zero, sum-suc, sum-cong}
@@ -113,3 +113,18 @@ bit-and-not n a b h l k = bit-and a (2 ^ n - 1 - b) k ∙ go (bit-cases a k) (de
     go (inl off) m = rw (off, zero-mul (1 - bit b k)) (omega arith)
     go (inr on) (yes m) = rw (bit-not n b k l m, on, one-mul (1 - bit b k)) (omega arith)
     go (inr on) (no m) = let off = bit-above-from a n h k (omega arith) in absurd (omega arith)
+
+differ-parity : (x y : ℕ) → differ x y % 2 ≡ (x + y) % 2
+differ-parity zero y = omega arith
+differ-parity (suc x) zero = omega arith
+differ-parity (suc x) (suc y) = omega (arith, differ-parity x y)
+
+-- `a ^ b`: the bits that one has and the other lacks
+pub bit-xor : (a b k : ℕ) → bit (bitXor a b) k ≡ (bit a k + bit b k) % 2
+unfolding bit
+bit-xor a b k =
+    let u = a / 2 ^ k in
+    let v = b / 2 ^ k in
+    ap (λ (x : ℕ). x % 2) (xor-shr a b k ∙ xor-step u v)
+    ∙ mul-add-mod-self-right (bitXor (u / 2) (v / 2)) 2 (differ (u % 2) (v % 2))
+    ∙ differ-parity (u % 2) (v % 2)

@@ -1,6 +1,6 @@
 // Bits of a 64-bit word. Bit m of a placement's word says whether machine m holds the block.
 ghost use mathlib.Core.Path.{_≡_};
-ghost use Prim.Native.Nat.{ℕ, _+_, _*_, _-_, _<_, _≤_, _^_, min};
+ghost use Prim.Native.Nat.{ℕ, _+_, _*_, _-_, _%_, _<_, _≤_, _^_, min};
 ghost use lib.Dec.{ltb};
 ghost use Rattle.order.specs.Sum.{sum};
 ghost use Rattle.model.specs.Placement.{bit};
@@ -52,6 +52,13 @@ pub fn and_not(a: u64, b: u64) -> u64
     ensures { λ r. ⌜ ((k : ℕ) → bit r k ≡ bit a k * (1 - bit b k)) ⌝ }
 {
     a & !b
+}
+
+// The bits that one of a and b has and the other lacks.
+pub fn differing(a: u64, b: u64) -> u64
+    ensures { λ r. ⌜ ((k : ℕ) → bit r k ≡ (bit a k + bit b k) % 2) ⌝ }
+{
+    a ^ b
 }
 
 // The number of set bits.

@@ -10,7 +10,9 @@ use Rattle.model.specs.Refusal.{maxMachines, maxBlocks}
 use Rattle.model.specs.Placement.{used, Feasible, shareOf, load}
 use Rattle.model.specs.Steps.{Step as ModelStep, none, move, swap, acrossRacks, first, nextStep}
 use Rattle.theory.specs.Accepted.{Valid}
+use Rattle.ranking.specs.Ranks.{RankAsked, Ranked}
 use Rattle.candidates.specs.Index.{Indexed}
+use Rattle.screen.specs.Screen.{RankIndexed}
 use Rattle.transfers.specs.declared.Hit.{Hit}
 use Rattle.transfers.specs.Pair.{hitOf, pairStep, Shift, HitFound}
 use Rattle.tally.specs.declared.Tally.{Tally}
@@ -45,8 +47,9 @@ pub record Ranges (words shares spreads loads : List ℕ) (racks size blocks : �
   pub share-narrow : (i : ℕ) → i < blocks → getD shares i 0 < 2 ^ 34
   pub load-narrow : (m : ℕ) → m < maxMachines → getD loads m 0 < 2 ^ 45
 
-abbrev pub SearchAsked : List ℕ → List ℕ → List ℕ → Tally → ℕ → ℕ → ℕ → Type 0
-SearchAsked words shares spreads tally racks size blocks = Ranges words shares spreads (tally .loads) racks size blocks
+pub record SearchAsked (words shares spreads keys : List ℕ) (tally : Tally) (racks size blocks : ℕ) : Type 0 where
+  pub ranges : Ranges words shares spreads (tally .loads) racks size blocks
+  pub ranked : Ranked shares blocks keys
 
 -- The plan and the placement that the numbers are of.
 pub record SceneOf (p : Plan) (words shares spreads loads copies : List ℕ) (racks size capacity blocks : ℕ) : Type 0 where
@@ -101,19 +104,21 @@ unfoldable pub kindOf : Plan → List ℕ → Bool → Bool → ModelStep
 kindOf p words swapping across = first (machines p) (rowOf p words swapping across)
 
 -- What the loops are given besides the ranges.
-pub record LoopAsked (words shares spreads on loads copies : List ℕ) (racks size blocks : ℕ) : Type 0 where
+pub record LoopAsked (words shares spreads on by keys loads copies : List ℕ) (racks size blocks : ℕ) : Type 0 where
   pub ranges : Ranges words shares spreads loads racks size blocks
   pub loads-sized : length loads ≡ maxMachines
   pub copies-sized : length copies ≡ maxMachines
   pub indexed : Indexed words blocks on
+  pub ranked : Ranked shares blocks keys
+  pub rank-indexed : RankIndexed words keys blocks by
 
-pub record RowAsked (words shares spreads on loads copies : List ℕ) (racks size blocks low m : ℕ) : Type 0 where
-  pub all : LoopAsked words shares spreads on loads copies racks size blocks
+pub record RowAsked (words shares spreads on by keys loads copies : List ℕ) (racks size blocks low m : ℕ) : Type 0 where
+  pub all : LoopAsked words shares spreads on by keys loads copies racks size blocks
   pub m-below : m < racks * size
   pub low-is : low ≡ m / size * size
 
-pub record PairAt (words shares spreads on loads copies : List ℕ) (racks size blocks low m n : ℕ) : Type 0 where
-  pub all : LoopAsked words shares spreads on loads copies racks size blocks
+pub record PairAt (words shares spreads on by keys loads copies : List ℕ) (racks size blocks low m n : ℕ) : Type 0 where
+  pub all : LoopAsked words shares spreads on by keys loads copies racks size blocks
   pub m-below : m < racks * size
   pub n-below : n < racks * size
   pub low-is : low ≡ m / size * size

@@ -97,13 +97,15 @@ fn find_pair(
     shares: &[u64],
     spreads: &[u8],
     on: &[u64],
+    by: &[u64],
+    keys: &[u64],
     loads: &[u64],
     used: &[u64],
     grid: Grid,
     row: Row,
     n: usize,
 ) -> Hit
-    requires { ⌜ PairAt (now words) (now shares) (now spreads) (now on) (now loads) (now used)
+    requires { ⌜ PairAt (now words) (now shares) (now spreads) (now on) (now by) (now keys) (now loads) (now used)
         (grid .racks) (grid .size) (grid .blocks) (row .low) (row .m) n ⌝ }
     ensures { λ r. ⌜ HitIs (now (words .entry)) (now (shares .entry)) (now (spreads .entry)) (now (loads .entry)) (now (used .entry))
         (grid .racks) (grid .size) (grid .capacity) (grid .blocks) (row .across)
@@ -120,9 +122,15 @@ fn find_pair(
     let gap = loads[m] - loads[n];
     let pair = Pair { across, m, n, gap };
     if row.swapping {
+        if screen::no_exchange(by, keys, m, n, gap, grid.blocks) {
+            return Hit::Nothing;
+        }
         return transfers::find_swap(words, shares, spreads, on, grid, pair);
     }
     if grid.capacity <= used[n] {
+        return Hit::Nothing;
+    }
+    if screen::no_move(by, keys, m, n, gap, grid.blocks) {
         return Hit::Nothing;
     }
     transfers::find_move(words, shares, spreads, on, grid, pair)
@@ -134,12 +142,14 @@ fn find_row(
     shares: &[u64],
     spreads: &[u8],
     on: &[u64],
+    by: &[u64],
+    keys: &[u64],
     loads: &[u64],
     used: &[u64],
     grid: Grid,
     row: Row,
 ) -> Hit
-    requires { ⌜ RowAsked (now words) (now shares) (now spreads) (now on) (now loads) (now used)
+    requires { ⌜ RowAsked (now words) (now shares) (now spreads) (now on) (now by) (now keys) (now loads) (now used)
         (grid .racks) (grid .size) (grid .blocks) (row .low) (row .m) ⌝ }
     ensures { λ r. ⌜ HitIs (now (words .entry)) (now (shares .entry)) (now (spreads .entry)) (now (loads .entry)) (now (used .entry))
         (grid .racks) (grid .size) (grid .capacity) (grid .blocks) (row .across)
@@ -148,7 +158,19 @@ fn find_row(
     let machines = grid.racks * grid.size;
     let mut n: usize = 0;
     while n < machines {
-        let hit = find_pair(words, shares, spreads, on, loads, used, grid, row, n);
+        let hit = find_pair(
+            words,
+            shares,
+            spreads,
+            on,
+            by,
+            keys,
+            loads,
+            used,
+            grid,
+            row,
+            n,
+        );
         if is_found(hit) {
             return hit;
         }
@@ -163,13 +185,15 @@ fn find_kind(
     shares: &[u64],
     spreads: &[u8],
     on: &[u64],
+    by: &[u64],
+    keys: &[u64],
     loads: &[u64],
     used: &[u64],
     grid: Grid,
     swapping: bool,
     across: bool,
 ) -> Hit
-    requires { ⌜ LoopAsked (now words) (now shares) (now spreads) (now on) (now loads) (now used)
+    requires { ⌜ LoopAsked (now words) (now shares) (now spreads) (now on) (now by) (now keys) (now loads) (now used)
         (grid .racks) (grid .size) (grid .blocks) ⌝ }
     ensures { λ r. ⌜ HitIs (now (words .entry)) (now (shares .entry)) (now (spreads .entry)) (now (loads .entry)) (now (used .entry))
         (grid .racks) (grid .size) (grid .capacity) (grid .blocks) across
@@ -186,7 +210,7 @@ fn find_kind(
             low,
             m,
         };
-        let hit = find_row(words, shares, spreads, on, loads, used, grid, row);
+        let hit = find_row(words, shares, spreads, on, by, keys, loads, used, grid, row);
         if is_found(hit) {
             return hit;
         }
@@ -201,46 +225,98 @@ fn find_first(
     shares: &[u64],
     spreads: &[u8],
     on: &[u64],
+    by: &[u64],
+    keys: &[u64],
     loads: &[u64],
     used: &[u64],
     grid: Grid,
 ) -> Step
-    requires { ⌜ LoopAsked (now words) (now shares) (now spreads) (now on) (now loads) (now used)
+    requires { ⌜ LoopAsked (now words) (now shares) (now spreads) (now on) (now by) (now keys) (now loads) (now used)
         (grid .racks) (grid .size) (grid .blocks) ⌝ }
     ensures { λ r. ⌜ NextOfAll (now (words .entry)) (now (shares .entry)) (now (spreads .entry)) (now (loads .entry)) (now (used .entry))
         (grid .racks) (grid .size) (grid .capacity) (grid .blocks) r ⌝ }
 {
-    let near = find_kind(words, shares, spreads, on, loads, used, grid, false, false);
+    let near = find_kind(
+        words,
+        shares,
+        spreads,
+        on,
+        by,
+        keys,
+        loads,
+        used,
+        grid,
+        false,
+        false,
+    );
     if is_found(near) {
         return as_step(near, false);
     }
-    let swap = find_kind(words, shares, spreads, on, loads, used, grid, true, false);
+    let swap = find_kind(
+        words,
+        shares,
+        spreads,
+        on,
+        by,
+        keys,
+        loads,
+        used,
+        grid,
+        true,
+        false,
+    );
     if is_found(swap) {
         return as_step(swap, false);
     }
-    let far = find_kind(words, shares, spreads, on, loads, used, grid, false, true);
+    let far = find_kind(
+        words,
+        shares,
+        spreads,
+        on,
+        by,
+        keys,
+        loads,
+        used,
+        grid,
+        false,
+        true,
+    );
     if is_found(far) {
         return as_step(far, true);
     }
-    let last = find_kind(words, shares, spreads, on, loads, used, grid, true, true);
+    let last = find_kind(
+        words,
+        shares,
+        spreads,
+        on,
+        by,
+        keys,
+        loads,
+        used,
+        grid,
+        true,
+        true,
+    );
     as_step(last, true)
 }
 
-// The next step of the placement whose shares, spreads and tally these are.
+// The next step of the placement whose shares, spreads, order by share and tally these are.
 pub fn find(
     words: &[u64],
     shares: &[u64],
     spreads: &[u8],
+    keys: &[u64],
     tally: Tally,
     racks: usize,
     rack_size: usize,
     capacity: u64,
     blocks: usize,
 ) -> Step
-    requires { ⌜ SearchAsked (now words) (now shares) (now spreads) tally racks «rack_size» blocks ⌝ }
+    requires { ⌜ SearchAsked (now words) (now shares) (now spreads) (now keys) tally racks «rack_size» blocks ⌝ }
     ensures { λ r. ⌜ NextFound (now (words .entry)) (now (shares .entry)) (now (spreads .entry)) tally racks «rack_size» capacity blocks r ⌝ }
 {
     let on = candidates::index(words, blocks);
+    let by = screen::rank_index(words, keys, blocks);
     let loads = tally.loads;
     let used = tally.used;
     let grid = Grid {
@@ -249,5 +325,15 @@ pub fn find(
         capacity: capacity,
         blocks: blocks,
     };
-    find_first(words, shares, spreads, &on[..], &loads[..], &used[..], grid)
+    find_first(
+        words,
+        shares,
+        spreads,
+        &on[..],
+        &by[..],
+        keys,
+        &loads[..],
+        &used[..],
+        grid,
+    )
 }

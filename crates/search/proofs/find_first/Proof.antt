@@ -13,7 +13,7 @@ use Rattle.search.proofs.find_first.Tie as tie
 
 -- where the first kinds found nothing, the later ones are left
 past-move : {s : Step} (c : tie.Else1) (p : Plan)
-    → let a = c .before .before .before .before .before .before .before .before .before .args in
+    → let a = c .before .before .before .before .before .before .before .before .before .before .before .args in
     SceneOf p (now (a .words)) (now (a .shares)) (now (a .spreads)) (now (a .loads)) (now (a .used)) (a .grid .racks) (a .grid .size) (a .grid .capacity) (a .grid .blocks)
     → (later : Step) → s ≡ later
     → s ≡ orStep (kindOf p (now (a .words)) false false) later
@@ -21,7 +21,7 @@ past-move c p scene later e =
     pass-first _ _ _ later (c .before .is-found .ensures false ∙ c .if1 .left) (c .before .before .find-kind .ensures .is p scene) e
 
 past-swap : {s : Step} (c : tie.Else2) (p : Plan)
-    → let a = c .before .before .before .before .before .before .before .before .before .before .before .before .args in
+    → let a = c .before .before .before .before .before .before .before .before .before .before .before .before .before .before .args in
     SceneOf p (now (a .words)) (now (a .shares)) (now (a .spreads)) (now (a .loads)) (now (a .used)) (a .grid .racks) (a .grid .size) (a .grid .capacity) (a .grid .blocks)
     → (later : Step) → s ≡ later
     → s ≡ orStep (kindOf p (now (a .words)) false false) (orStep (kindOf p (now (a .words)) true false) later)
@@ -30,7 +30,7 @@ past-swap c p scene later e =
     (pass-first _ _ _ later (c .before .is-found2 .ensures false ∙ c .if2 .left) (c .before .before .find-kind2 .ensures .is p scene) e)
 
 past-rack-move : {s : Step} (c : tie.Else3) (p : Plan)
-    → let a = c .before .before .before .before .before .before .before .before .before .before .before .before .before .before .before .args in
+    → let a = c .before .before .before .before .before .before .before .before .before .before .before .before .before .before .before .before .before .args in
     SceneOf p (now (a .words)) (now (a .shares)) (now (a .spreads)) (now (a .loads)) (now (a .used)) (a .grid .racks) (a .grid .size) (a .grid .capacity) (a .grid .blocks)
     → (later : Step) → s ≡ later
     → s ≡ orStep (kindOf p (now (a .words)) false false) (orStep (kindOf p (now (a .words)) true false) (orStep (kindOf p (now (a .words)) false true) later))
@@ -49,7 +49,7 @@ as-step-requires c κs = search needs
 
 returns : tie.Need-returns
 returns c =
-    let words = now (c .before .before .before .before .before .before .before .before .before .before .args .words) in
+    let words = now (c .before .before .before .before .before .before .before .before .before .before .before .before .args .words) in
     record {
       sound = c .as-step .ensures .sound _ _ _ _ (c .before .before .before .find-kind .ensures .sound);
       is = λ p scene. c .as-step .ensures .is
@@ -69,7 +69,7 @@ as-step-requires-2 c κs = search needs
 
 returns-2 : tie.Need-returns-2
 returns-2 c =
-    let words = now (c .before .before .before .before .before .before .before .before .before .before .before .before .before .args .words) in
+    let words = now (c .before .before .before .before .before .before .before .before .before .before .before .before .before .before .before .args .words) in
     record {
       sound = c .as-step2 .ensures .sound _ _ _ _ (c .before .before .before .find-kind2 .ensures .sound);
       is = λ p scene. c .as-step2 .ensures .is
@@ -90,7 +90,7 @@ as-step-requires-3 c κs = search needs
 
 returns-3 : tie.Need-returns-3
 returns-3 c =
-    let words = now (c .before .before .before .before .before .before .before .before .before .before .before .before .before .before .before .before .args .words) in
+    let words = now (c .before .before .before .before .before .before .before .before .before .before .before .before .before .before .before .before .before .before .args .words) in
     record {
       sound = c .as-step3 .ensures .sound _ _ _ _ (c .before .before .before .find-kind3 .ensures .sound);
       is = λ p scene. c .as-step3 .ensures .is
@@ -101,14 +101,14 @@ returns-3 c =
     }
 
 find-kind-requires-4 : tie.Need-find-kind-requires-4
-find-kind-requires-4 c κs = search needs
+find-kind-requires-4 c κs = c .before .before .before .before .before .before .before .before .before .before .before .before .before .before .before .before .before .pre
 
 as-step-requires-4 : tie.Need-as-step-requires-4
 as-step-requires-4 c κs = search needs
 
 returns-4 : tie.Need-returns-4
 returns-4 c =
-    let words = now (c .before .before .before .before .before .before .before .before .before .before .before .before .before .before .before .before .before .args .words) in
+    let words = now (c .before .before .before .before .before .before .before .before .before .before .before .before .before .before .before .before .before .before .before .args .words) in
     record {
       sound = c .as-step4 .ensures .sound _ _ _ _ (c .before .find-kind4 .ensures .sound);
       is = λ p scene. c .as-step4 .ensures .is

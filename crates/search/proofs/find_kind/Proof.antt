@@ -18,13 +18,13 @@ use Rattle.search.proofs.find_kind.Statement.{statement}
 use Rattle.search.proofs.find_kind.Tie as tie
 
 abbrev Inv-loop : tie.InvT-loop
-Inv-loop words shares spreads on loads used grid swapping across size machines m₀ m =
+Inv-loop words shares spreads on by keys loads used grid swapping across size machines m₀ m =
     (m ≤ grid .racks * grid .size)
     × ((k : ℕ) → k < m → (p : Plan) → SceneOf p words shares spreads loads used (grid .racks) (grid .size) (grid .capacity) (grid .blocks)
     → isStep (rowOf p words swapping across k) ≡ false)
 
 abbrev μ-loop : tie.MeasureT-loop
-μ-loop words shares spreads on loads used grid swapping across size machines m₀ m = grid .racks * grid .size - m
+μ-loop words shares spreads on by keys loads used grid swapping across size machines m₀ m = grid .racks * grid .size - m
 
 mul-machines : tie.Need-mul-machines Inv-loop μ-loop
 mul-machines c = omega arith
@@ -38,12 +38,12 @@ div-low c = omega arith
 mul-low : tie.Need-mul-low Inv-loop μ-loop
 mul-low c =
     let at = c .before in
-    let a = at .before .before .before .before .before .before .before .before .args in
+    let a = at .before .before .before .before .before .before .before .before .before .before .args in
     omega (arith, div-add-mod' (at .loop .m) (a .grid .size))
 
 find-row-requires : tie.Need-find-row-requires Inv-loop μ-loop
 find-row-requires c κs =
-    let start = c .before .before .before .before .before .before .before .before .before in
+    let start = c .before .before .before .before .before .before .before .before .before .before .before in
     record { all = start .pre; m-below = c .loop-test .taken; low-is = refl }
 
 is-found-requires : tie.Need-is-found-requires Inv-loop μ-loop
@@ -53,7 +53,7 @@ returns : tie.Need-returns Inv-loop μ-loop
 unfolding kindOf
 returns c =
     let at = c .before .before .before .before in
-    let a = at .before .before .before .before .before .before .before .before .args in
+    let a = at .before .before .before .before .before .before .before .before .before .before .args in
     let found = c .before .before .find-row in
     record {
       sound = found .ensures .sound;
@@ -72,7 +72,7 @@ loop-less c = omega arith
 loop-again : tie.Need-loop-again Inv-loop μ-loop
 loop-again c =
     let at = c .before .before .before .before in
-    let a = at .before .before .before .before .before .before .before .before .args in
+    let a = at .before .before .before .before .before .before .before .before .before .before .args in
     let found = c .before .before .find-row in (
       omega arith,
       below-more _ (at .loop .m) (at .loop .inv .1)
@@ -83,7 +83,7 @@ returns-2 : tie.Need-returns-2 Inv-loop μ-loop
 unfolding hitOf kindOf
 returns-2 c =
     let at = c .before in
-    let a = at .before .before .before .before .before .before .before .before .args in
+    let a = at .before .before .before .before .before .before .before .before .before .before .args in
     record {
       sound = tt;
       is = λ p scene.

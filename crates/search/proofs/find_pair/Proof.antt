@@ -10,22 +10,22 @@ use denote.Ref.{now}
 use lib.Dec.{eqb}
 use Rattle.model.specs.Placement.{used}
 use Rattle.transfers.specs.Pair.{hitOf, pairStep}
-use Rattle.search.proofs.Laws.{pair-asked, in-plan, pair-scene, other-kind, this-kind, no-gap, no-room}
+use Rattle.search.proofs.Laws.{pair-asked, in-plan, pair-scene, other-kind, this-kind, no-gap, no-room, screen-asked, ruled-out-move, ruled-out-swap}
 use borrow.Author.Needs.{needs}
 use Rattle.search.proofs.find_pair.Statement.{statement}
 use Rattle.search.proofs.find_pair.Tie as tie
 
 -- past the first test the pair is of the kind
 kind-here : (c : tie.Else1)
-    → let a = c .before .before .before .before .before .before .before .before .args in
+    → let a = c .before .before .before .before .before .before .before .before .before .before .args in
     true ≡ Bool·beq (a .row .across) (not (eqb (a .row .m / a .grid .size) (a .n / a .grid .size)))
 kind-here c =
-    let start = c .before .before .before .before .before .before .before .before in
+    let start = c .before .before .before .before .before .before .before .before .before .before in
     sym (not-false _ (c .if1 .left)) ∙ c .before .of-kind .ensures (start .args .row .m) (start .pre .low-is)
 
 of-kind-requires : tie.Need-of-kind-requires
 of-kind-requires c κs =
-    let start = c .before .before .before .before .before .before in
+    let start = c .before .before .before .before .before .before .before .before in
     let at = start .pre in
     let ranges = at .all .ranges in
     let a = start .args in
@@ -38,7 +38,7 @@ of-kind-requires c κs =
 returns : tie.Need-returns
 unfolding hitOf
 returns c =
-    let start = c .before .before .before .before .before .before .before .before in
+    let start = c .before .before .before .before .before .before .before .before .before .before in
     let a = start .args in
     let at = start .pre in
     record {
@@ -64,7 +64,7 @@ returns-2 : tie.Need-returns-2
 unfolding hitOf
 returns-2 c =
     let e = c .before .before .before in
-    let start = e .before .before .before .before .before .before .before .before in
+    let start = e .before .before .before .before .before .before .before .before .before .before in
     let a = start .args in
     let at = start .pre in
     record {
@@ -89,62 +89,110 @@ shared-slice-read-gap-2 c = search needs
 sub-gap : tie.Need-sub-gap
 sub-gap c = search needs
 
-find-swap-requires : tie.Need-find-swap-requires
-find-swap-requires c κs =
+no-exchange-requires : tie.Need-no-exchange-requires
+no-exchange-requires c κs =
     let e = c .before .before .before .before .before .before in
-    let start = e .before .before .before .before .before .before .before .before in
+    let start = e .before .before .before .before .before .before .before .before .before .before in
     let a = start .args in
     let at = start .pre in
-    pair-asked _ _ _ _ _ _ _ _ _ _ _ _ _ _ at (kind-here e) (omega (arith, at .all .ranges .load-narrow (a .row .m) (omega (arith, at .m-below, at .all .ranges .machines-max))))
+    screen-asked _ _ _ _ _ _ _ _ _ _ _ _ _ _ _ at (omega (arith, at .all .ranges .load-narrow (a .row .m) (omega (arith, at .m-below, at .all .ranges .machines-max))))
 
 returns-3 : tie.Need-returns-3
+unfolding hitOf
 returns-3 c =
-    let e = c .before .before .before .before .before .before .before in
-    let start = e .before .before .before .before .before .before .before .before in
+    let e = c .before .before .before .before .before .before .before .before in
+    let start = e .before .before .before .before .before .before .before .before .before .before in
+    let a = start .args in
+    let at = start .pre in
+    record {
+      sound = tt;
+      is = λ p scene.
+          ruled-out-swap p (now (a .words)) _ _ _ _ _ _ _ _ scene (a .row .swapping) (a .row .across) (a .row .m) (a .n) (at .m-below) (at .n-below)
+          _ _ _ (at .all) _ (omega (arith, c .before .before .before .before .before .if2 .left)) (λ same. c .before .no-exchange .ensures (c .if4 .taken))
+          ∙ ap (λ (kind : Bool). pairStep p (now (a .words)) kind (a .row .across) (a .row .m) (a .n)) (sym (c .before .before .if3 .taken))
+          ∙ this-kind p (now (a .words)) _ _ _ _ _ _ _ _ scene (a .row .swapping) (a .row .across) (a .row .m) (a .n) (at .m-below) (at .n-below) (kind-here e);
+    }
+
+find-swap-requires : tie.Need-find-swap-requires
+find-swap-requires c κs =
+    let e = c .before .before .before .before .before .before .before .before in
+    let start = e .before .before .before .before .before .before .before .before .before .before in
+    let a = start .args in
+    let at = start .pre in
+    pair-asked _ _ _ _ _ _ _ _ _ _ _ _ _ _ _ _ at (kind-here e) (omega (arith, at .all .ranges .load-narrow (a .row .m) (omega (arith, at .m-below, at .all .ranges .machines-max))))
+
+returns-4 : tie.Need-returns-4
+returns-4 c =
+    let e = c .before .before .before .before .before .before .before .before .before in
+    let start = e .before .before .before .before .before .before .before .before .before .before in
     let a = start .args in
     let at = start .pre in
     let found = c .find-swap .ensures in
     record {
       sound = found .sound;
       is = λ p scene.
-          found .is p (pair-scene p (now (a .words)) _ _ _ _ _ _ _ _ scene (a .row .swapping) (a .row .across) (a .row .m) (a .n) (at .m-below) (at .n-below) _ (omega arith))
-          ∙ ap (λ (kind : Bool). pairStep p (now (a .words)) kind (a .row .across) (a .row .m) (a .n)) (sym (c .before .if3 .taken))
+          found .is p (pair-scene p (now (a .words)) _ _ _ _ _ _ _ _ scene (a .row .swapping) (a .row .across) (a .row .m) (a .n) (at .m-below) (at .n-below) _ (omega (arith, c .before .before .before .before .before .before .if2 .left)))
+          ∙ ap (λ (kind : Bool). pairStep p (now (a .words)) kind (a .row .across) (a .row .m) (a .n)) (sym (c .before .before .before .if3 .taken))
           ∙ this-kind p (now (a .words)) _ _ _ _ _ _ _ _ scene (a .row .swapping) (a .row .across) (a .row .m) (a .n) (at .m-below) (at .n-below) (kind-here e);
     }
 
-mul-if4 : tie.Need-mul-if4
-mul-if4 c = search needs
+mul-if5 : tie.Need-mul-if5
+mul-if5 c = search needs
 
-shared-slice-read-if4 : tie.Need-shared-slice-read-if4
-shared-slice-read-if4 c = search needs
+shared-slice-read-if5 : tie.Need-shared-slice-read-if5
+shared-slice-read-if5 c = search needs
 
-returns-4 : tie.Need-returns-4
+returns-5 : tie.Need-returns-5
 unfolding hitOf
-returns-4 c =
+returns-5 c =
     let e = c .before .before .before .before .before .before .before .before .before in
-    let start = e .before .before .before .before .before .before .before .before in
+    let start = e .before .before .before .before .before .before .before .before .before .before in
     let a = start .args in
     let at = start .pre in
     record {
       sound = tt;
       is = λ p scene.
-          no-room p (now (a .words)) _ _ _ _ _ _ _ _ scene (a .row .swapping) (a .row .across) (a .row .m) (a .n) (at .m-below) (at .n-below) (omega (arith, c .if4 .taken))
+          no-room p (now (a .words)) _ _ _ _ _ _ _ _ scene (a .row .swapping) (a .row .across) (a .row .m) (a .n) (at .m-below) (at .n-below) (omega (arith, c .if5 .taken))
           ∙ ap (λ (kind : Bool). pairStep p (now (a .words)) kind (a .row .across) (a .row .m) (a .n)) (sym (c .before .before .before .if3 .left))
+          ∙ this-kind p (now (a .words)) _ _ _ _ _ _ _ _ scene (a .row .swapping) (a .row .across) (a .row .m) (a .n) (at .m-below) (at .n-below) (kind-here e);
+    }
+
+no-move-requires : tie.Need-no-move-requires
+no-move-requires c κs =
+    let e = c .before .before .before .before .before .before .before .before .before in
+    let start = e .before .before .before .before .before .before .before .before .before .before in
+    let a = start .args in
+    let at = start .pre in
+    screen-asked _ _ _ _ _ _ _ _ _ _ _ _ _ _ _ at (omega (arith, at .all .ranges .load-narrow (a .row .m) (omega (arith, at .m-below, at .all .ranges .machines-max))))
+
+returns-6 : tie.Need-returns-6
+unfolding hitOf
+returns-6 c =
+    let e = c .before .before .before .before .before .before .before .before .before .before .before in
+    let start = e .before .before .before .before .before .before .before .before .before .before in
+    let a = start .args in
+    let at = start .pre in
+    record {
+      sound = tt;
+      is = λ p scene.
+          ruled-out-move p (now (a .words)) _ _ _ _ _ _ _ _ scene (a .row .swapping) (a .row .across) (a .row .m) (a .n) (at .m-below) (at .n-below)
+          _ _ _ (at .all) _ (omega (arith, c .before .before .before .before .before .before .before .before .if2 .left)) (λ same. c .before .no-move .ensures (c .if6 .taken))
+          ∙ ap (λ (kind : Bool). pairStep p (now (a .words)) kind (a .row .across) (a .row .m) (a .n)) (sym (c .before .before .before .before .before .if3 .left))
           ∙ this-kind p (now (a .words)) _ _ _ _ _ _ _ _ scene (a .row .swapping) (a .row .across) (a .row .m) (a .n) (at .m-below) (at .n-below) (kind-here e);
     }
 
 find-move-requires : tie.Need-find-move-requires
 find-move-requires c κs =
-    let e = c .before .before .before .before .before .before .before .before .before in
-    let start = e .before .before .before .before .before .before .before .before in
+    let e = c .before .before .before .before .before .before .before .before .before .before .before in
+    let start = e .before .before .before .before .before .before .before .before .before .before in
     let a = start .args in
     let at = start .pre in
-    pair-asked _ _ _ _ _ _ _ _ _ _ _ _ _ _ at (kind-here e) (omega (arith, at .all .ranges .load-narrow (a .row .m) (omega (arith, at .m-below, at .all .ranges .machines-max))))
+    pair-asked _ _ _ _ _ _ _ _ _ _ _ _ _ _ _ _ at (kind-here e) (omega (arith, at .all .ranges .load-narrow (a .row .m) (omega (arith, at .m-below, at .all .ranges .machines-max))))
 
-returns-5 : tie.Need-returns-5
-returns-5 c =
-    let e = c .before .before .before .before .before .before .before .before .before .before in
-    let start = e .before .before .before .before .before .before .before .before in
+returns-7 : tie.Need-returns-7
+returns-7 c =
+    let e = c .before .before .before .before .before .before .before .before .before .before .before .before in
+    let start = e .before .before .before .before .before .before .before .before .before .before in
     let a = start .args in
     let at = start .pre in
     let found = c .find-move .ensures in
@@ -152,9 +200,9 @@ returns-5 c =
       sound = found .sound;
       is = λ p scene.
           let room : used p (now (a .words)) (a .n) < p .capacity =
-          rw (scene .used-are (a .n) (in-plan p (now (a .words)) _ _ _ _ _ _ _ _ scene (a .n) (at .n-below)), scene .capacity-is) at (c .before .if4 .left) in
-          found .is p (pair-scene p (now (a .words)) _ _ _ _ _ _ _ _ scene (a .row .swapping) (a .row .across) (a .row .m) (a .n) (at .m-below) (at .n-below) _ (omega (arith, c .before .before .before .before .before .before .before .if2 .left))) room
-          ∙ ap (λ (kind : Bool). pairStep p (now (a .words)) kind (a .row .across) (a .row .m) (a .n)) (sym (c .before .before .before .before .if3 .left))
+          rw (scene .used-are (a .n) (in-plan p (now (a .words)) _ _ _ _ _ _ _ _ scene (a .n) (at .n-below)), scene .capacity-is) at (c .before .before .before .if5 .left) in
+          found .is p (pair-scene p (now (a .words)) _ _ _ _ _ _ _ _ scene (a .row .swapping) (a .row .across) (a .row .m) (a .n) (at .m-below) (at .n-below) _ (omega (arith, c .before .before .before .before .before .before .before .before .before .if2 .left))) room
+          ∙ ap (λ (kind : Bool). pairStep p (now (a .words)) kind (a .row .across) (a .row .m) (a .n)) (sym (c .before .before .before .before .before .before .if3 .left))
           ∙ this-kind p (now (a .words)) _ _ _ _ _ _ _ _ scene (a .row .swapping) (a .row .across) (a .row .m) (a .n) (at .m-below) (at .n-below) (kind-here e);
     }
 
@@ -174,10 +222,14 @@ find-pair-spec =
     mul-gap-2
     shared-slice-read-gap-2
     sub-gap
-    find-swap-requires
+    no-exchange-requires
     returns-3
-    mul-if4
-    shared-slice-read-if4
+    find-swap-requires
     returns-4
+    mul-if5
+    shared-slice-read-if5
+    returns-5
+    no-move-requires
+    returns-6
     find-move-requires
-    returns-5)
+    returns-7)

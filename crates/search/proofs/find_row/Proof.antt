@@ -17,13 +17,13 @@ use Rattle.search.proofs.find_row.Statement.{statement}
 use Rattle.search.proofs.find_row.Tie as tie
 
 abbrev Inv-loop : tie.InvT-loop
-Inv-loop words shares spreads on loads used grid row machines n₀ n =
+Inv-loop words shares spreads on by keys loads used grid row machines n₀ n =
     (n ≤ grid .racks * grid .size)
     × ((k : ℕ) → k < n → (p : Plan) → SceneOf p words shares spreads loads used (grid .racks) (grid .size) (grid .capacity) (grid .blocks)
     → isStep (pairOf p words (row .swapping) (row .across) (row .m) k) ≡ false)
 
 abbrev μ-loop : tie.MeasureT-loop
-μ-loop words shares spreads on loads used grid row machines n₀ n =
+μ-loop words shares spreads on by keys loads used grid row machines n₀ n =
     grid .racks * grid .size - n
 
 mul-machines : tie.Need-mul-machines Inv-loop μ-loop
@@ -34,7 +34,7 @@ loop-holds c = (omega arith, λ k l. absurd (omega arith))
 
 find-pair-requires : tie.Need-find-pair-requires Inv-loop μ-loop
 find-pair-requires c κs =
-    let start = c .before .before .before .before .before .before .before .before .before in
+    let start = c .before .before .before .before .before .before .before .before .before .before .before in
     record { all = start .pre .all; m-below = start .pre .m-below; n-below = c .loop-test .taken; low-is = start .pre .low-is }
 
 is-found-requires : tie.Need-is-found-requires Inv-loop μ-loop
@@ -44,7 +44,7 @@ returns : tie.Need-returns Inv-loop μ-loop
 unfolding rowOf
 returns c =
     let at = c .before .before .before .before in
-    let a = at .before .before .before .before .before .before .before .before .args in
+    let a = at .before .before .before .before .before .before .before .before .before .before .args in
     let found = c .before .before .find-pair in
     record {
       sound = found .ensures .sound;
@@ -63,7 +63,7 @@ loop-less c = omega arith
 loop-again : tie.Need-loop-again Inv-loop μ-loop
 loop-again c =
     let at = c .before .before .before .before in
-    let a = at .before .before .before .before .before .before .before .before .args in
+    let a = at .before .before .before .before .before .before .before .before .before .before .args in
     let found = c .before .before .find-pair in (
       omega arith,
       below-more _ (at .loop .n) (at .loop .inv .1)
@@ -74,7 +74,7 @@ returns-2 : tie.Need-returns-2 Inv-loop μ-loop
 unfolding hitOf rowOf
 returns-2 c =
     let at = c .before in
-    let a = at .before .before .before .before .before .before .before .before .args in
+    let a = at .before .before .before .before .before .before .before .before .before .before .args in
     record {
       sound = tt;
       is = λ p scene.
