@@ -5,7 +5,7 @@ ghost use mathlib.Core.Bool.{not};
 ghost use Rattle.model.specs.Plan.{Plan};
 ghost use Rattle.model.specs.Steps.{isStep, nextStep, afterMove, after, run};
 ghost use Rattle.search.specs.Scene.{Found, stepOf};
-ghost use Rattle.balance.specs.Standing.{StandAsked, Standing, ShiftAsked, TakeAsked, Stepped, ranOf};
+ghost use Rattle.balance.specs.Standing.{StandAsked, RankedAsked, Standing, ShiftAsked, TakeAsked, Stepped, ranOf};
 
 // How a run ended, and the number of steps taken.
 pub struct Ran {
@@ -13,17 +13,18 @@ pub struct Ran {
     pub steps: u32,
 }
 
-// The next step, not taken.
-pub fn look(
+// The next step, not taken; `keys` has the blocks by rising share.
+fn look(
     words: &[u64],
     shares: &[u64],
     spreads: &[u8],
+    keys: &[u64],
     racks: usize,
     rack_size: usize,
     capacity: u64,
     blocks: usize,
 ) -> Step
-    requires { ⌜ StandAsked (now words) (now shares) (now spreads) racks «rack_size» blocks ⌝ }
+    requires { ⌜ RankedAsked (now words) (now shares) (now spreads) (now keys) racks «rack_size» blocks ⌝ }
     ensures { λ r. ⌜ ((p : Plan) → Standing p (now (words .entry)) (now (shares .entry)) (now (spreads .entry)) racks «rack_size» capacity blocks
         → stepOf r ≡ nextStep p (now (words .entry))) × Found (now (words .entry)) racks «rack_size» blocks r ⌝ }
 {
@@ -32,6 +33,7 @@ pub fn look(
         words,
         shares,
         spreads,
+        keys,
         tally,
         racks,
         rack_size,
@@ -69,6 +71,35 @@ fn take_step(words: &mut [u64], step: Step)
 }
 
 // Takes the next step, or leaves the words as they are at rest.
+fn step_ranked(
+    words: &mut [u64],
+    shares: &[u64],
+    spreads: &[u8],
+    keys: &[u64],
+    racks: usize,
+    rack_size: usize,
+    capacity: u64,
+    blocks: usize,
+) -> Step
+    requires { ⌜ RankedAsked (now words) (now shares) (now spreads) (now keys) racks «rack_size» blocks ⌝ }
+    ensures { λ r. ⌜ ((p : Plan) → Standing p (now (words .entry)) (now (shares .entry)) (now (spreads .entry)) racks «rack_size» capacity blocks
+        → Stepped p (now (words .entry)) (now (words .exit)) r) ⌝ }
+{
+    let step = look(
+        words,
+        shares,
+        spreads,
+        keys,
+        racks,
+        rack_size,
+        capacity,
+        blocks,
+    );
+    take_step(words, step);
+    step
+}
+
+// Takes the next step, or leaves the words as they are at rest.
 pub fn step_words(
     words: &mut [u64],
     shares: &[u64],
@@ -82,9 +113,17 @@ pub fn step_words(
     ensures { λ r. ⌜ ((p : Plan) → Standing p (now (words .entry)) (now (shares .entry)) (now (spreads .entry)) racks «rack_size» capacity blocks
         → Stepped p (now (words .entry)) (now (words .exit)) r) ⌝ }
 {
-    let step = look(words, shares, spreads, racks, rack_size, capacity, blocks);
-    take_step(words, step);
-    step
+    let keys = ranking::rank(shares, blocks);
+    step_ranked(
+        words,
+        shares,
+        spreads,
+        &keys[..],
+        racks,
+        rack_size,
+        capacity,
+        blocks,
+    )
 }
 
 fn is_rest(step: Step) -> bool
@@ -110,6 +149,58 @@ fn is_rest(step: Step) -> bool
 }
 
 // Takes next steps until rest or until the step limit is used; at the end of the limit it looks whether a step is left.
+fn run_ranked(
+    words: &mut [u64],
+    shares: &[u64],
+    spreads: &[u8],
+    keys: &[u64],
+    racks: usize,
+    rack_size: usize,
+    capacity: u64,
+    blocks: usize,
+    limit: u32,
+) -> Ran
+    requires { ⌜ RankedAsked (now words) (now shares) (now spreads) (now keys) racks «rack_size» blocks ⌝ }
+    ensures { λ r. ⌜ ((p : Plan) → Standing p (now (words .entry)) (now (shares .entry)) (now (spreads .entry)) racks «rack_size» capacity blocks
+        → ranOf r (now (words .exit)) ≡ run p limit (now (words .entry))) ⌝ }
+{
+    let mut steps: u32 = 0;
+    while steps < limit {
+        let step = step_ranked(
+            words,
+            shares,
+            spreads,
+            keys,
+            racks,
+            rack_size,
+            capacity,
+            blocks,
+        );
+        if is_rest(step) {
+            return Ran {
+                rested: true,
+                steps,
+            };
+        }
+        steps += 1;
+    }
+    let step = look(
+        words,
+        shares,
+        spreads,
+        keys,
+        racks,
+        rack_size,
+        capacity,
+        blocks,
+    );
+    Ran {
+        rested: is_rest(step),
+        steps,
+    }
+}
+
+// Takes next steps until rest or until the step limit is used. Shares never change, so their order is made once.
 pub fn run_words(
     words: &mut [u64],
     shares: &[u64],
@@ -124,20 +215,16 @@ pub fn run_words(
     ensures { λ r. ⌜ ((p : Plan) → Standing p (now (words .entry)) (now (shares .entry)) (now (spreads .entry)) racks «rack_size» capacity blocks
         → ranOf r (now (words .exit)) ≡ run p limit (now (words .entry))) ⌝ }
 {
-    let mut steps: u32 = 0;
-    while steps < limit {
-        let step = step_words(words, shares, spreads, racks, rack_size, capacity, blocks);
-        if is_rest(step) {
-            return Ran {
-                rested: true,
-                steps,
-            };
-        }
-        steps += 1;
-    }
-    let step = look(words, shares, spreads, racks, rack_size, capacity, blocks);
-    Ran {
-        rested: is_rest(step),
-        steps,
-    }
+    let keys = ranking::rank(shares, blocks);
+    run_ranked(
+        words,
+        shares,
+        spreads,
+        &keys[..],
+        racks,
+        rack_size,
+        capacity,
+        blocks,
+        limit,
+    )
 }
