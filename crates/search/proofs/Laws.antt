@@ -12,7 +12,6 @@ use lib.Dec.{eqb}
 use lib.ListN.{getD}
 use Rattle.order.proofs.Booleans.{no-contradiction, not-so}
 use Rattle.model.specs.Plan.{Plan, machines, blockCount}
-use Rattle.model.specs.Refusal.{maxMachines}
 use Rattle.model.specs.Placement.{used, load}
 use Rattle.model.specs.Steps.{Step, none, move, swap, canMove, canSwap, isStep, pairs, nextMove, nextSwap, orStep, nextStep}
 use Rattle.theory.specs.Local.{LocalMove, LocalSwap}
@@ -20,9 +19,7 @@ use Rattle.theory.proofs.LocalTests.{move-local, swap-local}
 use Rattle.transfers.specs.Pair.{pairStep, PairAsked, PairScene}
 use Rattle.transfers.proofs.Laws.{move-none, swap-none}
 use Rattle.ranking.specs.Ranks.{RankAsked}
-use Rattle.screen.specs.Screen.{ScreenAsked, NoMove, NoExchange}
-use Rattle.screen.proofs.Pairs.{ruled-move, ruled-exchange}
-use Rattle.search.specs.Scene.{Ranges, SceneOf, LoopAsked, PairAt, pairOf, rowOf, kindOf}
+use Rattle.search.specs.Scene.{Ranges, SceneOf, PairAt, PairRanked, pairOf, rowOf, kindOf}
 
 pub same-true : (a : Bool) → a ≡ Bool·beq a true
 same-true true = refl
@@ -86,23 +83,20 @@ pair-asked words shares spreads on by keys loads copies racks size blocks low m 
       indexed = at .all .indexed;
     }
 
--- what the order by share and the screen are asked with
+-- what the order by share is asked with
 pub rank-asked : {words shares spreads loads : List ℕ} {racks size blocks : ℕ} → Ranges words shares spreads loads racks size blocks → RankAsked shares blocks
 rank-asked ranges = record { room = ranges .share-room; few = ranges .blocks-max; narrow = ranges .share-narrow }
 
-pub screen-asked : (words shares spreads on by keys loads copies : List ℕ) (racks size blocks low m n gap : ℕ)
-    → PairAt words shares spreads on by keys loads copies racks size blocks low m n → gap < 2 ^ 45
-    → ScreenAsked by keys m n gap blocks
-screen-asked words shares spreads on by keys loads copies racks size blocks low m n gap at narrow =
-    let all = at .all in
+-- the same with the blocks by rising share
+pub pair-ranked : (words shares spreads on by keys loads copies : List ℕ) (racks size blocks low m n gap : ℕ) (across : Bool)
+    → PairAt words shares spreads on by keys loads copies racks size blocks low m n
+    → true ≡ Bool·beq across (not (eqb (m / size) (n / size))) → gap < 2 ^ 45
+    → PairRanked words shares spreads on by keys racks size blocks across m n gap
+pair-ranked words shares spreads on by keys loads copies racks size blocks low m n gap across at kind narrow =
     record {
-      sized = all .rank-indexed .sized;
-      keys-sized = all .ranked .sized;
-      m-below = omega (arith, at .m-below, all .ranges .machines-max);
-      n-below = omega (arith, at .n-below, all .ranges .machines-max);
-      gap-narrow = narrow;
-      few = all .ranges .blocks-max;
-      sorted = all .ranked .sorted;
+      asked = pair-asked words shares spreads on by keys loads copies racks size blocks low m n gap across at kind narrow;
+      ranked = at .all .ranked;
+      rank-indexed = at .all .rank-indexed;
     }
 
 module _ (p : Plan) (words shares spreads loads copies : List ℕ) (racks size capacity blocks : ℕ)
@@ -138,14 +132,14 @@ module _ (p : Plan) (words shares spreads loads copies : List ℕ) (racks size c
     unfolding pairOf
     this-kind e = rw (sym (scene .size-is), sym e)
 
-    no-move : ((i : ℕ) → i < blockCount p → LocalMove p words m n i → ⊥) → (i : ℕ) → i < blockCount p → canMove p words m n i ≡ false
+    no-move : ((i : ℕ) → LocalMove p words m n i → ⊥) → (i : ℕ) → i < blockCount p → canMove p words m n i ≡ false
     no-move refuted i l = not-so _ (λ t.
-        refuted i l (move-local p (scene .count) words (scene .feasible) m n i (in-plan m ml) (in-plan n nl) l .0 t))
+        refuted i (move-local p (scene .count) words (scene .feasible) m n i (in-plan m ml) (in-plan n nl) l .0 t))
 
-    no-swap : ((i j : ℕ) → i < blockCount p → j < blockCount p → LocalSwap p words m n i j → ⊥) → (i : ℕ) → i < blockCount p → (j : ℕ) → j < blockCount p
+    no-swap : ((i j : ℕ) → LocalSwap p words m n i j → ⊥) → (i : ℕ) → i < blockCount p → (j : ℕ) → j < blockCount p
         → canSwap p words m n i j ≡ false
     no-swap refuted i l j h = not-so _ (λ t.
-        refuted i j l h (swap-local p (scene .count) words (scene .feasible) m n i j (in-plan m ml) (in-plan n nl) l h .0 t))
+        refuted i j (swap-local p (scene .count) words (scene .feasible) m n i j (in-plan m ml) (in-plan n nl) l h .0 t))
 
     -- nothing leaves a machine that has no more load, and nothing moves to a full one
     pub no-gap : getD loads m 0 ≤ getD loads n 0 → none ≡ pairStep p words swapping across m n
@@ -155,46 +149,13 @@ module _ (p : Plan) (words shares spreads loads copies : List ℕ) (racks size c
         level = rw (scene .loads-are m (in-plan m ml), scene .loads-are n (in-plan n nl)) at l
 
         go : (kind : Bool) → pairStep p words kind across m n ≡ none
-        go false = move-none p words across m n (no-move (λ i l s. omega (arith, level, s .lower)))
-        go true = swap-none p words across m n (no-swap (λ i j l h s. omega (arith, level, s .gain, s .lower)))
+        go false = move-none p words across m n (no-move (λ i s. omega (arith, level, s .lower)))
+        go true = swap-none p words across m n (no-swap (λ i j s. omega (arith, level, s .gain, s .lower)))
 
     pub no-room : capacity ≤ getD copies n 0 → none ≡ pairStep p words false across m n
     no-room l =
         let full : p .capacity ≤ used p words n = rw (scene .capacity-is, scene .used-are n (in-plan n nl)) at l in
-        sym (move-none p words across m n (no-move (λ i l s. omega (arith, s .room))))
-
-    -- nothing moves or is exchanged where the screen rules it out
-    module _ (on by keys : List ℕ) (all : LoopAsked words shares spreads on by keys loads copies racks size blocks)
-        (gap : ℕ) (gap-is : getD loads n 0 + gap ≡ getD loads m 0) where
-      m-max : m < maxMachines
-      m-max = omega (arith, all .ranges .machines-max)
-
-      n-max : n < maxMachines
-      n-max = omega (arith, all .ranges .machines-max)
-
-      loads-m : getD loads m 0 ≡ load p words m
-      loads-m = scene .loads-are m (in-plan m ml)
-
-      loads-n : getD loads n 0 ≡ load p words n
-      loads-n = scene .loads-are n (in-plan n nl)
-
-      below : (i : ℕ) → i < blockCount p → i < blocks
-      below i l = rw (scene .blocks-is) l
-
-      pub ruled-out-move : NoMove by keys m n gap blocks true → none ≡ pairStep p words false across m n
-      ruled-out-move ruled = sym (move-none p words across m n (no-move (λ i l s.
-          let share = scene .shares-are i (below i l) in
-          let far = ruled-move words shares keys by blocks (rank-asked (all .ranges)) (all .ranked) (all .rank-indexed) m n gap m-max n-max ruled
-          i (below i l) (s .on) (s .off) (rw share (s .positive)) in
-          omega (arith, loads-m, loads-n, s .lower))))
-
-      pub ruled-out-swap : NoExchange by keys m n gap blocks true → none ≡ pairStep p words true across m n
-      ruled-out-swap ruled = sym (swap-none p words across m n (no-swap (λ i j l h s.
-          let share-i = scene .shares-are i (below i l) in
-          let share-j = scene .shares-are j (below j h) in
-          let far = ruled-exchange words shares keys by blocks (rank-asked (all .ranges)) (all .ranked) (all .rank-indexed) m n gap m-max n-max ruled
-          i j (below i l) (below j h) (s .i-on) (s .i-off) (s .j-on) (s .j-off) (rw (share-i, share-j) (s .gain)) in
-          omega (arith, loads-m, loads-n, s .lower))))
+        sym (move-none p words across m n (no-move (λ i s. omega (arith, s .room))))
 
 -- the first of two steps
 pub take-first : (s kind later : Step) → isStep s ≡ true → s ≡ kind → s ≡ orStep kind later

@@ -2,19 +2,19 @@
 use mathlib.Core.Path.{_≡_}
 use mathlib.Core.Bool.{Bool, true, false, not, cond, Bool·beq}
 use mathlib.Core.List.{List}
-use Prim.Native.Nat.{ℕ, _*_, _/_, _<_, _≤_, _^_}
-use lib.Dec.{eqb}
+use Prim.Native.Nat.{ℕ, _*_, _/_, _%_, _<_, _≤_, _^_}
+use lib.Dec.{eqb, leb}
 use lib.ListN.{length, getD}
 use Rattle.model.specs.Plan.{Plan, machines, blockCount, blockOf}
 use Rattle.model.specs.Refusal.{maxMachines, maxBlocks}
 use Rattle.model.specs.Placement.{used, Feasible, shareOf, load}
 use Rattle.model.specs.Steps.{Step as ModelStep, none, move, swap, acrossRacks, first, nextStep}
 use Rattle.theory.specs.Accepted.{Valid}
-use Rattle.ranking.specs.Ranks.{RankAsked, Ranked}
+use Rattle.ranking.specs.Ranks.{Ranked}
 use Rattle.candidates.specs.Index.{Indexed}
 use Rattle.screen.specs.Screen.{RankIndexed}
 use Rattle.transfers.specs.declared.Hit.{Hit}
-use Rattle.transfers.specs.Pair.{hitOf, pairStep, Shift, HitFound}
+use Rattle.transfers.specs.Pair.{hitOf, pairStep, Shift, HitFound, PairAsked}
 use Rattle.tally.specs.declared.Tally.{Tally}
 use Rattle.search.specs.declared.Step.{Step}
 use Rattle.search.specs.declared.Step.the-variants.{Rest, Move, Swap, RackMove, RackSwap}
@@ -93,6 +93,13 @@ abbrev pub OfKind : ℕ → ℕ → ℕ → Bool → Bool → Type 0
 OfKind low size n across r =
     (m : ℕ) → low ≡ m / size * size → r ≡ Bool·beq across (not (eqb (m / size) (n / size)))
 
+-- A kind by its number in the order of the steps: 0 Move, 1 Swap, 2 RackMove, 3 RackSwap.
+abbrev pub isExchange : ℕ → Bool
+isExchange kind = eqb (kind % 2) 1
+
+abbrev pub isAcross : ℕ → Bool
+isAcross kind = leb 2 kind
+
 -- The definition's search of one kind, from the inside out: at the pair (m, n), over all n, over all m and n.
 unfoldable pub pairOf : Plan → List ℕ → Bool → Bool → ℕ → ℕ → ModelStep
 pairOf p words swapping across m n = cond (Bool·beq across (acrossRacks p m n)) (pairStep p words swapping across m n) none
@@ -122,6 +129,12 @@ pub record PairAt (words shares spreads on by keys loads copies : List ℕ) (rac
   pub m-below : m < racks * size
   pub n-below : n < racks * size
   pub low-is : low ≡ m / size * size
+
+-- What a search at one pair is asked with, and the blocks by rising share.
+pub record PairRanked (words shares spreads on by keys : List ℕ) (racks size blocks : ℕ) (across : Bool) (m n gap : ℕ) : Type 0 where
+  pub asked : PairAsked words shares spreads on racks size blocks across m n gap
+  pub ranked : Ranked shares blocks keys
+  pub rank-indexed : RankIndexed words keys blocks by
 
 -- What a loop finds is what the definition's search finds.
 pub record HitIs (words shares spreads loads copies : List ℕ) (racks size capacity blocks : ℕ) (across : Bool)

@@ -6,8 +6,8 @@ use transfers::Pair;
 ghost use mathlib.Core.Path.{_≡_};
 ghost use mathlib.Core.Bool.{Bool};
 ghost use Rattle.model.specs.Steps.{isStep};
-ghost use Rattle.transfers.specs.Pair.{hitOf};
-ghost use Rattle.search.specs.Scene.{SearchAsked, NextOfAll, NextFound, AnswerOf, KindAsked, OfKind, pairOf, rowOf, kindOf, LoopAsked, RowAsked, PairAt, HitIs};
+ghost use Rattle.transfers.specs.Pair.{hitOf, MoveFound, SwapFound};
+ghost use Rattle.search.specs.Scene.{isExchange, isAcross, PairRanked, SearchAsked, NextOfAll, NextFound, AnswerOf, KindAsked, OfKind, pairOf, rowOf, kindOf, LoopAsked, RowAsked, PairAt, HitIs};
 
 // A step, or rest. Block i goes from m to n, of an exchange block j from n to m; m and n of a RackMove or RackSwap lie in
 // different racks.
@@ -91,6 +91,50 @@ fn of_kind(low: usize, size: usize, n: usize, across: bool) -> bool
     !across
 }
 
+// The first move from m to n, which has room, unless the shares rule it out.
+fn move_at(
+    words: &[u64],
+    shares: &[u64],
+    spreads: &[u8],
+    on: &[u64],
+    by: &[u64],
+    keys: &[u64],
+    grid: Grid,
+    pair: Pair,
+) -> Hit
+    requires { ⌜ PairRanked (now words) (now shares) (now spreads) (now on) (now by) (now keys) (grid .racks) (grid .size) (grid .blocks)
+        (pair .across) (pair .m) (pair .n) (pair .gap) ⌝ }
+    ensures { λ r. ⌜ MoveFound (now (words .entry)) (now (shares .entry)) (now (spreads .entry)) (grid .racks) (grid .size)
+        (grid .blocks) (pair .across) (pair .m) (pair .n) (pair .gap) r ⌝ }
+{
+    if screen::no_move(by, keys, pair.m, pair.n, pair.gap, grid.blocks) {
+        return Hit::Nothing;
+    }
+    transfers::find_move(words, shares, spreads, on, grid, pair)
+}
+
+// The first exchange between m and n, unless the shares rule it out.
+fn swap_at(
+    words: &[u64],
+    shares: &[u64],
+    spreads: &[u8],
+    on: &[u64],
+    by: &[u64],
+    keys: &[u64],
+    grid: Grid,
+    pair: Pair,
+) -> Hit
+    requires { ⌜ PairRanked (now words) (now shares) (now spreads) (now on) (now by) (now keys) (grid .racks) (grid .size) (grid .blocks)
+        (pair .across) (pair .m) (pair .n) (pair .gap) ⌝ }
+    ensures { λ r. ⌜ SwapFound (now (words .entry)) (now (shares .entry)) (now (spreads .entry)) (grid .racks) (grid .size)
+        (grid .blocks) (pair .across) (pair .m) (pair .n) (pair .gap) r ⌝ }
+{
+    if screen::no_exchange(by, keys, pair.m, pair.n, pair.gap, grid.blocks) {
+        return Hit::Nothing;
+    }
+    transfers::find_swap(words, shares, spreads, on, grid, pair)
+}
+
 // The first step of the row's kind from its machine to n.
 fn find_pair(
     words: &[u64],
@@ -122,18 +166,12 @@ fn find_pair(
     let gap = loads[m] - loads[n];
     let pair = Pair { across, m, n, gap };
     if row.swapping {
-        if screen::no_exchange(by, keys, m, n, gap, grid.blocks) {
-            return Hit::Nothing;
-        }
-        return transfers::find_swap(words, shares, spreads, on, grid, pair);
+        return swap_at(words, shares, spreads, on, by, keys, grid, pair);
     }
     if grid.capacity <= used[n] {
         return Hit::Nothing;
     }
-    if screen::no_move(by, keys, m, n, gap, grid.blocks) {
-        return Hit::Nothing;
-    }
-    transfers::find_move(words, shares, spreads, on, grid, pair)
+    move_at(words, shares, spreads, on, by, keys, grid, pair)
 }
 
 // The first step of the row's kind from its machine.
@@ -179,7 +217,7 @@ fn find_row(
     Hit::Nothing
 }
 
-// The first step of the kind: moves or exchanges, within a rack or across racks.
+// The first step of the kind: 0 Move, 1 Swap, 2 RackMove, 3 RackSwap.
 fn find_kind(
     words: &[u64],
     shares: &[u64],
@@ -190,15 +228,16 @@ fn find_kind(
     loads: &[u64],
     used: &[u64],
     grid: Grid,
-    swapping: bool,
-    across: bool,
+    kind: u8,
 ) -> Hit
     requires { ⌜ LoopAsked (now words) (now shares) (now spreads) (now on) (now by) (now keys) (now loads) (now used)
         (grid .racks) (grid .size) (grid .blocks) ⌝ }
     ensures { λ r. ⌜ HitIs (now (words .entry)) (now (shares .entry)) (now (spreads .entry)) (now (loads .entry)) (now (used .entry))
-        (grid .racks) (grid .size) (grid .capacity) (grid .blocks) across
-        (λ p. kindOf p (now (words .entry)) swapping across) r ⌝ }
+        (grid .racks) (grid .size) (grid .capacity) (grid .blocks) (isAcross kind)
+        (λ p. kindOf p (now (words .entry)) (isExchange kind) (isAcross kind)) r ⌝ }
 {
+    let swapping = kind % 2 == 1;
+    let across = 2 <= kind;
     let size = grid.size;
     let machines = grid.racks * size;
     let mut m: usize = 0;
@@ -236,67 +275,19 @@ fn find_first(
     ensures { λ r. ⌜ NextOfAll (now (words .entry)) (now (shares .entry)) (now (spreads .entry)) (now (loads .entry)) (now (used .entry))
         (grid .racks) (grid .size) (grid .capacity) (grid .blocks) r ⌝ }
 {
-    let near = find_kind(
-        words,
-        shares,
-        spreads,
-        on,
-        by,
-        keys,
-        loads,
-        used,
-        grid,
-        false,
-        false,
-    );
+    let near = find_kind(words, shares, spreads, on, by, keys, loads, used, grid, 0);
     if is_found(near) {
         return as_step(near, false);
     }
-    let swap = find_kind(
-        words,
-        shares,
-        spreads,
-        on,
-        by,
-        keys,
-        loads,
-        used,
-        grid,
-        true,
-        false,
-    );
+    let swap = find_kind(words, shares, spreads, on, by, keys, loads, used, grid, 1);
     if is_found(swap) {
         return as_step(swap, false);
     }
-    let far = find_kind(
-        words,
-        shares,
-        spreads,
-        on,
-        by,
-        keys,
-        loads,
-        used,
-        grid,
-        false,
-        true,
-    );
+    let far = find_kind(words, shares, spreads, on, by, keys, loads, used, grid, 2);
     if is_found(far) {
         return as_step(far, true);
     }
-    let last = find_kind(
-        words,
-        shares,
-        spreads,
-        on,
-        by,
-        keys,
-        loads,
-        used,
-        grid,
-        true,
-        true,
-    );
+    let last = find_kind(words, shares, spreads, on, by, keys, loads, used, grid, 3);
     as_step(last, true)
 }
 

@@ -12,19 +12,19 @@ use Rattle.model.specs.Plan.{Plan, machines}
 use Rattle.model.specs.Steps.{isStep}
 use Rattle.transfers.specs.Pair.{hitOf}
 use Rattle.transfers.proofs.Searches.{step-found, none-found}
-use Rattle.search.specs.Scene.{SceneOf, rowOf, kindOf}
+use Rattle.search.specs.Scene.{SceneOf, isExchange, isAcross, rowOf, kindOf}
 use Rattle.search.proofs.Laws.{in-plan, of-plan}
 use Rattle.search.proofs.find_kind.Statement.{statement}
 use Rattle.search.proofs.find_kind.Tie as tie
 
 abbrev Inv-loop : tie.InvT-loop
-Inv-loop words shares spreads on by keys loads used grid swapping across size machines m₀ m =
+Inv-loop words shares spreads on by keys loads used grid kind swapping across size machines m₀ m =
     (m ≤ grid .racks * grid .size)
     × ((k : ℕ) → k < m → (p : Plan) → SceneOf p words shares spreads loads used (grid .racks) (grid .size) (grid .capacity) (grid .blocks)
-    → isStep (rowOf p words swapping across k) ≡ false)
+    → isStep (rowOf p words (isExchange kind) (isAcross kind) k) ≡ false)
 
 abbrev μ-loop : tie.MeasureT-loop
-μ-loop words shares spreads on by keys loads used grid swapping across size machines m₀ m = grid .racks * grid .size - m
+μ-loop words shares spreads on by keys loads used grid kind swapping across size machines m₀ m = grid .racks * grid .size - m
 
 mul-machines : tie.Need-mul-machines Inv-loop μ-loop
 mul-machines c = omega arith
@@ -58,9 +58,9 @@ returns c =
     record {
       sound = found .ensures .sound;
       is = λ p scene.
-          sym (step-found (machines p) (at .loop .m) (rowOf p (now (a .words)) (a .swapping) (a .across)) (hitOf (a .across) (found .result))
+          sym (step-found (machines p) (at .loop .m) (rowOf p (now (a .words)) (isExchange (a .kind)) (isAcross (a .kind))) (hitOf (isAcross (a .kind)) (found .result))
           (in-plan p (now (a .words)) _ _ _ _ _ _ _ _ scene (at .loop .m) (c .before .before .before .loop-test .taken))
-          (λ k l. at .loop .inv .1 k l p scene) (sym (found .ensures .is p scene)) (c .before .is-found .ensures (a .across) ∙ c .if1 .taken));
+          (λ k l. at .loop .inv .1 k l p scene) (sym (found .ensures .is p scene)) (c .before .is-found .ensures (isAcross (a .kind)) ∙ c .if1 .taken));
     }
 
 add-m : tie.Need-add-m Inv-loop μ-loop
@@ -76,7 +76,7 @@ loop-again c =
     let found = c .before .before .find-row in (
       omega arith,
       below-more _ (at .loop .m) (at .loop .inv .1)
-          (λ p scene. ap isStep (sym (found .ensures .is p scene)) ∙ c .before .is-found .ensures (a .across) ∙ c .if1 .left),
+          (λ p scene. ap isStep (sym (found .ensures .is p scene)) ∙ c .before .is-found .ensures (isAcross (a .kind)) ∙ c .if1 .left),
     )
 
 returns-2 : tie.Need-returns-2 Inv-loop μ-loop
@@ -87,7 +87,7 @@ returns-2 c =
     record {
       sound = tt;
       is = λ p scene.
-          sym (none-found (machines p) (rowOf p (now (a .words)) (a .swapping) (a .across))
+          sym (none-found (machines p) (rowOf p (now (a .words)) (isExchange (a .kind)) (isAcross (a .kind)))
           (λ k l. let b = of-plan p (now (a .words)) _ _ _ _ _ _ _ _ scene k l in at .loop .inv .1 k (omega arith) p scene));
     }
 

@@ -10,7 +10,7 @@ use denote.Ref.{now}
 use lib.Dec.{eqb}
 use Rattle.model.specs.Placement.{used}
 use Rattle.transfers.specs.Pair.{hitOf, pairStep}
-use Rattle.search.proofs.Laws.{pair-asked, in-plan, pair-scene, other-kind, this-kind, no-gap, no-room, screen-asked, ruled-out-move, ruled-out-swap}
+use Rattle.search.proofs.Laws.{pair-ranked, in-plan, pair-scene, other-kind, this-kind, no-gap, no-room}
 use borrow.Author.Needs.{needs}
 use Rattle.search.proofs.find_pair.Statement.{statement}
 use Rattle.search.proofs.find_pair.Tie as tie
@@ -89,120 +89,72 @@ shared-slice-read-gap-2 c = search needs
 sub-gap : tie.Need-sub-gap
 sub-gap c = search needs
 
-no-exchange-requires : tie.Need-no-exchange-requires
-no-exchange-requires c κs =
+swap-at-requires : tie.Need-swap-at-requires
+swap-at-requires c κs =
     let e = c .before .before .before .before .before .before in
     let start = e .before .before .before .before .before .before .before .before .before .before in
     let a = start .args in
     let at = start .pre in
-    screen-asked _ _ _ _ _ _ _ _ _ _ _ _ _ _ _ at (omega (arith, at .all .ranges .load-narrow (a .row .m) (omega (arith, at .m-below, at .all .ranges .machines-max))))
+    pair-ranked _ _ _ _ _ _ _ _ _ _ _ _ _ _ _ _ at (kind-here e) (omega (arith, at .all .ranges .load-narrow (a .row .m) (omega (arith, at .m-below, at .all .ranges .machines-max))))
 
 returns-3 : tie.Need-returns-3
-unfolding hitOf
 returns-3 c =
-    let e = c .before .before .before .before .before .before .before .before in
+    let e = c .before .before .before .before .before .before .before in
     let start = e .before .before .before .before .before .before .before .before .before .before in
     let a = start .args in
     let at = start .pre in
+    let found = c .swap-at .ensures in
     record {
-      sound = tt;
+      sound = found .sound;
       is = λ p scene.
-          ruled-out-swap p (now (a .words)) _ _ _ _ _ _ _ _ scene (a .row .swapping) (a .row .across) (a .row .m) (a .n) (at .m-below) (at .n-below)
-          _ _ _ (at .all) _ (omega (arith, c .before .before .before .before .before .if2 .left)) (λ same. c .before .no-exchange .ensures (c .if4 .taken))
-          ∙ ap (λ (kind : Bool). pairStep p (now (a .words)) kind (a .row .across) (a .row .m) (a .n)) (sym (c .before .before .if3 .taken))
+          found .is p (pair-scene p (now (a .words)) _ _ _ _ _ _ _ _ scene (a .row .swapping) (a .row .across) (a .row .m) (a .n) (at .m-below) (at .n-below) _ (omega arith))
+          ∙ ap (λ (kind : Bool). pairStep p (now (a .words)) kind (a .row .across) (a .row .m) (a .n)) (sym (c .before .if3 .taken))
           ∙ this-kind p (now (a .words)) _ _ _ _ _ _ _ _ scene (a .row .swapping) (a .row .across) (a .row .m) (a .n) (at .m-below) (at .n-below) (kind-here e);
     }
 
-find-swap-requires : tie.Need-find-swap-requires
-find-swap-requires c κs =
-    let e = c .before .before .before .before .before .before .before .before in
-    let start = e .before .before .before .before .before .before .before .before .before .before in
-    let a = start .args in
-    let at = start .pre in
-    pair-asked _ _ _ _ _ _ _ _ _ _ _ _ _ _ _ _ at (kind-here e) (omega (arith, at .all .ranges .load-narrow (a .row .m) (omega (arith, at .m-below, at .all .ranges .machines-max))))
+mul-if4 : tie.Need-mul-if4
+mul-if4 c = search needs
+
+shared-slice-read-if4 : tie.Need-shared-slice-read-if4
+shared-slice-read-if4 c = search needs
 
 returns-4 : tie.Need-returns-4
+unfolding hitOf
 returns-4 c =
     let e = c .before .before .before .before .before .before .before .before .before in
     let start = e .before .before .before .before .before .before .before .before .before .before in
     let a = start .args in
     let at = start .pre in
-    let found = c .find-swap .ensures in
-    record {
-      sound = found .sound;
-      is = λ p scene.
-          found .is p (pair-scene p (now (a .words)) _ _ _ _ _ _ _ _ scene (a .row .swapping) (a .row .across) (a .row .m) (a .n) (at .m-below) (at .n-below) _ (omega (arith, c .before .before .before .before .before .before .if2 .left)))
-          ∙ ap (λ (kind : Bool). pairStep p (now (a .words)) kind (a .row .across) (a .row .m) (a .n)) (sym (c .before .before .before .if3 .taken))
-          ∙ this-kind p (now (a .words)) _ _ _ _ _ _ _ _ scene (a .row .swapping) (a .row .across) (a .row .m) (a .n) (at .m-below) (at .n-below) (kind-here e);
-    }
-
-mul-if5 : tie.Need-mul-if5
-mul-if5 c = search needs
-
-shared-slice-read-if5 : tie.Need-shared-slice-read-if5
-shared-slice-read-if5 c = search needs
-
-returns-5 : tie.Need-returns-5
-unfolding hitOf
-returns-5 c =
-    let e = c .before .before .before .before .before .before .before .before .before in
-    let start = e .before .before .before .before .before .before .before .before .before .before in
-    let a = start .args in
-    let at = start .pre in
     record {
       sound = tt;
       is = λ p scene.
-          no-room p (now (a .words)) _ _ _ _ _ _ _ _ scene (a .row .swapping) (a .row .across) (a .row .m) (a .n) (at .m-below) (at .n-below) (omega (arith, c .if5 .taken))
+          no-room p (now (a .words)) _ _ _ _ _ _ _ _ scene (a .row .swapping) (a .row .across) (a .row .m) (a .n) (at .m-below) (at .n-below) (omega (arith, c .if4 .taken))
           ∙ ap (λ (kind : Bool). pairStep p (now (a .words)) kind (a .row .across) (a .row .m) (a .n)) (sym (c .before .before .before .if3 .left))
           ∙ this-kind p (now (a .words)) _ _ _ _ _ _ _ _ scene (a .row .swapping) (a .row .across) (a .row .m) (a .n) (at .m-below) (at .n-below) (kind-here e);
     }
 
-no-move-requires : tie.Need-no-move-requires
-no-move-requires c κs =
+move-at-requires : tie.Need-move-at-requires
+move-at-requires c κs =
     let e = c .before .before .before .before .before .before .before .before .before in
     let start = e .before .before .before .before .before .before .before .before .before .before in
     let a = start .args in
     let at = start .pre in
-    screen-asked _ _ _ _ _ _ _ _ _ _ _ _ _ _ _ at (omega (arith, at .all .ranges .load-narrow (a .row .m) (omega (arith, at .m-below, at .all .ranges .machines-max))))
+    pair-ranked _ _ _ _ _ _ _ _ _ _ _ _ _ _ _ _ at (kind-here e) (omega (arith, at .all .ranges .load-narrow (a .row .m) (omega (arith, at .m-below, at .all .ranges .machines-max))))
 
-returns-6 : tie.Need-returns-6
-unfolding hitOf
-returns-6 c =
-    let e = c .before .before .before .before .before .before .before .before .before .before .before in
+returns-5 : tie.Need-returns-5
+returns-5 c =
+    let e = c .before .before .before .before .before .before .before .before .before .before in
     let start = e .before .before .before .before .before .before .before .before .before .before in
     let a = start .args in
     let at = start .pre in
-    record {
-      sound = tt;
-      is = λ p scene.
-          ruled-out-move p (now (a .words)) _ _ _ _ _ _ _ _ scene (a .row .swapping) (a .row .across) (a .row .m) (a .n) (at .m-below) (at .n-below)
-          _ _ _ (at .all) _ (omega (arith, c .before .before .before .before .before .before .before .before .if2 .left)) (λ same. c .before .no-move .ensures (c .if6 .taken))
-          ∙ ap (λ (kind : Bool). pairStep p (now (a .words)) kind (a .row .across) (a .row .m) (a .n)) (sym (c .before .before .before .before .before .if3 .left))
-          ∙ this-kind p (now (a .words)) _ _ _ _ _ _ _ _ scene (a .row .swapping) (a .row .across) (a .row .m) (a .n) (at .m-below) (at .n-below) (kind-here e);
-    }
-
-find-move-requires : tie.Need-find-move-requires
-find-move-requires c κs =
-    let e = c .before .before .before .before .before .before .before .before .before .before .before in
-    let start = e .before .before .before .before .before .before .before .before .before .before in
-    let a = start .args in
-    let at = start .pre in
-    pair-asked _ _ _ _ _ _ _ _ _ _ _ _ _ _ _ _ at (kind-here e) (omega (arith, at .all .ranges .load-narrow (a .row .m) (omega (arith, at .m-below, at .all .ranges .machines-max))))
-
-returns-7 : tie.Need-returns-7
-returns-7 c =
-    let e = c .before .before .before .before .before .before .before .before .before .before .before .before in
-    let start = e .before .before .before .before .before .before .before .before .before .before in
-    let a = start .args in
-    let at = start .pre in
-    let found = c .find-move .ensures in
+    let found = c .move-at .ensures in
     record {
       sound = found .sound;
       is = λ p scene.
           let room : used p (now (a .words)) (a .n) < p .capacity =
-          rw (scene .used-are (a .n) (in-plan p (now (a .words)) _ _ _ _ _ _ _ _ scene (a .n) (at .n-below)), scene .capacity-is) at (c .before .before .before .if5 .left) in
-          found .is p (pair-scene p (now (a .words)) _ _ _ _ _ _ _ _ scene (a .row .swapping) (a .row .across) (a .row .m) (a .n) (at .m-below) (at .n-below) _ (omega (arith, c .before .before .before .before .before .before .before .before .before .if2 .left))) room
-          ∙ ap (λ (kind : Bool). pairStep p (now (a .words)) kind (a .row .across) (a .row .m) (a .n)) (sym (c .before .before .before .before .before .before .if3 .left))
+          rw (scene .used-are (a .n) (in-plan p (now (a .words)) _ _ _ _ _ _ _ _ scene (a .n) (at .n-below)), scene .capacity-is) at (c .before .if4 .left) in
+          found .is p (pair-scene p (now (a .words)) _ _ _ _ _ _ _ _ scene (a .row .swapping) (a .row .across) (a .row .m) (a .n) (at .m-below) (at .n-below) _ (omega (arith, c .before .before .before .before .before .before .before .if2 .left))) room
+          ∙ ap (λ (kind : Bool). pairStep p (now (a .words)) kind (a .row .across) (a .row .m) (a .n)) (sym (c .before .before .before .before .if3 .left))
           ∙ this-kind p (now (a .words)) _ _ _ _ _ _ _ _ scene (a .row .swapping) (a .row .across) (a .row .m) (a .n) (at .m-below) (at .n-below) (kind-here e);
     }
 
@@ -222,14 +174,10 @@ find-pair-spec =
     mul-gap-2
     shared-slice-read-gap-2
     sub-gap
-    no-exchange-requires
+    swap-at-requires
     returns-3
-    find-swap-requires
+    mul-if4
+    shared-slice-read-if4
     returns-4
-    mul-if5
-    shared-slice-read-if5
-    returns-5
-    no-move-requires
-    returns-6
-    find-move-requires
-    returns-7)
+    move-at-requires
+    returns-5)
