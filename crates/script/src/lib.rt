@@ -1,0 +1,118 @@
+// A script of calls, played over one plan and its words: checks, steps and runs, one after the other.
+use inspection::CheckAnswer;
+use search::Step;
+use service::RunAnswer;
+use service::StepAnswer;
+ghost use mathlib.Core.Path.{_≡_};
+ghost use Prim.Native.Nat.{min};
+ghost use lib.ListN.{length};
+ghost use Rattle.model.specs.Claims.{checkWith, stepWith, runWith, does};
+ghost use Rattle.script.specs.Script.{kindOf, limitOf, lentOf, byKind, callOf, playedBy};
+ghost use Rattle.script.specs.Promise.{ScriptPlayed};
+
+// What a call answered: refused with its number, that the check passed, the step taken (`Rest` where there is none), or
+// how a run ended with the number of steps taken.
+pub enum LastReply {
+    Refused(u8),
+    Checked,
+    Stepped(Step),
+    Rested(u32),
+    Spent(u32),
+}
+
+// A check of the words lent.
+fn check_lent(bytes: &[u8], words: &[u64]) -> LastReply
+    ensures { λ r. ⌜ playedBy r (now (words .entry))
+        ≡ does (checkWith (now (bytes .entry)) (length (now (words .entry)))) (now (words .entry)) ⌝ }
+{
+    let answer = inspection::check(bytes, words);
+    match answer {
+        CheckAnswer::Refused(code) => LastReply::Refused(code),
+        CheckAnswer::Feasible(_blocks) => LastReply::Checked,
+    }
+}
+
+// One step on the words lent.
+fn step_lent(bytes: &[u8], words: &mut [u64]) -> LastReply
+    ensures { λ r. ⌜ playedBy r (now (words .exit))
+        ≡ does (stepWith (now (bytes .entry)) (length (now (words .entry)))) (now (words .entry)) ⌝ }
+{
+    let answer = service::step(bytes, words);
+    match answer {
+        StepAnswer::Refused(code) => LastReply::Refused(code),
+        StepAnswer::Next(step) => LastReply::Stepped(step),
+    }
+}
+
+// A run on the words lent.
+fn run_lent(bytes: &[u8], words: &mut [u64], limit: u32) -> LastReply
+    ensures { λ r. ⌜ playedBy r (now (words .exit))
+        ≡ does (runWith (now (bytes .entry)) (length (now (words .entry))) limit) (now (words .entry)) ⌝ }
+{
+    let answer = service::run(bytes, words, limit);
+    match answer {
+        RunAnswer::Refused(code) => LastReply::Refused(code),
+        RunAnswer::Rested(steps) => LastReply::Rested(steps),
+        RunAnswer::Spent(steps) => LastReply::Spent(steps),
+    }
+}
+
+// The call of an item's kind, on the words lent.
+fn call_lent(bytes: &[u8], words: &mut [u64], item: u64) -> LastReply
+    ensures { λ r. ⌜ playedBy r (now (words .exit))
+        ≡ does (byKind (kindOf item) (now (bytes .entry)) (length (now (words .entry))) (limitOf item)) (now (words .entry)) ⌝ }
+{
+    let kind = item / 4294967296 % 4;
+    if kind == 0 {
+        return check_lent(bytes, words);
+    }
+    if kind == 1 {
+        return step_lent(bytes, words);
+    }
+    run_lent(bytes, words, (item % 4294967296) as u32)
+}
+
+// The smaller of two numbers.
+fn fewer(asked: usize, held: usize) -> usize
+    ensures { λ r. ⌜ r ≡ min asked held ⌝ }
+{
+    if asked < held {
+        return asked;
+    }
+    held
+}
+
+// The call of an item, on the first so many of the words as it asks for.
+fn call_part(bytes: &[u8], words: &mut [u64], item: u64) -> LastReply
+    ensures { λ r. ⌜ playedBy r (now (words .exit))
+        ≡ does (byKind (kindOf item) (now (bytes .entry)) (lentOf item) (limitOf item)) (now (words .entry)) ⌝ }
+{
+    let asked = (item / 34359738368) as usize;
+    let lent = fewer(asked, words.len());
+    call_lent(bytes, &mut words[..lent], item)
+}
+
+// The call of an item, with the plan's bytes or the other ones.
+fn call_item(bytes: &[u8], other: &[u8], words: &mut [u64], item: u64) -> LastReply
+    ensures { λ r. ⌜ playedBy r (now (words .exit))
+        ≡ does (callOf (now (bytes .entry)) (now (other .entry)) item) (now (words .entry)) ⌝ }
+{
+    let source = item / 17179869184 % 2;
+    if source == 1 {
+        return call_part(other, words, item);
+    }
+    call_part(bytes, words, item)
+}
+
+// Plays the script's calls one after the other, and answers the last reply, `Checked` where there is no call.
+pub fn play(bytes: &[u8], other: &[u8], words: &mut [u64], script: &[u64]) -> LastReply
+    ensures { λ r. ⌜ ScriptPlayed (now (bytes .entry)) (now (other .entry)) (now (script .entry)) (now (words .entry)) r (now (words .exit)) ⌝ }
+{
+    let mut reply = LastReply::Checked;
+    let mut i: usize = 0;
+    while i < script.len() {
+        reply = call_item(bytes, other, words, script[i]);
+        i += 1;
+    }
+    reply
+}
