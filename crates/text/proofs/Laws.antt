@@ -8,6 +8,8 @@ use native.Mathlib.Numerals.{add-one}
 use native.Mathlib.Omega.{arith}
 use lib.ListN.{length, getD, take, drop, set, length-append, length-drop, take-append-drop}
 use lib.Seq.{take-at, drop-at, length-take-le, drop-drop, take-suc, set-split, append-snoc}
+use Rattle.model.specs.Listing.{numberField, fields, lineEnd, line}
+use Rattle.theory.proofs.Lines.{fields-append}
 use Rattle.text.specs.Pasted.{pasted, Room, Put}
 
 pub pasted-none : (at : ℕ) (old : List ℕ) → pasted at [] old ≡ old
@@ -91,3 +93,66 @@ word-more at i word old text l room put =
     let inside = room-next at (take i word) (getD word i 0 ∷ []) old fits text (at + i) put in
     rw (← add-assoc at i 1, add-one i, one)
     (put-then at (take i word) (getD word i 0 ∷ []) old fits text _ (at + i) _ put (put-set (at + i) (getD word i 0) text inside))
+
+-- fields, number by number
+fields-none : fields [] ≡ []
+unfolding fields
+fields-none = refl
+
+fields-more : (i : ℕ) (numbers : List ℕ) → i < length numbers
+    → fields (take (i + 1) numbers) ≡ fields (take i numbers) ++ numberField (getD numbers i 0)
+unfolding fields
+fields-more i numbers l =
+    rw (add-one i, take-suc numbers i 0 l)
+    (fields-append (take i numbers) (getD numbers i 0 ∷ [])
+    ∙ ap (λ (s : List ℕ). fields (take i numbers) ++ s) (append-nil (numberField (getD numbers i 0))))
+
+fields-prefix : (i : ℕ) (numbers : List ℕ) → length (fields (take i numbers)) ≤ length (fields numbers)
+fields-prefix i numbers =
+    let e = ap (λ (s : List ℕ). length (fields s)) (take-append-drop i numbers) in
+    let parts = ap length (fields-append (take i numbers) (drop i numbers)) in
+    let sizes = length-append (fields (take i numbers)) (fields (drop i numbers)) in
+    omega arith
+
+pub fields-start : (at : ℕ) (old : List ℕ) → Put at (fields []) old old at
+fields-start at old = rw fields-none (put-none at old)
+
+module _ (at i : ℕ) (numbers old : List ℕ) (l : i < length numbers) (room : Room at (fields numbers) old) where
+  both-room : Room at (fields (take i numbers) ++ numberField (getD numbers i 0)) old
+  both-room =
+      let short = fields-prefix (i + 1) numbers in
+      record { fits = rw (← fields-more i numbers l) (omega (arith, room .fits)) }
+
+  pub field-room : (text : List ℕ) (next : ℕ) → Put at (fields (take i numbers)) old text next
+      → Room next (numberField (getD numbers i 0)) text
+  field-room text next put = room-next at (fields (take i numbers)) _ old both-room text next put
+
+  pub field-put : (text text' : List ℕ) (next next' : ℕ) → Put at (fields (take i numbers)) old text next
+      → Put next (numberField (getD numbers i 0)) text text' next' → Put at (fields (take (i + 1) numbers)) old text' next'
+  field-put text text' next next' put then =
+      rw (fields-more i numbers l) (put-then at (fields (take i numbers)) _ old both-room text text' next next' put then)
+
+-- a line: its word, its fields, its end
+module _ (at : ℕ) (word numbers old : List ℕ) (room : Room at (line word numbers) old) where
+  front-room : Room at (word ++ fields numbers) old
+  unfolding line
+  front-room = room-first at (word ++ fields numbers) lineEnd old room
+
+  pub word-room : Room at word old
+  word-room = room-first at word (fields numbers) old front-room
+
+  module _ {text₁ : List ℕ} {next₁ : ℕ} (named : Put at word old text₁ next₁) where
+    pub fields-room : Room next₁ (fields numbers) text₁
+    fields-room = room-next at word (fields numbers) old front-room text₁ next₁ named
+
+    module _ {text₂ : List ℕ} {next₂ : ℕ} (listed : Put next₁ (fields numbers) text₁ text₂ next₂) where
+      front : Put at (word ++ fields numbers) old text₂ next₂
+      front = put-then at word (fields numbers) old front-room text₁ text₂ next₁ next₂ named listed
+
+      pub end-room : Room next₂ lineEnd text₂
+      unfolding line
+      end-room = room-next at (word ++ fields numbers) lineEnd old room text₂ next₂ front
+
+      pub end-put : {text₃ : List ℕ} {next₃ : ℕ} → Put next₂ lineEnd text₂ text₃ next₃ → Put at (line word numbers) old text₃ next₃
+      unfolding line
+      end-put {text₃} {next₃} ended = put-then at (word ++ fields numbers) lineEnd old room text₂ text₃ next₂ next₃ front ended

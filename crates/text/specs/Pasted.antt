@@ -12,6 +12,11 @@ pasted at piece old = take at old ++ piece ++ drop (at + length piece) old
 pub record Room (at : ℕ) (piece text : List ℕ) : Type 0 where
   pub fits : at + length piece ≤ length text
 
+-- Few numbers, whose piece fits.
+pub record FieldsAsked (at : ℕ) (piece numbers text : List ℕ) : Type 0 where
+  pub room : Room at piece text
+  pub few : length numbers ≤ 1024
+
 -- The text at exit has the piece pasted, and `next` is the position past it.
 pub record Put (at : ℕ) (piece old text : List ℕ) (next : ℕ) : Type 0 where
   pub text-is : text ≡ pasted at piece old

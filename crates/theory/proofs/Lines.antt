@@ -6,9 +6,11 @@ use mathlib.Core.List.{List, [], _∷_, _++_, append-assoc, append-nil}
 use mathlib.Core.Logic.{_⊎_, inl, inr}
 use Prim.Native.Nat.{ℕ, zero, suc, _+_, _*_, _-_, _/_, _%_, _^_, _<_, _≤_}
 use native.Mathlib.Nat.{not-suc-le-zero, pow-suc, mod-eq-of-lt}
+use native.Mathlib.Numerals.{add-one}
 use native.Mathlib.Decide.{decLt, ℕ-discrete}
 use native.Mathlib.Omega.{arith}
 use borrow.Author.Tests.{lt-ltb, le-ltb}
+use lib.Arith.{le-zero}
 use lib.Dec.{eqb}
 use lib.ListN.{length, length-append}
 use Rattle.order.specs.Sum.{sum}
@@ -89,6 +91,28 @@ lines-length (suc n) c f h =
     let before = lines-length n c f (λ i l. h i (omega arith)) in
     let here = h n (omega arith) in
     simp length-append (omega (arith, before, here))
+
+pub lines-cong : (n : ℕ) (f g : ℕ → List ℕ) → ((i : ℕ) → i < n → f i ≡ g i) → lines n f ≡ lines n g
+unfolding lines
+lines-cong zero f g e = refl
+lines-cong (suc n) f g e = ap₂ _++_ (lines-cong n f g (λ i l. e i (omega arith))) (e n (omega arith))
+
+pub lines-zero : (f : ℕ → List ℕ) → lines 0 f ≡ []
+unfolding lines
+lines-zero f = refl
+
+pub lines-step : (n : ℕ) (f : ℕ → List ℕ) → lines (n + 1) f ≡ lines n f ++ f n
+unfolding lines
+lines-step n f = rw add-one
+
+-- the first lines are no longer than all of them
+pub lines-prefix : (n : ℕ) (f : ℕ → List ℕ) (i : ℕ) → i ≤ n → length (lines i f) ≤ length (lines n f)
+unfolding lines
+lines-prefix zero f i l = rw (le-zero l) (omega arith)
+lines-prefix (suc n) f i l = elim (ℕ-discrete i (suc n)) [
+  | yes e ↦ rw e (omega arith)
+  | no d ↦ let before = lines-prefix n f i (omega arith) in simp length-append (omega arith)
+]
 
 -- the machines of a block
 holders-suc : (word n : ℕ) → holders word (suc n) ≡ holders word n ++ cond (eqb (bit word n) 1) (n ∷ []) []

@@ -1,33 +1,25 @@
 -- `text::put_field` meets its contract: a space, then the number.
 -- Assumes nothing.
+use borrow.Author.Needs.{needs}
 use mathlib.Core.List.{[], _∷_}
 use Rattle.model.specs.Listing.{numberField}
 use Rattle.text.proofs.Laws.{room-first, room-next, put-then}
-use borrow.Author.Needs.{needs}
 use Rattle.text.proofs.put_field.Statement.{statement}
 use Rattle.text.proofs.put_field.Tie as tie
-use Rattle.text.proofs.put_field.Reads as reads
-use Rattle.text.proofs.put_field.Lts as lts
-use Rattle.text.proofs.put_byte.Reads as put-byte-reads
-use Rattle.text.proofs.put_decimal.Reads as put-decimal-reads
 
--- src/lib.rt:46:9
 put-byte-requires : tie.Need-put-byte-requires
 unfolding numberField
 put-byte-requires c κs = room-first _ (32 ∷ []) _ _ (c .before .before .pre)
 
--- src/lib.rt:47:5
 put-decimal-requires : tie.Need-put-decimal-requires
 unfolding numberField
 put-decimal-requires c κs =
     let call = c .before .before .before in
     room-next _ (32 ∷ []) _ _ (call .before .before .before .pre) _ _ (call .put-byte .ensures)
 
--- src/lib.rt:42:1
 same-length : tie.Need-same-length
 same-length c = search needs
 
--- src/lib.rt:42:1
 returns : tie.Need-returns
 unfolding numberField
 returns c =
