@@ -254,6 +254,41 @@ pub fn filled(rng: &mut Rng, size: Size) -> Draft {
     draft
 }
 
+/// A large plan that comes to rest soon: three popularities, and the same count for every block.
+pub fn coarse(rng: &mut Rng) -> Draft {
+    let (racks, per_rack) = shape(rng, 64);
+    let machines = u64::from(racks) * u64::from(per_rack);
+    let least = rng.from_to(1, machines.min(4)) as u8;
+    let record = |rng: &mut Rng| Record {
+        popularity: rng.one_of(&[0, 6, 12]),
+        least,
+        spread: rng.from_to(1, u64::from(least.min(racks))) as u8,
+    };
+    let mut draft = Draft {
+        racks,
+        per_rack,
+        capacity: 1,
+        budget: 0,
+        records: (0..rng.from_to(200, 1024)).map(|_| record(rng)).collect(),
+    };
+    draft.capacity = capacity(rng, &draft);
+    draft.budget = draft.least_sum() as u32;
+    draft
+}
+
+/// An input longer than the largest plan, with a header that is refused or not.
+pub fn too_long(rng: &mut Rng) -> Vec<u8> {
+    let number = rng.one_of(&[0, 3, 1024]);
+    let mut bytes = sized(rng, SMALL, 2, 2, number).bytes();
+    if rng.once_in(3) {
+        let at = rng.below(15) as usize;
+        bytes[at] = rng.below(256) as u8;
+    }
+    let more = rng.one_of(&[5121, 6000, 20_000, 70_000]);
+    bytes.resize(15 + more, rng.below(2) as u8);
+    bytes
+}
+
 /// Random bytes, some of them behind a true mark and version.
 pub fn noise(rng: &mut Rng) -> Vec<u8> {
     let mut bytes: Vec<u8> = if rng.once_in(2) {

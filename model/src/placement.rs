@@ -10,13 +10,14 @@ pub fn holds(word: u64, machine: usize) -> bool {
 
 /// The copies of a block: the number of bits set.
 pub fn copies_of(word: u64) -> usize {
-    (0..64).filter(|m| holds(word, *m)).count()
+    word.count_ones() as usize
 }
 
 /// The number of racks in which the block lies.
 pub fn racks_of(plan: &Plan, word: u64) -> usize {
-    let in_rack = |r: usize| (0..plan.machines()).any(|m| plan.rack_of(m) == r && holds(word, m));
-    (0..plan.racks).filter(|r| in_rack(*r)).count()
+    let machines_of = |r: usize| r * plan.per_rack..(r + 1) * plan.per_rack;
+    let lies_in = |r: &usize| machines_of(*r).any(|m| holds(word, m));
+    (0..plan.racks).filter(lies_in).count()
 }
 
 /// The copies that a machine holds.
