@@ -323,7 +323,7 @@ pub fn placement(rng: &mut Rng, plan: &Plan) -> Vec<u64> {
     if words.is_empty() {
         return words;
     }
-    for _ in 0..words.len() * 20 {
+    for _ in 0..(words.len() * 20).min(1000) {
         let after = shuffled(rng, plan, &words);
         if after != words && feasible(plan, &after) {
             words = after;

@@ -60,6 +60,10 @@ fn named_plans(w: &mut Writer) {
         w.run(budget);
         w.calls("rs");
     }
+}
+
+/// M 64 in three shapes.
+fn widest_plans(w: &mut Writer) {
     w.title("M 64 accepted, in three shapes");
     for (racks, per_rack) in [(8, 8), (64, 1), (1, 64)] {
         let records = vec![h().records[1]; 70];
@@ -290,12 +294,12 @@ fn accepted_plans(w: &mut Writer, rng: &mut Rng) {
         (
             "generated plans of at most 12 machines and 20 blocks",
             SMALL,
-            120,
+            200,
         ),
         (
             "generated plans of at most 64 machines and 40 blocks",
             MEDIUM,
-            40,
+            90,
         ),
     ] {
         w.title(title);
@@ -362,7 +366,7 @@ fn large_plans(w: &mut Writer, rng: &mut Rng) {
         let plan = draft.plan().expect("an accepted plan");
         plan_calls(w, &draft);
         w.calls("ss");
-        w.run(60);
+        w.run(200);
         w.calls("r");
         w.words(&leaning(rng, &plan));
         w.calls("krs");
@@ -384,7 +388,7 @@ fn large_plans(w: &mut Writer, rng: &mut Rng) {
         }
         plan_calls(w, &draft);
         w.calls("s");
-        w.run(40);
+        w.run(100);
         w.calls("r");
     }
 }
@@ -395,6 +399,7 @@ pub fn stream() -> Vec<u8> {
     let mut rng = Rng::new(1);
     w.lend(0);
     named_plans(&mut w);
+    widest_plans(&mut w);
     named_placements(&mut w);
     refused_examples(&mut w);
     refused_placements(&mut w);

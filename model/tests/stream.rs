@@ -7,7 +7,7 @@ use placement_model::trials::stream;
 #[test]
 fn digest_is_fnv() {
     assert_eq!(digest([].into_iter()), "cbf29ce484222325");
-    assert_eq!(digest(*b"a".into_iter()), "af63dc4c8601ec8c");
+    assert_eq!(digest(b"a".iter().copied()), "af63dc4c8601ec8c");
     assert_eq!(digest(b"foobar".iter().copied()), "85944171f73967e8");
 }
 
