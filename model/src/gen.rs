@@ -276,6 +276,23 @@ pub fn coarse(rng: &mut Rng) -> Draft {
     draft
 }
 
+/// A plan that often takes tens of thousands of steps to rest: 16 full machines in one rack, four copies of
+/// each of 76 blocks, popularities a little above powers of two.
+pub fn patient(rng: &mut Rng) -> Draft {
+    let record = |rng: &mut Rng| Record {
+        popularity: (1 << rng.below(24)) + rng.below(100) as u32,
+        least: 4,
+        spread: 1,
+    };
+    Draft {
+        racks: 1,
+        per_rack: 16,
+        capacity: 19,
+        budget: 304,
+        records: (0..76).map(|_| record(rng)).collect(),
+    }
+}
+
 /// An input longer than the largest plan, with a header that is refused or not.
 pub fn too_long(rng: &mut Rng) -> Vec<u8> {
     let number = rng.one_of(&[0, 3, 1024]);

@@ -114,7 +114,11 @@ fn main() -> Result<()> {
     let mut tally = Tally::default();
     for k in 0..count {
         let mut rng = Rng::new(seed.wrapping_mul(1 << 32).wrapping_add(k));
-        let bytes = input(&mut rng);
+        let bytes = if k % 3000 == 2999 {
+            patient(&mut rng).bytes()
+        } else {
+            input(&mut rng)
+        };
         let (verdict, model) = listed(&bytes, STEP_BUDGET);
         let said = printed(&program, &bytes)?;
         if said != model.as_bytes() {

@@ -1,6 +1,6 @@
 //! Writes the stored trials and examples into a folder: trials.stdin, trials.stdout, examples/*.plan, examples/*.listing.
 
-use placement_model::gen::{sized, Draft, Rng, SMALL};
+use placement_model::gen::{patient, sized, Draft, Rng, SMALL};
 use placement_model::listing::{text, STEP_BUDGET};
 use placement_model::samples::{empty, h_budget, y, H};
 use placement_model::stream::replay;
@@ -31,6 +31,8 @@ fn examples() -> Vec<(&'static str, Vec<u8>)> {
         ("empty", empty().bytes()),
         ("refused", h_budget(3).bytes()),
         ("mixed", mixed().bytes()),
+        // It needs 100,036 steps to rest, so the program's budget ends a little before.
+        ("spent", patient(&mut Rng::new(0)).bytes()),
     ]
 }
 
