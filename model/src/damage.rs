@@ -106,6 +106,19 @@ pub fn two_records(rng: &mut Rng, size: Size, least_first: bool) -> Option<Draft
     Some(draft)
 }
 
+/// An accepted plan with a spread above R that is not above the block's least copies: row 9.
+pub fn over_racks(rng: &mut Rng, size: Size) -> Option<Draft> {
+    let mut draft = draft(rng, size);
+    let most = draft.machines().min(8) as u8;
+    if draft.records.is_empty() || most <= draft.racks {
+        return None;
+    }
+    let i = rng.below(draft.records.len() as u64) as usize;
+    draft.records[i].least = rng.from_to(u64::from(draft.racks) + 1, u64::from(most)) as u8;
+    draft.records[i].spread = draft.racks + 1;
+    Some(draft)
+}
+
 /// Sets a bit at or above M, in place of a copy or beside it.
 fn set_outside(rng: &mut Rng, plan: &Plan, words: &mut [u64]) {
     if plan.machines() == 64 {

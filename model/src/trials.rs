@@ -1,6 +1,6 @@
 //! The stored trials: the specification's plans and examples first, generated ones after them.
 
-use crate::damage::{broken, flawed, over_budget, over_capacity, two_records};
+use crate::damage::{broken, flawed, over_budget, over_capacity, over_racks, two_records};
 use crate::gen::*;
 use crate::plan::{read, Plan};
 use crate::samples::*;
@@ -80,6 +80,28 @@ fn widest_plans(w: &mut Writer) {
     }
 }
 
+/// Least copies and spread at their limits, and one above.
+fn limits_of_records(w: &mut Writer) {
+    w.title("least copies and spread at the limits and one above");
+    for (racks, per_rack) in [(1, 8), (7, 1), (8, 1), (3, 3), (9, 1), (8, 8)] {
+        for (least, spread) in [
+            (7, 7),
+            (7, 3),
+            (8, 8),
+            (8, 9),
+            (8, 4),
+            (8, 3),
+            (9, 1),
+            (9, 9),
+        ] {
+            let draft = plan_of((racks, per_rack), 2, 16, &[(9, least, spread)]);
+            w.plan(&draft.bytes());
+            w.lend(1);
+            w.calls("pfr");
+        }
+    }
+}
+
 /// Placements handed in, of which the specification or our readings tell what follows.
 fn named_placements(w: &mut Writer) {
     let (full, rest, even) = full_machines();
@@ -138,6 +160,15 @@ fn refused_examples(w: &mut Writer) {
     for (at, byte) in [(23, 5), (23, 0), (19, 3), (19, 0), (24, 2)] {
         refused_plan(w, &h_changed(at, byte));
     }
+    for (least, spread) in [(3, 3), (4, 3), (4, 4), (8, 1), (9, 1)] {
+        let record = Record {
+            popularity: 1,
+            least,
+            spread,
+        };
+        let records = vec![h().records[0], record];
+        refused_plan(w, &Draft { records, ..h() }.bytes());
+    }
     refused_plan(w, &h_budget(3).bytes());
     refused_plan(w, &row_eleven(1).bytes());
     refused_plan(
@@ -174,7 +205,7 @@ fn refused_placements(w: &mut Writer) {
 /// A pattern in all words, so that a word written past the blocks shows.
 fn pattern(w: &mut Writer, rng: &mut Rng) {
     w.title("a pattern in every word");
-    let words: Vec<u64> = (0..WORDS).map(|_| rng.next()).collect();
+    let words: Vec<u64> = (0..WORDS).map(|_| rng.word()).collect();
     w.words(&words);
 }
 
@@ -201,8 +232,9 @@ fn damaged_plans(w: &mut Writer, rng: &mut Rng) {
                 refused_plan(w, &two.bytes());
             }
         }
-        if let Some(over) = over_budget(rng, SMALL) {
-            refused_plan(w, &over.bytes());
+        let over = [over_budget(rng, SMALL), over_racks(rng, SMALL)];
+        for draft in over.iter().flatten() {
+            refused_plan(w, &draft.bytes());
         }
         refused_plan(w, &over_capacity(rng, SMALL).bytes());
     }
@@ -400,6 +432,7 @@ pub fn stream() -> Vec<u8> {
     w.lend(0);
     named_plans(&mut w);
     widest_plans(&mut w);
+    limits_of_records(&mut w);
     named_placements(&mut w);
     refused_examples(&mut w);
     refused_placements(&mut w);

@@ -1,7 +1,9 @@
 //! Claims of the specification on random plans, against brute force where the plans are tiny.
 
 use placement_model::counts::{chosen, largest_share, share};
-use placement_model::damage::{broken, flawed, over_budget, over_capacity, two_records};
+use placement_model::damage::{
+    broken, flawed, over_budget, over_capacity, over_racks, two_records,
+};
 use placement_model::gen::*;
 use placement_model::placement::*;
 use placement_model::plan::{read, Plan};
@@ -219,6 +221,9 @@ fn damaged_plans_get_the_first_row() {
         }
         if let Some(over) = over_budget(&mut rng, SMALL) {
             assert_eq!(read(&over.bytes()), Err(10));
+        }
+        if let Some(over) = over_racks(&mut rng, SMALL) {
+            assert_eq!(read(&over.bytes()), Err(9));
         }
         assert_eq!(read(&over_capacity(&mut rng, SMALL).bytes()), Err(11));
     }

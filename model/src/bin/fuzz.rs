@@ -1,7 +1,7 @@
 //! Compares a program with the model: fuzz PROGRAM [COUNT] [SEED]. Each plan is given to the program on its
 //! standard input, and what it prints is compared with the model's listing.
 
-use placement_model::damage::{flawed, over_budget, over_capacity, two_records};
+use placement_model::damage::{flawed, over_budget, over_capacity, over_racks, two_records};
 use placement_model::gen::*;
 use placement_model::listing::{listed, Verdict, STEP_BUDGET};
 use placement_model::steps::End;
@@ -21,11 +21,12 @@ fn printed(program: &str, bytes: &[u8]) -> Result<Vec<u8>> {
 
 /// A plan that some check refuses, or nearly so.
 fn damaged(rng: &mut Rng) -> Vec<u8> {
-    let draft = match rng.below(6) {
+    let draft = match rng.below(7) {
         0 => two_records(rng, SMALL, true),
         1 => two_records(rng, SMALL, false),
         2 => over_budget(rng, SMALL),
         3 => Some(over_capacity(rng, SMALL)),
+        4 => over_racks(rng, SMALL),
         _ => None,
     };
     let bytes = draft.unwrap_or_else(|| placement_model::gen::draft(rng, SMALL));
