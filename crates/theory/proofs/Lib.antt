@@ -25,3 +25,4 @@ pub mod Trials
 pub mod Held
 pub mod Lines
 pub mod Listing
+pub mod LongInput

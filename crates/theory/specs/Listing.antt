@@ -1,8 +1,10 @@
 -- Document 01, "Listing of the program": what it prints for plan H and for the empty file, and how long a listing gets.
 use mathlib.Core.Path.{_≡_}
 use mathlib.Core.List.{List, [], _∷_}
-use Prim.Native.Nat.{ℕ, _<_, _≤_, _^_}
-use lib.ListN.{length, getD}
+use Prim.Native.Nat.{ℕ, _+_, _<_, _≤_, _^_}
+use lib.ListN.{length, getD, take}
+use Rattle.model.specs.Plan.{recordAt}
+use Rattle.model.specs.Refusal.{maxBlocks}
 use Rattle.model.specs.Listing.{printed, listingRoom}
 use Rattle.theory.specs.Trials.{plan-H}
 
@@ -31,3 +33,11 @@ pub record ListingLaws : Type 0 where
   -- Every listing fits, whatever the bytes, with a step budget of 32 bits.
   pub fits : (bytes : List ℕ) → ((i : ℕ) → getD bytes i 0 < 256) → (budget : ℕ) → budget < 2 ^ 32
       → length (printed bytes budget) ≤ listingRoom
+
+-- One byte more than the largest plan has.
+abbrev pub inputRoom : ℕ
+inputRoom = recordAt maxBlocks + 1
+
+-- An input longer than any plan prints the same as its first bytes alone: the program need not read further.
+abbrev pub LongInput : Type 0
+LongInput = (bytes : List ℕ) → inputRoom ≤ length bytes → (budget : ℕ) → printed (take inputRoom bytes) budget ≡ printed bytes budget
