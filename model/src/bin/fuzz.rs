@@ -1,0 +1,135 @@
+//! Compares a program with the model: fuzz PROGRAM [COUNT] [SEED]. Each plan is given to the program on its
+//! standard input, and what it prints is compared with the model's listing.
+
+use placement_model::damage::{flawed, over_budget, over_capacity, over_racks, two_records};
+use placement_model::gen::*;
+use placement_model::listing::{listed, Verdict, STEP_BUDGET};
+use placement_model::steps::End;
+use std::io::{Result, Write};
+use std::process::{exit, Command, Stdio};
+
+/// What the program prints for these bytes.
+fn printed(program: &str, bytes: &[u8]) -> Result<Vec<u8>> {
+    let mut child = Command::new(program)
+        .stdin(Stdio::piped())
+        .stdout(Stdio::piped())
+        .spawn()?;
+    // A program may stop reading once it knows its answer: a closed pipe is no fault.
+    let _ = child.stdin.take().expect("piped").write_all(bytes);
+    Ok(child.wait_with_output()?.stdout)
+}
+
+/// A plan that some check refuses, or nearly so.
+fn damaged(rng: &mut Rng) -> Vec<u8> {
+    let draft = match rng.below(7) {
+        0 => two_records(rng, SMALL, true),
+        1 => two_records(rng, SMALL, false),
+        2 => over_budget(rng, SMALL),
+        3 => Some(over_capacity(rng, SMALL)),
+        4 => over_racks(rng, SMALL),
+        _ => None,
+    };
+    let bytes = draft.unwrap_or_else(|| placement_model::gen::draft(rng, SMALL));
+    if rng.once_in(2) {
+        bytes.bytes()
+    } else {
+        let row = rng.from_to(1, 11) as u8;
+        flawed(rng, bytes.bytes(), row)
+    }
+}
+
+/// The input of one trial.
+fn input(rng: &mut Rng) -> Vec<u8> {
+    match rng.below(200) {
+        0 => coarse(rng).bytes(),
+        1..=3 => too_long(rng),
+        4..=13 => noise(rng),
+        14..=49 => damaged(rng),
+        50..=69 => draft(rng, MEDIUM).bytes(),
+        70..=89 => filled(rng, SMALL).bytes(),
+        90..=129 => draft(rng, TINY).bytes(),
+        _ => draft(rng, SMALL).bytes(),
+    }
+}
+
+/// How many trials ended in which way.
+#[derive(Default)]
+struct Tally {
+    refused: [u64; 12],
+    rest: u64,
+    spent: u64,
+}
+
+impl Tally {
+    fn add(&mut self, verdict: Verdict) {
+        match verdict {
+            Verdict::Refused(row) => self.refused[usize::from(row)] += 1,
+            Verdict::Ended(End::Rest) => self.rest += 1,
+            Verdict::Ended(End::Spent) => self.spent += 1,
+        }
+    }
+
+    fn text(&self) -> String {
+        let refused: Vec<String> = (1..12)
+            .map(|row| format!("{row}:{}", self.refused[row]))
+            .collect();
+        format!(
+            "accepted {} (at rest {}, spent {}), refused {}",
+            self.rest + self.spent,
+            self.rest,
+            self.spent,
+            refused.join(" ")
+        )
+    }
+}
+
+/// Saves the plan on which the two differ, says so, and stops.
+fn differ(seed: u64, k: u64, bytes: &[u8], model: &str, program: &[u8]) -> Result<()> {
+    let path = std::env::temp_dir().join(format!("fuzz-{seed}-{k}.plan"));
+    std::fs::write(&path, bytes)?;
+    println!(
+        "seed {seed}, plan {k}: the program differs; the plan is in {}",
+        path.display()
+    );
+    println!("-- the model prints:\n{model}");
+    println!(
+        "-- the program prints:\n{}",
+        String::from_utf8_lossy(program)
+    );
+    exit(1)
+}
+
+/// The argument at `at` as a number, or `otherwise`.
+fn number(at: usize, otherwise: u64) -> u64 {
+    let argument = std::env::args().nth(at);
+    argument.map_or(otherwise, |a| {
+        a.parse().expect("COUNT and SEED are numbers")
+    })
+}
+
+fn main() -> Result<()> {
+    let program = std::env::args()
+        .nth(1)
+        .expect("usage: fuzz PROGRAM [COUNT] [SEED]");
+    let (count, seed) = (number(2, 3000), number(3, 1));
+    let mut tally = Tally::default();
+    for k in 0..count {
+        let mut rng = Rng::new(seed.wrapping_mul(1 << 32).wrapping_add(k));
+        let bytes = if k % 3000 == 2999 {
+            patient(&mut rng).bytes()
+        } else {
+            input(&mut rng)
+        };
+        let (verdict, model) = listed(&bytes, STEP_BUDGET);
+        let said = printed(&program, &bytes)?;
+        if said != model.as_bytes() {
+            differ(seed, k, &bytes, &model, &said)?;
+        }
+        tally.add(verdict);
+    }
+    println!(
+        "seed {seed}, {count} plans, no difference: {}",
+        tally.text()
+    );
+    Ok(())
+}

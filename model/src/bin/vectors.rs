@@ -1,0 +1,53 @@
+//! Writes the stored trials and examples into a folder: trials.stdin, trials.stdout, examples/*.plan, examples/*.listing.
+
+use placement_model::gen::{patient, sized, Draft, Rng, SMALL};
+use placement_model::listing::{text, STEP_BUDGET};
+use placement_model::samples::{empty, h_budget, y, H};
+use placement_model::stream::replay;
+use placement_model::trials::stream;
+use std::fs::{create_dir_all, write};
+use std::io::Result;
+use std::path::Path;
+
+/// Twelve machines in four racks and forty blocks with mixed spreads, some of them popular.
+fn mixed() -> Draft {
+    let mut rng = Rng::new(40);
+    let mut draft = sized(&mut rng, SMALL, 4, 3, 40);
+    for (i, record) in draft.records.iter_mut().enumerate() {
+        record.popularity = 900 / (i as u32 + 1) + rng.below(30) as u32;
+        record.least = 1 + (i % 4) as u8;
+        record.spread = 1 + rng.below(u64::from(record.least)) as u8;
+    }
+    draft.capacity = 13;
+    draft.budget = 140;
+    draft
+}
+
+/// The example plans with their names.
+fn examples() -> Vec<(&'static str, Vec<u8>)> {
+    vec![
+        ("h", H.to_vec()),
+        ("y", y().bytes()),
+        ("empty", empty().bytes()),
+        ("refused", h_budget(3).bytes()),
+        ("mixed", mixed().bytes()),
+        // It needs 100,036 steps to rest, so the program's budget ends a little before.
+        ("spent", patient(&mut Rng::new(0)).bytes()),
+    ]
+}
+
+fn main() -> Result<()> {
+    let folder = std::env::args().nth(1).expect("usage: vectors FOLDER");
+    let folder = Path::new(&folder);
+    let examples_folder = folder.join("examples");
+    create_dir_all(&examples_folder)?;
+    let stream = stream();
+    write(folder.join("trials.stdin"), &stream)?;
+    write(folder.join("trials.stdout"), replay(&stream))?;
+    for (name, bytes) in examples() {
+        write(examples_folder.join(format!("{name}.plan")), &bytes)?;
+        let listing = text(&bytes, STEP_BUDGET);
+        write(examples_folder.join(format!("{name}.listing")), listing)?;
+    }
+    Ok(())
+}

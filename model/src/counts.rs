@@ -1,0 +1,56 @@
+//! Counts and shares.
+
+use crate::plan::{Block, Plan};
+
+/// The share of a copy: P × 840 / count, in 840ths of a read.
+pub fn share(popularity: u64, count: usize) -> u64 {
+    popularity * 840 / count as u64
+}
+
+/// The smallest count from least copies to the upper count whose share is within `figure`.
+fn smallest_within(plan: &Plan, block: &Block, figure: u64) -> Option<usize> {
+    (block.least..=plan.upper()).find(|c| share(block.popularity, *c) <= figure)
+}
+
+/// Every block's smallest count within `figure`; nothing if some block has none.
+fn all_within(plan: &Plan, figure: u64) -> Option<Vec<usize>> {
+    plan.blocks
+        .iter()
+        .map(|b| smallest_within(plan, b, figure))
+        .collect()
+}
+
+/// The counts within `figure`, if they are few enough for the budget and the machines.
+fn fitting(plan: &Plan, figure: u64) -> Option<Vec<usize>> {
+    let counts = all_within(plan, figure)?;
+    let sum: u64 = counts.iter().map(|c| *c as u64).sum();
+    (sum <= plan.most_copies()).then_some(counts)
+}
+
+/// All shares that any block can have, and 0, rising.
+fn figures(plan: &Plan) -> Vec<u64> {
+    let mut all = vec![0];
+    for block in &plan.blocks {
+        all.extend((block.least..=plan.upper()).map(|c| share(block.popularity, c)));
+    }
+    all.sort_unstable();
+    all.dedup();
+    all
+}
+
+/// The chosen counts: those within the smallest figure that fits. A larger figure never needs more copies,
+/// so the sorted figures are halved until the first fitting one is found.
+pub fn chosen(plan: &Plan) -> Vec<usize> {
+    let all = figures(plan);
+    let first = all.partition_point(|figure| fitting(plan, *figure).is_none());
+    fitting(plan, all[first]).expect("the least copies of an accepted plan fit")
+}
+
+/// The largest share among the blocks at the given counts, 0 if there is no block.
+pub fn largest_share(plan: &Plan, counts: &[usize]) -> u64 {
+    let shares = plan.blocks.iter().zip(counts);
+    shares
+        .map(|(b, c)| share(b.popularity, *c))
+        .max()
+        .unwrap_or(0)
+}

@@ -1,0 +1,367 @@
+//! Plans and placements made from a seed, always the same from the same seed.
+
+use crate::placement::{feasible, first, holds};
+use crate::plan::{read, Plan};
+
+/// A small generator of numbers (splitmix).
+pub struct Rng(u64);
+
+impl Rng {
+    pub fn new(seed: u64) -> Rng {
+        Rng(seed)
+    }
+
+    pub fn word(&mut self) -> u64 {
+        self.0 = self.0.wrapping_add(0x9E37_79B9_7F4A_7C15);
+        let mut z = self.0;
+        z = (z ^ z >> 30).wrapping_mul(0xBF58_476D_1CE4_E5B9);
+        z = (z ^ z >> 27).wrapping_mul(0x94D0_49BB_1331_11EB);
+        z ^ z >> 31
+    }
+
+    /// A number below `limit`, which is not 0.
+    pub fn below(&mut self, limit: u64) -> u64 {
+        self.word() % limit
+    }
+
+    /// A number from `low` to `high`, both included.
+    pub fn from_to(&mut self, low: u64, high: u64) -> u64 {
+        low + self.below(high - low + 1)
+    }
+
+    /// True once in `times`.
+    pub fn once_in(&mut self, times: u64) -> bool {
+        self.below(times) == 0
+    }
+
+    /// One of the given things.
+    pub fn one_of<T: Copy>(&mut self, things: &[T]) -> T {
+        things[self.below(things.len() as u64) as usize]
+    }
+}
+
+/// A record of a plan file before it is judged.
+#[derive(Clone, Copy, Debug)]
+pub struct Record {
+    pub popularity: u32,
+    pub least: u8,
+    pub spread: u8,
+}
+
+/// The fields of a plan file before it is judged.
+#[derive(Clone, Debug)]
+pub struct Draft {
+    pub racks: u8,
+    pub per_rack: u8,
+    pub capacity: u16,
+    pub budget: u32,
+    pub records: Vec<Record>,
+}
+
+impl Draft {
+    /// M, in full width.
+    pub fn machines(&self) -> u64 {
+        u64::from(self.racks) * u64::from(self.per_rack)
+    }
+
+    /// The sum of least copies.
+    pub fn least_sum(&self) -> u64 {
+        self.records.iter().map(|r| u64::from(r.least)).sum()
+    }
+
+    /// The plan file.
+    pub fn bytes(&self) -> Vec<u8> {
+        let mut bytes = vec![0x42, 0x50, 0x4C, 0, 1, self.racks, self.per_rack];
+        bytes.extend(self.capacity.to_be_bytes());
+        bytes.extend(self.budget.to_be_bytes());
+        bytes.extend((self.records.len() as u16).to_be_bytes());
+        for r in &self.records {
+            bytes.extend(&r.popularity.to_be_bytes()[1..]);
+            bytes.extend([r.least, r.spread]);
+        }
+        bytes
+    }
+
+    /// The plan, if it is accepted.
+    pub fn plan(&self) -> Option<Plan> {
+        read(&self.bytes()).ok()
+    }
+}
+
+/// How large a generated plan may be, and how fine its popularities.
+#[derive(Clone, Copy, Debug)]
+pub struct Size {
+    pub machines: u64,
+    pub blocks: u64,
+    pub coarse: bool,
+}
+
+pub const TINY: Size = Size {
+    machines: 6,
+    blocks: 7,
+    coarse: false,
+};
+pub const SMALL: Size = Size {
+    machines: 12,
+    blocks: 20,
+    coarse: false,
+};
+pub const MEDIUM: Size = Size {
+    machines: 64,
+    blocks: 40,
+    coarse: false,
+};
+pub const LARGE: Size = Size {
+    machines: 64,
+    blocks: 1024,
+    coarse: true,
+};
+
+/// Racks and machines per rack, with at most `most` machines; in two thirds there are two of both at least.
+fn shape(rng: &mut Rng, most: u64) -> (u8, u8) {
+    let low = if most >= 4 && !rng.once_in(3) { 2 } else { 1 };
+    let one = rng.from_to(low, most / low);
+    let other = rng.from_to(low, most / one);
+    if rng.once_in(2) {
+        (one as u8, other as u8)
+    } else {
+        (other as u8, one as u8)
+    }
+}
+
+/// The popularity of block `i` in one of several manners.
+fn popularity(rng: &mut Rng, manner: u64, i: u64) -> u32 {
+    let number = match manner {
+        0 => rng.below(10),
+        1 => 7,
+        2 => 1000 / (i + 1),
+        3 => rng.below(5) * rng.below(2),
+        4 => rng.from_to(1, 100),
+        5 => 1 << rng.below(24),
+        6 => rng.below(1 << 24),
+        7 => 0xFF_FFFF - rng.below(3),
+        8 => (1 << 23) / (i + 1),
+        _ => 0,
+    };
+    number as u32
+}
+
+/// A manner of popularities; the first five are coarse.
+fn manner(rng: &mut Rng, size: Size) -> u64 {
+    if size.coarse {
+        rng.below(5)
+    } else if rng.once_in(30) {
+        9
+    } else {
+        rng.below(9)
+    }
+}
+
+/// A spread that a block with these least copies may have.
+fn spread(rng: &mut Rng, racks: u8, least: u8, mixed: bool) -> u8 {
+    if mixed {
+        rng.from_to(1, u64::from(racks.min(least))) as u8
+    } else {
+        1
+    }
+}
+
+/// Records until `left` copies are used up exactly, or until there are `number`.
+fn records(rng: &mut Rng, draft: &Draft, size: Size, number: u64, mut left: u64) -> Vec<Record> {
+    let manner = manner(rng, size);
+    let mixed = rng.once_in(2);
+    let most = rng.from_to(1, draft.machines().min(8));
+    let mut records = Vec::new();
+    while (records.len() as u64) < number && left > 0 {
+        let least = rng.from_to(1, most.min(left)) as u8;
+        left -= u64::from(least);
+        records.push(Record {
+            popularity: popularity(rng, manner, records.len() as u64),
+            least,
+            spread: spread(rng, draft.racks, least, mixed),
+        });
+    }
+    records
+}
+
+/// A capacity with room for all least copies: tight, nearly tight, or roomy.
+fn capacity(rng: &mut Rng, draft: &Draft) -> u16 {
+    let tight = draft.least_sum().div_ceil(draft.machines()).max(1);
+    let number = draft.records.len() as u64;
+    let wish = match rng.below(6) {
+        0 | 1 => tight,
+        2 => tight + 1,
+        3 => tight * 3 / 2 + 1,
+        4 => number + 1,
+        _ => 1024,
+    };
+    wish.max(tight).min(1024) as u16
+}
+
+/// A budget with room for all least copies: at the edges and between.
+fn budget(rng: &mut Rng, draft: &Draft) -> u32 {
+    let least = draft.least_sum();
+    let places = draft.machines() * u64::from(draft.capacity);
+    let number = draft.records.len() as u64;
+    let wish = match rng.below(8) {
+        0 => least,
+        1 => least + 1,
+        2 => places,
+        3 => places + 1,
+        4 => number * draft.machines().min(8),
+        5 => u64::from(u32::MAX),
+        _ => least + rng.below(2 * number + 2),
+    };
+    wish.max(least) as u32
+}
+
+/// A plan that the checks accept.
+pub fn draft(rng: &mut Rng, size: Size) -> Draft {
+    let (racks, per_rack) = shape(rng, size.machines);
+    let number = rng.from_to(0, size.blocks);
+    sized(rng, size, racks, per_rack, number)
+}
+
+/// An accepted plan with the given racks, machines per rack and number of blocks.
+pub fn sized(rng: &mut Rng, size: Size, racks: u8, per_rack: u8, number: u64) -> Draft {
+    let mut draft = Draft {
+        racks,
+        per_rack,
+        capacity: 1,
+        budget: 0,
+        records: Vec::new(),
+    };
+    draft.records = records(rng, &draft, size, number, u64::MAX);
+    draft.capacity = capacity(rng, &draft);
+    draft.budget = budget(rng, &draft);
+    draft
+}
+
+/// An accepted plan whose least copies fill every machine: their sum is M × C.
+pub fn filled(rng: &mut Rng, size: Size) -> Draft {
+    let (racks, per_rack) = shape(rng, size.machines);
+    let machines = u64::from(racks) * u64::from(per_rack);
+    let capacity = rng.from_to(1, (size.blocks / machines).max(1));
+    let mut draft = Draft {
+        racks,
+        per_rack,
+        capacity: capacity as u16,
+        budget: 0,
+        records: Vec::new(),
+    };
+    draft.records = records(rng, &draft, size, 1024, machines * capacity);
+    draft.budget = draft.least_sum() as u32 + rng.one_of(&[0, 1, 1000]);
+    draft
+}
+
+/// A large plan that comes to rest soon: three popularities, and the same count for every block.
+pub fn coarse(rng: &mut Rng) -> Draft {
+    let (racks, per_rack) = shape(rng, 64);
+    let machines = u64::from(racks) * u64::from(per_rack);
+    let least = rng.from_to(1, machines.min(4)) as u8;
+    let record = |rng: &mut Rng| Record {
+        popularity: rng.one_of(&[0, 6, 12]),
+        least,
+        spread: rng.from_to(1, u64::from(least.min(racks))) as u8,
+    };
+    let mut draft = Draft {
+        racks,
+        per_rack,
+        capacity: 1,
+        budget: 0,
+        records: (0..rng.from_to(200, 1024)).map(|_| record(rng)).collect(),
+    };
+    draft.capacity = capacity(rng, &draft);
+    draft.budget = draft.least_sum() as u32;
+    draft
+}
+
+/// A plan that often takes tens of thousands of steps to rest: 16 full machines in one rack, four copies of
+/// each of 76 blocks, popularities a little above powers of two.
+pub fn patient(rng: &mut Rng) -> Draft {
+    let record = |rng: &mut Rng| Record {
+        popularity: (1 << rng.below(24)) + rng.below(100) as u32,
+        least: 4,
+        spread: 1,
+    };
+    Draft {
+        racks: 1,
+        per_rack: 16,
+        capacity: 19,
+        budget: 304,
+        records: (0..76).map(|_| record(rng)).collect(),
+    }
+}
+
+/// An input longer than the largest plan, with a header that is refused or not.
+pub fn too_long(rng: &mut Rng) -> Vec<u8> {
+    let number = rng.one_of(&[0, 3, 1024]);
+    let mut bytes = sized(rng, SMALL, 2, 2, number).bytes();
+    if rng.once_in(3) {
+        let at = rng.below(15) as usize;
+        bytes[at] = rng.below(256) as u8;
+    }
+    let more = rng.one_of(&[5121, 6000, 20_000, 70_000]);
+    bytes.resize(15 + more, rng.below(2) as u8);
+    bytes
+}
+
+/// Random bytes, some of them behind a true mark and version.
+pub fn noise(rng: &mut Rng) -> Vec<u8> {
+    let mut bytes: Vec<u8> = if rng.once_in(2) {
+        vec![0x42, 0x50, 0x4C, 0, 1]
+    } else {
+        Vec::new()
+    };
+    let length = rng.below(60);
+    bytes.extend((0..length).map(|_| rng.below(256) as u8));
+    bytes
+}
+
+/// The words with one copy of a block passed on, or two copies exchanged.
+fn shuffled(rng: &mut Rng, plan: &Plan, words: &[u64]) -> Vec<u64> {
+    let machines = plan.machines() as u64;
+    let mut after = words.to_vec();
+    let (m, n) = (rng.below(machines) as usize, rng.below(machines) as usize);
+    let i = rng.below(words.len() as u64) as usize;
+    let j = rng.below(words.len() as u64) as usize;
+    if m != n && holds(words[i], m) && !holds(words[i], n) {
+        after[i] = words[i] & !(1 << m) | 1 << n;
+        if holds(words[j], n) && !holds(words[j], m) {
+            after[j] = words[j] & !(1 << n) | 1 << m;
+        }
+    }
+    after
+}
+
+/// A lawful placement with the chosen counts: the first one, shuffled.
+pub fn placement(rng: &mut Rng, plan: &Plan) -> Vec<u64> {
+    let mut words = first(plan);
+    if words.is_empty() {
+        return words;
+    }
+    for _ in 0..(words.len() * 20).min(1000) {
+        let after = shuffled(rng, plan, &words);
+        if after != words && feasible(plan, &after) {
+            words = after;
+        }
+    }
+    words
+}
+
+/// A lawful placement that leans to the low machines of each rack, so that steps are left.
+pub fn leaning(rng: &mut Rng, plan: &Plan) -> Vec<u64> {
+    let mut words = placement(rng, plan);
+    for i in 0..words.len() {
+        let to = rng.below(plan.machines().div_ceil(3) as u64) as usize;
+        let from = (0..plan.machines()).rev().find(|m| holds(words[i], *m));
+        let mut after = words.clone();
+        if let Some(m) = from.filter(|_| !holds(words[i], to)) {
+            after[i] = words[i] & !(1 << m) | 1 << to;
+        }
+        if after != words && feasible(plan, &after) {
+            words = after;
+        }
+    }
+    words
+}

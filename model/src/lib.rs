@@ -1,0 +1,16 @@
+//! An independent model of the placement service, in the specification's own order and words.
+//!
+//! It shares no code with the service. Everything here is written the plainest way: the next step is found by
+//! nested loops over kind, m, n, i and j. It serves to make the stored trials and to be compared with the program.
+
+pub mod calls;
+pub mod counts;
+pub mod damage;
+pub mod gen;
+pub mod listing;
+pub mod placement;
+pub mod plan;
+pub mod samples;
+pub mod steps;
+pub mod stream;
+pub mod trials;

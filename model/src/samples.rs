@@ -1,0 +1,121 @@
+//! The plans that the specification names, and a few of our own that tell readings apart.
+
+use crate::gen::{Draft, Record};
+
+/// A plan of records (popularity, least copies, spread).
+pub fn plan_of(shape: (u8, u8), capacity: u16, budget: u32, records: &[(u32, u8, u8)]) -> Draft {
+    let record = |r: &(u32, u8, u8)| Record {
+        popularity: r.0,
+        least: r.1,
+        spread: r.2,
+    };
+    Draft {
+        racks: shape.0,
+        per_rack: shape.1,
+        capacity,
+        budget,
+        records: records.iter().map(record).collect(),
+    }
+}
+
+/// Plan H, byte for byte.
+pub const H: [u8; 30] = [
+    0x42, 0x50, 0x4C, 0x00, 0x01, 0x02, 0x02, 0x00, 0x03, 0x00, 0x00, 0x00, 0x08, 0x00, 0x03, 0x00,
+    0x00, 0x0C, 0x02, 0x02, 0x00, 0x00, 0x06, 0x01, 0x01, 0x00, 0x00, 0x02, 0x01, 0x01,
+];
+
+/// What the program prints for plan H.
+pub const H_LISTING: &str = "plan 2 2 3\n\
+    block 0 4 2520 0 1 2 3\n\
+    block 1 2 2520 0 2\n\
+    block 2 1 1680 1\n\
+    rest 0 5040 2520 16800 2520\n";
+
+/// Plan H as fields, to be varied.
+pub fn h() -> Draft {
+    plan_of((2, 2), 3, 8, &[(12, 2, 2), (6, 1, 1), (2, 1, 1)])
+}
+
+/// Plan H with another budget.
+pub fn h_budget(budget: u32) -> Draft {
+    Draft { budget, ..h() }
+}
+
+/// The example of row 11, with a capacity to choose.
+pub fn row_eleven(capacity: u16) -> Draft {
+    plan_of((1, 1), capacity, 2, &[(1, 1, 1), (1, 1, 1)])
+}
+
+/// Plan Y.
+pub fn y() -> Draft {
+    plan_of((1, 2), 2, 3, &[(4, 1, 1), (1, 1, 1), (2, 1, 1)])
+}
+
+/// Plan Z, whose placement handed in is `Z_WORDS`.
+pub fn z() -> Draft {
+    plan_of((1, 2), 2, 4, &[(5, 1, 1), (4, 1, 1), (1, 1, 1), (2, 1, 1)])
+}
+
+pub const Z_WORDS: [u64; 4] = [1, 1, 2, 2];
+
+/// No block at all.
+pub fn empty() -> Draft {
+    plan_of((3, 2), 1, 0, &[])
+}
+
+/// One machine.
+pub fn one_machine() -> Draft {
+    plan_of((1, 1), 3, 9, &[(5, 1, 1), (0, 1, 1), (7, 1, 1)])
+}
+
+/// The order n before i: from words 1, 1, 2 the next step is Move of block 1 to machine 1,
+/// while i before n would give Move of block 0 to machine 2.
+pub fn order_of_move() -> Draft {
+    plan_of((1, 3), 3, 3, &[(10, 1, 1), (1, 1, 1), (5, 1, 1)])
+}
+
+pub const ORDER_WORDS: [u64; 3] = [1, 1, 2];
+
+/// The kind comes before m: from these words the next step is Move of block 3 from machine 2 to 3,
+/// though RackMove of block 0 from machine 0 is allowed too.
+pub fn order_of_kind() -> Draft {
+    let popularities = [5, 4, 9, 2, 1];
+    plan_of((2, 2), 9, 5, &popularities.map(|p| (p, 1, 1)))
+}
+
+pub const KIND_WORDS: [u64; 5] = [1, 1, 2, 4, 4];
+
+/// Twelve equal blocks on three machines, six, six and none: ties do not stop the steps.
+pub fn ties() -> Draft {
+    plan_of((1, 3), 12, 12, &[(1, 1, 1); 12])
+}
+
+pub const TIES_WORDS: [u64; 12] = [1, 1, 1, 1, 1, 1, 2, 2, 2, 2, 2, 2];
+
+/// An exchange that would break the spread of j: blocks of two copies in two racks.
+pub fn spread_of_j() -> Draft {
+    plan_of((2, 2), 4, 8, &[(40, 2, 1), (8, 2, 2), (6, 2, 2), (2, 2, 1)])
+}
+
+/// With full machines the bound of three shares does not hold: a placement at rest that breaks it,
+/// and the one with even loads.
+pub fn full_machines() -> (Draft, Vec<u64>, Vec<u64>) {
+    let mut records = Vec::new();
+    let (mut rest, mut even) = (Vec::new(), Vec::new());
+    for k in 0..18 {
+        records.push((3, 3, 2));
+        rest.push(0b11 | 1 << (3 + k / 6));
+        even.push(1 << (k % 6) | 1 << ((k + 2) % 6) | 1 << ((k + 3) % 6));
+    }
+    for k in 0..36 {
+        records.push((1, 2, 2));
+        rest.push(0b100 | 1 << (3 + k / 12));
+        even.push(1 << (k % 6) | 1 << ((k + 3) % 6));
+    }
+    for k in 0..18 {
+        records.push((0, 5, 2));
+        rest.push(0b111011);
+        even.push(0b111111 & !(1 << (k % 6)));
+    }
+    (plan_of((2, 3), 36, 216, &records), rest, even)
+}

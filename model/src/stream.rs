@@ -1,0 +1,242 @@
+//! The stream of trials: records that a trials program reads, and what it has to print.
+
+use crate::calls::*;
+use crate::steps::{End, Kind, Step};
+
+/// The number of words that the trials program keeps.
+pub const WORDS: usize = 1100;
+
+/// Every byte of the counts' buffer before a call.
+pub const UNTOUCHED: u8 = 238;
+
+/// 64-bit FNV-1a, as 16 hexadecimal digits.
+pub fn digest(bytes: impl Iterator<Item = u8>) -> String {
+    let hash = bytes.fold(0xCBF2_9CE4_8422_2325_u64, |hash, byte| {
+        (hash ^ u64::from(byte)).wrapping_mul(0x100_0000_01B3)
+    });
+    format!("{hash:016x}")
+}
+
+/// Writes records.
+#[derive(Default)]
+pub struct Writer {
+    pub bytes: Vec<u8>,
+}
+
+impl Writer {
+    /// One record: letter, zero, length, number, payload.
+    fn record(&mut self, op: u8, length: usize, number: u32, payload: &[u8]) {
+        let length = u16::try_from(length).expect("a record's length has 16 bits");
+        self.bytes.extend([op, 0]);
+        self.bytes.extend(length.to_be_bytes());
+        self.bytes.extend(number.to_be_bytes());
+        self.bytes.extend(payload);
+    }
+
+    /// A title.
+    pub fn title(&mut self, text: &str) {
+        assert!(text.is_ascii() && text.len() <= 80, "too long: {text}");
+        self.record(b'T', text.len(), 0, text.as_bytes());
+    }
+
+    /// The current plan from now on.
+    pub fn plan(&mut self, bytes: &[u8]) {
+        assert!(bytes.len() <= 6000);
+        self.record(b'P', bytes.len(), 0, bytes);
+    }
+
+    /// The current words from now on, all of them lent.
+    pub fn words(&mut self, words: &[u64]) {
+        assert!(words.len() <= WORDS);
+        let payload: Vec<u8> = words.iter().flat_map(|w| w.to_be_bytes()).collect();
+        self.record(b'W', words.len(), 0, &payload);
+    }
+
+    /// The number of words lent from now on.
+    pub fn lend(&mut self, number: usize) {
+        assert!(number <= WORDS);
+        self.record(b'L', number, 0, &[]);
+    }
+
+    /// The counts into a buffer of so many bytes.
+    pub fn counts(&mut self, number: usize) {
+        assert!(number <= WORDS);
+        self.record(b'c', number, 0, &[]);
+    }
+
+    /// A run with a step budget.
+    pub fn run(&mut self, budget: u32) {
+        self.record(b'u', 0, budget, &[]);
+    }
+
+    /// The calls that have no number of their own, one for each letter: p, f, k, r, s, and E.
+    pub fn calls(&mut self, letters: &str) {
+        for letter in letters.bytes() {
+            assert!(b"pfkrsE".contains(&letter));
+            self.record(letter, 0, 0, &[]);
+        }
+    }
+}
+
+/// The trials program's memory.
+struct Memory {
+    plan: Vec<u8>,
+    words: Vec<u64>,
+    lent: usize,
+}
+
+/// An answer in words, or `refused` and its number.
+fn answer<T>(result: Result<T, u8>, text: impl Fn(T) -> String) -> String {
+    match result {
+        Ok(value) => text(value),
+        Err(row) => format!("refused {row}"),
+    }
+}
+
+/// The numbers of a report.
+fn report_text(r: Report) -> String {
+    format!("{} {} {} {}", r.maximum, r.minimum, r.sum, r.largest_share)
+}
+
+/// The words for one step, or for none.
+fn step_text(step: Option<Step>) -> String {
+    let Some(s) = step else {
+        return "rest".to_string();
+    };
+    let name = match s.kind {
+        Kind::Move => "Move",
+        Kind::Swap => "Swap",
+        Kind::RackMove => "RackMove",
+        Kind::RackSwap => "RackSwap",
+    };
+    let partner = s.j.map_or(String::new(), |j| format!(" {j}"));
+    format!("{name} {} {} {}{partner}", s.m, s.n, s.i)
+}
+
+/// The words for a run's end.
+fn run_text((end, taken): (End, u32)) -> String {
+    match end {
+        End::Rest => format!("rest {taken}"),
+        End::Spent => format!("spent {taken}"),
+    }
+}
+
+impl Memory {
+    /// The digest of all words, low byte of each first.
+    fn digest(&self) -> String {
+        digest(self.words.iter().flat_map(|w| w.to_le_bytes()))
+    }
+
+    /// The line for judging the plan.
+    fn plan_line(&self) -> String {
+        let said = answer(enter_plan(&self.plan), |p| {
+            let number = p.blocks.len();
+            format!(
+                "{} {} {} {} {number}",
+                p.racks, p.per_rack, p.capacity, p.budget
+            )
+        });
+        format!("plan {said}\n")
+    }
+
+    /// The line for the counts into a buffer of so many bytes.
+    fn counts_line(&self, number: usize) -> String {
+        let mut buffer = vec![UNTOUCHED; number];
+        let said = answer(enter_counts(&self.plan, &mut buffer), |f| f.to_string());
+        format!("counts {said} {}\n", digest(buffer.into_iter()))
+    }
+
+    /// What a call on the lent words answers: its name, and what it says.
+    fn call(&mut self, op: u8, budget: u32) -> (&'static str, String) {
+        let lent = &mut self.words[..self.lent];
+        let plan = &self.plan;
+        match op {
+            b'f' => ("first", answer(enter_first(plan, lent), |b| b.to_string())),
+            b'k' => ("check", answer(enter_check(plan, lent), |b| b.to_string())),
+            b'r' => ("report", answer(enter_report(plan, lent), report_text)),
+            b's' => ("step", answer(enter_step(plan, lent), step_text)),
+            _ => ("run", answer(enter_run(plan, lent, budget), run_text)),
+        }
+    }
+
+    /// The line for a call on the lent words.
+    fn words_line(&mut self, op: u8, budget: u32) -> String {
+        let (name, said) = self.call(op, budget);
+        format!("{name} {said} {}\n", self.digest())
+    }
+}
+
+/// One record of a stream.
+struct Record<'a> {
+    op: u8,
+    length: usize,
+    number: u32,
+    payload: &'a [u8],
+}
+
+/// Takes the next record off the stream.
+fn next_record<'a>(stream: &mut &'a [u8]) -> Record<'a> {
+    let (head, behind) = stream.split_at(8);
+    let length = usize::from(u16::from_be_bytes([head[2], head[3]]));
+    let size = match head[0] {
+        b'T' | b'P' => length,
+        b'W' => length * 8,
+        _ => 0,
+    };
+    let (payload, behind) = behind.split_at(size);
+    *stream = behind;
+    Record {
+        op: head[0],
+        length,
+        number: u32::from_be_bytes([head[4], head[5], head[6], head[7]]),
+        payload,
+    }
+}
+
+/// Puts the payload's words in place; they are lent from now on.
+fn take_words(memory: &mut Memory, record: &Record) {
+    for (i, eight) in record.payload.chunks(8).enumerate() {
+        memory.words[i] = eight.iter().fold(0, |w, b| w << 8 | u64::from(*b));
+    }
+    memory.lent = record.length;
+}
+
+/// Does one record; answers what it prints.
+fn obey(memory: &mut Memory, record: &Record) -> String {
+    match record.op {
+        b'T' => format!("# {}\n", String::from_utf8_lossy(record.payload)),
+        b'P' => {
+            memory.plan = record.payload.to_vec();
+            String::new()
+        }
+        b'W' => {
+            take_words(memory, record);
+            String::new()
+        }
+        b'L' => {
+            memory.lent = record.length;
+            String::new()
+        }
+        b'p' => memory.plan_line(),
+        b'c' => memory.counts_line(record.length),
+        b'E' => "end\n".to_string(),
+        op => memory.words_line(op, record.number),
+    }
+}
+
+/// What the trials program has to print for a stream.
+pub fn replay(mut stream: &[u8]) -> String {
+    let mut memory = Memory {
+        plan: Vec::new(),
+        words: vec![0; WORDS],
+        lent: 0,
+    };
+    let mut output = String::new();
+    loop {
+        let record = next_record(&mut stream);
+        output += &obey(&mut memory, &record);
+        if record.op == b'E' {
+            return output;
+        }
+    }
+}

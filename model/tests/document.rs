@@ -1,0 +1,189 @@
+//! The specification's own trial plans and examples of refusals.
+
+use placement_model::calls::*;
+use placement_model::counts::chosen;
+use placement_model::gen::Draft;
+use placement_model::listing::text;
+use placement_model::placement::{feasible, first, loads};
+use placement_model::samples::*;
+use placement_model::steps::{step_literal, step_plain, End, Kind, Step};
+
+fn plan_row(draft: &Draft) -> Option<u8> {
+    enter_plan(&draft.bytes()).err()
+}
+
+fn check_row(draft: &Draft, words: &[u64]) -> Option<u8> {
+    enter_check(&draft.bytes(), words).err()
+}
+
+#[test]
+fn plan_h_and_its_listing() {
+    assert_eq!(h().bytes(), H);
+    assert_eq!(text(&H, 100_000), H_LISTING);
+    let plan = h().plan().unwrap();
+    assert_eq!(chosen(&plan), [4, 2, 1]);
+    assert_eq!(first(&plan), [15, 5, 2]);
+    assert_eq!(chosen(&h_budget(4).plan().unwrap()), [2, 1, 1]);
+}
+
+#[test]
+fn rows_one_to_seven() {
+    assert_eq!(enter_plan(&[]).err(), Some(1));
+    let changed = |at: usize, byte: u8| {
+        let mut bytes = H;
+        bytes[at] = byte;
+        enter_plan(&bytes).err()
+    };
+    assert_eq!(changed(0, 0), Some(2));
+    assert_eq!(changed(4, 2), Some(3));
+    let machines = |racks, per_rack| {
+        plan_row(&Draft {
+            racks,
+            per_rack,
+            ..h()
+        })
+    };
+    assert_eq!(machines(13, 5), Some(4));
+    assert_eq!(machines(16, 16), Some(4));
+    assert_eq!(machines(8, 8), None);
+    assert_eq!(plan_row(&Draft { capacity: 0, ..h() }), Some(5));
+    assert_eq!(
+        plan_row(&Draft {
+            capacity: 1025,
+            ..h()
+        }),
+        Some(5)
+    );
+    let records = vec![h().records[1]; 1025];
+    assert_eq!(plan_row(&Draft { records, ..h() }), Some(6));
+    assert_eq!(enter_plan(&H[..29]).err(), Some(7));
+}
+
+#[test]
+fn rows_eight_to_eleven() {
+    let with = |least: [u8; 2], spread: [u8; 2]| {
+        let mut draft = h();
+        for i in 0..2 {
+            draft.records[i].least = least[i];
+            draft.records[i].spread = spread[i];
+        }
+        plan_row(&draft)
+    };
+    assert_eq!(with([2, 5], [2, 1]), Some(8));
+    assert_eq!(with([2, 1], [3, 1]), Some(9));
+    assert_eq!(with([2, 5], [3, 1]), Some(9), "block 0 comes first");
+    assert_eq!(with([5, 1], [2, 2]), Some(8));
+    assert_eq!(with([0, 1], [0, 1]), Some(8), "8 before 9 at one block");
+    assert_eq!(plan_row(&h_budget(3)), Some(10));
+    assert_eq!(plan_row(&row_eleven(1)), Some(11));
+    assert_eq!(first(&row_eleven(2).plan().unwrap()), [1, 1]);
+}
+
+#[test]
+fn rows_twelve_to_sixteen() {
+    assert_eq!(check_row(&h(), &[15, 5]), Some(12));
+    assert_eq!(check_row(&h(), &[15, 5, 16]), Some(13));
+    assert_eq!(check_row(&h(), &[15, 1, 2]), Some(14));
+    assert_eq!(check_row(&h_budget(4), &[3, 4, 8]), Some(15));
+    let narrow = Draft { capacity: 2, ..h() };
+    assert_eq!(check_row(&narrow, &[15, 3, 1]), Some(16));
+    assert_eq!(check_row(&h(), &[15, 5, 2]), None);
+    assert_eq!(enter_counts(&H, &mut [0; 2]), Err(12));
+}
+
+fn step(kind: Kind, m: usize, n: usize, i: usize, j: Option<usize>) -> Step {
+    Step { kind, m, n, i, j }
+}
+
+#[test]
+fn plan_y() {
+    let plan = y().plan().unwrap();
+    let bytes = y().bytes();
+    let begin = first(&plan);
+    assert_eq!(begin, [1, 2, 1]);
+    assert_eq!(loads(&plan, &begin), [5040, 840]);
+    let mut words = begin.clone();
+    let taken = enter_step(&bytes, &mut words).unwrap();
+    assert_eq!(taken, Some(step(Kind::Move, 0, 1, 0, None)));
+    assert_eq!(loads(&plan, &words), [1680, 4200]);
+    let taken = enter_step(&bytes, &mut words).unwrap();
+    assert_eq!(taken, Some(step(Kind::Move, 1, 0, 1, None)));
+    assert_eq!(loads(&plan, &words), [2520, 3360]);
+    assert_eq!(enter_step(&bytes, &mut words), Ok(None));
+    for (budget, said) in [
+        (0, (End::Spent, 0)),
+        (1, (End::Spent, 1)),
+        (2, (End::Rest, 2)),
+        (u32::MAX, (End::Rest, 2)),
+    ] {
+        assert_eq!(enter_run(&bytes, &mut begin.clone(), budget), Ok(said));
+    }
+}
+
+#[test]
+fn plan_z() {
+    let plan = z().plan().unwrap();
+    let bytes = z().bytes();
+    let mut words = Z_WORDS;
+    let taken = enter_step(&bytes, &mut words).unwrap();
+    assert_eq!(taken, Some(step(Kind::Swap, 0, 1, 0, Some(2))));
+    let taken = enter_step(&bytes, &mut words).unwrap();
+    assert_eq!(taken, Some(step(Kind::Swap, 1, 0, 0, Some(1))));
+    assert_eq!(words, [1, 2, 1, 2]);
+    assert_eq!(loads(&plan, &words), [5040, 5040]);
+    assert_eq!(enter_step(&bytes, &mut words), Ok(None));
+}
+
+#[test]
+fn no_block_and_one_machine() {
+    assert_eq!(text(&empty().bytes(), 9), "plan 3 2 0\nrest 0 0 0 0 0\n");
+    let plan = one_machine().plan().unwrap();
+    assert_eq!(step_literal(&plan, &first(&plan)), None);
+}
+
+#[test]
+fn order_puts_kind_first_and_n_before_i() {
+    let plan = order_of_move().plan().unwrap();
+    let next = Some(step(Kind::Move, 0, 1, 1, None));
+    assert_eq!(step_literal(&plan, &ORDER_WORDS), next);
+    assert_eq!(step_plain(&plan, &ORDER_WORDS), next);
+    assert!(step(Kind::Move, 0, 2, 0, None).allowed(&plan, &ORDER_WORDS));
+    let plan = order_of_kind().plan().unwrap();
+    let next = Some(step(Kind::Move, 2, 3, 3, None));
+    assert_eq!(step_literal(&plan, &KIND_WORDS), next);
+    assert_eq!(step_plain(&plan, &KIND_WORDS), next);
+    assert!(step(Kind::RackMove, 0, 2, 0, None).allowed(&plan, &KIND_WORDS));
+}
+
+#[test]
+fn ties_come_to_four_each() {
+    let plan = ties().plan().unwrap();
+    let mut words = TIES_WORDS;
+    enter_run(&ties().bytes(), &mut words, u32::MAX).unwrap();
+    assert_eq!(loads(&plan, &words), [3360; 3]);
+}
+
+#[test]
+fn words_past_the_blocks_stay() {
+    let mut words = [1, 2, 1, 77, u64::MAX];
+    enter_run(&y().bytes(), &mut words, 9).unwrap();
+    assert_eq!(words[3..], [77, u64::MAX]);
+    let mut counts = [9; 5];
+    enter_counts(&H, &mut counts).unwrap();
+    assert_eq!(counts, [4, 2, 1, 9, 9]);
+    enter_first(&H, &mut words).unwrap();
+    assert_eq!(words, [15, 5, 2, 77, u64::MAX]);
+}
+
+#[test]
+fn full_machines_break_the_bound_of_three_shares() {
+    let (draft, words, even) = full_machines();
+    let plan = draft.plan().unwrap();
+    assert!(feasible(&plan, &words) && feasible(&plan, &even));
+    assert_eq!(loads(&plan, &even), [12600; 6]);
+    assert_eq!(enter_check(&draft.bytes(), &words), Ok(72));
+    assert_eq!(step_plain(&plan, &words), None);
+    let r = enter_report(&draft.bytes(), &words).unwrap();
+    assert_eq!((r.maximum, r.minimum, r.largest_share), (15120, 10080, 840));
+    assert!(6 * r.maximum > 6 * 12600 + 3 * 5 * r.largest_share);
+}

@@ -1,0 +1,58 @@
+//! The stream of trials: digests, records, and the stored stream's bounds.
+
+use placement_model::samples::{y, H};
+use placement_model::stream::{digest, replay, Writer};
+use placement_model::trials::stream;
+
+#[test]
+fn digest_is_fnv() {
+    assert_eq!(digest([].into_iter()), "cbf29ce484222325");
+    assert_eq!(digest(b"a".iter().copied()), "af63dc4c8601ec8c");
+    assert_eq!(digest(b"foobar".iter().copied()), "85944171f73967e8");
+}
+
+#[test]
+fn a_short_stream() {
+    let mut w = Writer::default();
+    w.title("short");
+    w.plan(&H);
+    w.calls("p");
+    w.counts(3);
+    w.counts(2);
+    w.plan(&y().bytes());
+    w.lend(2);
+    w.calls("f");
+    w.words(&[1, 2, 1]);
+    w.calls("krs");
+    w.run(0);
+    w.run(9);
+    w.calls("sE");
+    let output = replay(&w.bytes);
+    let said: Vec<&str> = output.lines().map(|l| l.trim_end()).collect();
+    let begins = [
+        "# short",
+        "plan 2 2 3 8 3",
+        "counts 2520 ",
+        "counts refused 12 ",
+        "first refused 12 ",
+        "check 3 ",
+        "report 5040 840 5880 3360 ",
+        "step Move 0 1 0 ",
+        "run spent 0 ",
+        "run rest 1 ",
+        "step rest ",
+        "end",
+    ];
+    assert_eq!(said.len(), begins.len());
+    for (line, begin) in said.iter().zip(begins) {
+        assert!(line.starts_with(begin), "{line}");
+    }
+}
+
+#[test]
+fn the_stored_stream_keeps_its_bounds() {
+    let once = stream();
+    assert_eq!(once, stream());
+    assert!(once.len() < 900_000);
+    assert!(once.ends_with(b"E\0\0\0\0\0\0\0"));
+}
