@@ -6,3 +6,4 @@ pub mod Placement
 pub mod Steps
 pub mod Calls
 pub mod Claims
+pub mod Listing

@@ -23,3 +23,5 @@ pub mod Claim
 pub mod Ties
 pub mod Trials
 pub mod Held
+pub mod Lines
+pub mod Listing

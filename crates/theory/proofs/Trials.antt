@@ -23,14 +23,14 @@ figure-of : (bytes : List ℕ) (f : ℕ) → refusal bytes ≡ 0 → reachable (
     → figure (planIn bytes) ≡ suc f
 figure-of bytes f passes = figure-at (planIn bytes) (refusal-zero bytes passes) f
 
-record Figures : Type 0 where
-  H : figure (planIn plan-H) ≡ 2520
-  H4 : figure (planIn (set plan-H 12 4)) ≡ 5040
-  full2 : figure (planIn (set plan-full 8 2)) ≡ 840
-  Y : figure (planIn plan-Y) ≡ 3360
-  Z : figure (planIn plan-Z) ≡ 4200
+pub record Figures : Type 0 where
+  pub H : figure (planIn plan-H) ≡ 2520
+  pub H4 : figure (planIn (set plan-H 12 4)) ≡ 5040
+  pub full2 : figure (planIn (set plan-full 8 2)) ≡ 840
+  pub Y : figure (planIn plan-Y) ≡ 3360
+  pub Z : figure (planIn plan-Z) ≡ 4200
 
-figures : Figures
+pub figures : Figures
 unfolding refusal check1 check2 check3 check4 check5 check6 check7 planRefusal blocksRefusal blockRefusal check8 check9 check10 check11 planIn blockIn field upper minTotal reachable need share limit sum table least allb firstUp plan-H plan-full plan-Y plan-Z
 figures =
     record {

@@ -5,3 +5,4 @@ pub mod Counts
 pub mod Local
 pub mod Bounds
 pub mod Trials
+pub mod Listing
