@@ -64,3 +64,7 @@ stepNumbers (swap racks m n i j) = 1 ∷ swapKind racks ∷ m ∷ n ∷ i ∷ j 
 -- Of a run: 1 for rest and 0 for spent, and the number of steps taken.
 unfoldable pub runNumbers : RunReply → List ℕ
 runNumbers r = cond (r .rested) 1 0 ∷ r .steps ∷ []
+
+-- Of a listing: the number of bytes written.
+abbrev pub sizeNumber : ℕ → List ℕ
+sizeNumber size = size ∷ []

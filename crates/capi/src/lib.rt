@@ -3,6 +3,7 @@
 use counts::CountsAnswer;
 use inspection::CheckAnswer;
 use inspection::ReportAnswer;
+use listing::ListingAnswer;
 use placing::FirstAnswer;
 use plan::Reading;
 use search::Step;
@@ -14,8 +15,9 @@ ghost use Prim.Native.Nat.{_≤_};
 ghost use lib.ListN.{length};
 ghost use Rattle.model.specs.Refusal.{judge};
 ghost use Rattle.model.specs.Calls.{countsCall, firstCall, checkCall, reportCall, stepCall, runCall};
+ghost use Rattle.model.specs.Listing.{listingCall};
 ghost use Rattle.search.specs.Scene.{stepOf};
-ghost use Rattle.capi.specs.Interface.{effectOf, effect, over, codeOf, noNumbers, reportNumbers, stepNumbers, runNumbers};
+ghost use Rattle.capi.specs.Interface.{effectOf, effect, over, codeOf, noNumbers, reportNumbers, stepNumbers, runNumbers, sizeNumber};
 
 // The code for an `out` that is shorter than what the call writes there, above all refusal numbers.
 const SHORT_OUT: u32 = 255;
@@ -167,6 +169,26 @@ pub extern "C" fn bpl_run(plan: &[u8], words: &mut [u64], budget: u32, out: &mut
         }
         RunAnswer::Spent(steps) => {
             let numbers = [0, steps as u64];
+            write_numbers(out, &numbers);
+            0
+        }
+    }
+}
+
+// Lists a plan in a lent text: a run from the first placement with the step budget. The number of bytes is answered.
+#[no_mangle]
+pub extern "C" fn bpl_listing(plan: &[u8], budget: u32, text: &mut [u8], out: &mut [u64]) -> u32
+    ensures { λ r. ⌜ effectOf r (now (text .exit)) (now (out .exit))
+        ≡ effect 1 sizeNumber (now (text .entry)) (now (out .entry)) (listingCall (now (plan .entry)) budget (now (text .entry))) ⌝ }
+{
+    if out.len() < 1 {
+        return SHORT_OUT;
+    }
+    let answer = listing::listing(plan, budget, text);
+    match answer {
+        ListingAnswer::Refused(number) => code_of(number),
+        ListingAnswer::Listed(size) => {
+            let numbers = [size as u64];
             write_numbers(out, &numbers);
             0
         }
