@@ -1,0 +1,61 @@
+-- An exported call's effect by cases: a short `out`, a refusal, an answer. And numbers written over `out`, one by one.
+-- Assumes nothing.
+use mathlib.Core.Path.{_≡_, refl, ap, sym, _∙_}
+use mathlib.Core.List.{List, [], _++_}
+use Prim.Native.Nat.{ℕ, _+_, _<_, _≤_}
+use native.Mathlib.Nat.{le-antisymm}
+use borrow.Author.Tests.{lt-ltb, le-ltb}
+use lib.ListN.{length, getD, drop, set}
+use lib.Seq.{ext-getD}
+use Rattle.order.specs.Table.{table, filled}
+use Rattle.order.proofs.Tables.{length-table, getD-table, filled-none, filled-more}
+use Rattle.model.specs.Calls.{Outcome, answered, refuse}
+use Rattle.capi.specs.Interface.{effectOf, shortOut, over, replied, effect}
+
+module _ {A : Type 0} (need : ℕ) (numbers : A → List ℕ) (items out : List ℕ) (call : Outcome A) where
+  pub out-short : length out < need → effectOf shortOut items out ≡ effect need numbers items out call
+  unfolding effect
+  out-short l = rw (lt-ltb (length out) need l)
+
+  out-enough : need ≤ length out → effect need numbers items out call ≡ replied numbers (call .answer) (call .items) out
+  unfolding effect
+  out-enough l = rw (le-ltb (length out) need l)
+
+  pub turned-back : (code number : ℕ) (later : List ℕ) → need ≤ length out → code ≡ number → refuse number later ≡ call
+      → effectOf code later out ≡ effect need numbers items out call
+  unfolding replied
+  turned-back code number later l named same =
+      (λ i. effectOf (named i) later out)
+      ∙ (λ i. replied numbers (same i .answer) (same i .items) out)
+      ∙ sym (out-enough l)
+
+  pub answers : (a : A) (later now : List ℕ) → need ≤ length out → now ≡ over (numbers a) out
+      → record { answer = answered a; items = later } ≡ call → effectOf 0 later now ≡ effect need numbers items out call
+  unfolding replied
+  answers a later now l wrote same =
+      (λ i. effectOf 0 later (wrote i))
+      ∙ (λ i. replied numbers (same i .answer) (same i .items) out)
+      ∙ sym (out-enough l)
+
+-- the first i of the numbers stand in the list
+module _ (numbers old : List ℕ) where
+  abbrev pub Written : ℕ → List ℕ → Type 0
+  Written i now = now ≡ filled i (λ k. getD numbers k 0) old
+
+  pub written-none : Written 0 old
+  written-none = filled-none _ old
+
+  pub written-more : (i : ℕ) (now : List ℕ) → i < length old → Written i now → Written (i + 1) (set now i (getD numbers i 0))
+  written-more i now l written = filled-more i _ old now (getD numbers i 0) written l refl
+
+  all-of : table (length numbers) (λ k. getD numbers k 0) ≡ numbers
+  all-of =
+      ext-getD 0 _ numbers (length-table _ _)
+      (λ i l. getD-table (length numbers) _ i 0 (rw (length-table (length numbers) (λ (k : ℕ). getD numbers k 0)) at l))
+
+  pub written-all : (i : ℕ) (now : List ℕ) → i ≤ length numbers → length numbers ≤ i → Written i now → now ≡ over numbers old
+  unfolding filled over
+  written-all i now l m written =
+      written
+      ∙ ap (λ (n : ℕ). filled n (λ k. getD numbers k 0) old) (le-antisymm l m)
+      ∙ ap (λ (s : List ℕ). s ++ drop (length numbers) old) all-of

@@ -1,0 +1,70 @@
+-- What an exported function returns and leaves in the lent buffers, from what the model's call answers.
+use mathlib.Core.Bool.{Bool, true, false, cond}
+use mathlib.Core.List.{List, [], _∷_, _++_}
+use Prim.Native.Nat.{ℕ}
+use lib.Dec.{ltb}
+use lib.ListN.{length, drop}
+use Rattle.model.specs.Refusal.{Verdict, refused, accepted}
+use Rattle.model.specs.Steps.{Step, none, move, swap}
+use Rattle.model.specs.Calls.{Answer, turnedBack, answered, Outcome, Report, RunReply}
+
+-- The code returned, and every item at exit of the buffer that the call works on and of `out`.
+pub record Effect : Type 0 where
+  pub code : ℕ
+  pub items : List ℕ
+  pub out : List ℕ
+
+abbrev pub effectOf : ℕ → List ℕ → List ℕ → Effect
+effectOf code items out = record { code = code; items = items; out = out }
+
+-- The code for an `out` that is shorter than what the call writes there, above all refusal numbers.
+abbrev pub shortOut : ℕ
+shortOut = 255
+
+-- A list that begins with these numbers; what the old one held behind them stays.
+unfoldable pub over : List ℕ → List ℕ → List ℕ
+over numbers old = numbers ++ drop (length numbers) old
+
+-- A refusal: its number, and `out` as it was. An answer: 0, and its numbers over `out`.
+unfoldable pub replied : {A : Type 0} → (A → List ℕ) → Answer A → List ℕ → List ℕ → Effect
+replied numbers (turnedBack code) items out = effectOf code items out
+replied numbers (answered a) items out = effectOf 0 items (over (numbers a) out)
+
+-- An `out` of fewer than `need` words is judged first of all, and nothing is written; otherwise the call's outcome.
+unfoldable pub effect : {A : Type 0} → ℕ → (A → List ℕ) → List ℕ → List ℕ → Outcome A → Effect
+effect need numbers items out outcome =
+    cond (ltb (length out) need) (effectOf shortOut items out) (replied numbers (outcome .answer) (outcome .items) out)
+
+-- A verdict's code: 0 for an accepted plan.
+unfoldable pub codeOf : Verdict → ℕ
+codeOf (refused code) = code
+codeOf (accepted p) = 0
+
+-- The numbers of an answer: none.
+abbrev pub noNumbers : ℕ → List ℕ
+noNumbers n = []
+
+-- Of a report: hottest load, coolest load, sum of loads, largest share.
+unfoldable pub reportNumbers : Report → List ℕ
+reportNumbers r = r .maximum ∷ r .minimum ∷ r .total ∷ r .top ∷ []
+
+-- The kinds of step: 0 Move, 1 Swap, 2 RackMove, 3 RackSwap.
+abbrev pub moveKind : Bool → ℕ
+moveKind racks = cond racks 2 0
+
+abbrev pub swapKind : Bool → ℕ
+swapKind racks = cond racks 3 1
+
+-- Of a step: 1 if there is one, its kind, m, n, i, j; 0 where there is none.
+unfoldable pub stepNumbers : Step → List ℕ
+stepNumbers none = 0 ∷ 0 ∷ 0 ∷ 0 ∷ 0 ∷ 0 ∷ []
+stepNumbers (move racks m n i) = 1 ∷ moveKind racks ∷ m ∷ n ∷ i ∷ 0 ∷ []
+stepNumbers (swap racks m n i j) = 1 ∷ swapKind racks ∷ m ∷ n ∷ i ∷ j ∷ []
+
+-- Of a run: 1 for rest and 0 for spent, and the number of steps taken.
+unfoldable pub runNumbers : RunReply → List ℕ
+runNumbers r = cond (r .rested) 1 0 ∷ r .steps ∷ []
+
+-- Of a listing: the number of bytes written.
+abbrev pub sizeNumber : ℕ → List ℕ
+sizeNumber size = size ∷ []

@@ -1,0 +1,196 @@
+// The functions that the archive exports to C: thin wrappers over the public entries, on numbers and slices alone.
+// Each returns 0 or the number of a refusal, and writes only where it returns 0.
+use counts::CountsAnswer;
+use inspection::CheckAnswer;
+use inspection::ReportAnswer;
+use listing::ListingAnswer;
+use placing::FirstAnswer;
+use plan::Reading;
+use search::Step;
+use service::RunAnswer;
+use service::StepAnswer;
+ghost use mathlib.Core.Path.{_≡_};
+ghost use mathlib.Core.List.{[]};
+ghost use Prim.Native.Nat.{_≤_};
+ghost use lib.ListN.{length};
+ghost use Rattle.model.specs.Refusal.{judge};
+ghost use Rattle.model.specs.Calls.{countsCall, firstCall, checkCall, reportCall, stepCall, runCall};
+ghost use Rattle.model.specs.Listing.{listingCall};
+ghost use Rattle.search.specs.Scene.{stepOf};
+ghost use Rattle.capi.specs.Interface.{effectOf, effect, over, codeOf, noNumbers, reportNumbers, stepNumbers, runNumbers, sizeNumber};
+
+// The code for an `out` that is shorter than what the call writes there, above all refusal numbers.
+const SHORT_OUT: u32 = 255;
+
+// A refusal's number as the code returned.
+fn code_of(number: u8) -> u32
+    ensures { λ r. ⌜ r ≡ number ⌝ }
+{
+    number as u32
+}
+
+// Writes the numbers into the first words of out; its later words stay.
+fn write_numbers(out: &mut [u64], numbers: &[u64])
+    requires { ⌜ length (now numbers) ≤ length (now out) ⌝ }
+    ensures { λ r. ⌜ now (out .exit) ≡ over (now (numbers .entry)) (now (out .entry)) ⌝ }
+{
+    let mut i: usize = 0;
+    while i < numbers.len() {
+        out[i] = numbers[i];
+        i += 1;
+    }
+}
+
+// A step as numbers: 1 if there is one, its kind, m, n, i, j; 0 where there is none.
+fn step_numbers(step: Step) -> [u64; 6]
+    ensures { λ r. ⌜ r ≡ stepNumbers (stepOf step) ⌝ }
+{
+    match step {
+        Step::Rest => [0, 0, 0, 0, 0, 0],
+        Step::Move { m, n, i } => [1, 0, m as u64, n as u64, i as u64, 0],
+        Step::Swap { m, n, i, j } => [1, 1, m as u64, n as u64, i as u64, j as u64],
+        Step::RackMove { m, n, i } => [1, 2, m as u64, n as u64, i as u64, 0],
+        Step::RackSwap { m, n, i, j } => [1, 3, m as u64, n as u64, i as u64, j as u64],
+    }
+}
+
+// Judges a plan.
+#[no_mangle]
+pub extern "C" fn bpl_plan(plan: &[u8]) -> u32
+    ensures { λ r. ⌜ r ≡ codeOf (judge (now (plan .entry))) ⌝ }
+{
+    let reading = plan::read(plan);
+    match reading {
+        Reading::Refused(number) => code_of(number),
+        Reading::Accepted(_h) => 0,
+    }
+}
+
+// Chooses the counts.
+#[no_mangle]
+pub extern "C" fn bpl_counts(plan: &[u8], counts: &mut [u8]) -> u32
+    ensures { λ r. ⌜ effectOf r (now (counts .exit)) []
+        ≡ effect 0 noNumbers (now (counts .entry)) [] (countsCall (now (plan .entry)) (now (counts .entry))) ⌝ }
+{
+    let answer = counts::counts(plan, counts);
+    match answer {
+        CountsAnswer::Refused(number) => code_of(number),
+        CountsAnswer::Counted(_top) => 0,
+    }
+}
+
+// Makes the first placement.
+#[no_mangle]
+pub extern "C" fn bpl_first(plan: &[u8], words: &mut [u64]) -> u32
+    ensures { λ r. ⌜ effectOf r (now (words .exit)) []
+        ≡ effect 0 noNumbers (now (words .entry)) [] (firstCall (now (plan .entry)) (now (words .entry))) ⌝ }
+{
+    let answer = placing::first(plan, words);
+    match answer {
+        FirstAnswer::Refused(number) => code_of(number),
+        FirstAnswer::Placed(_blocks) => 0,
+    }
+}
+
+// Checks a placement. It never writes.
+#[no_mangle]
+pub extern "C" fn bpl_check(plan: &[u8], words: &[u64]) -> u32
+    ensures { λ r. ⌜ effectOf r (now (words .entry)) []
+        ≡ effect 0 noNumbers (now (words .entry)) [] (checkCall (now (plan .entry)) (now (words .entry))) ⌝ }
+{
+    let answer = inspection::check(plan, words);
+    match answer {
+        CheckAnswer::Refused(number) => code_of(number),
+        CheckAnswer::Feasible(_blocks) => 0,
+    }
+}
+
+// Reports on a placement: hottest load, coolest load, sum of loads, largest share.
+#[no_mangle]
+pub extern "C" fn bpl_report(plan: &[u8], words: &[u64], out: &mut [u64]) -> u32
+    ensures { λ r. ⌜ effectOf r (now (words .entry)) (now (out .exit))
+        ≡ effect 4 reportNumbers (now (words .entry)) (now (out .entry)) (reportCall (now (plan .entry)) (now (words .entry))) ⌝ }
+{
+    if out.len() < 4 {
+        return SHORT_OUT;
+    }
+    let answer = inspection::report(plan, words);
+    match answer {
+        ReportAnswer::Refused(number) => code_of(number),
+        ReportAnswer::Reported(report) => {
+            let numbers = [
+                report.max_load,
+                report.min_load,
+                report.total_load,
+                report.max_share,
+            ];
+            write_numbers(out, &numbers);
+            0
+        }
+    }
+}
+
+// Takes the next step.
+#[no_mangle]
+pub extern "C" fn bpl_step(plan: &[u8], words: &mut [u64], out: &mut [u64]) -> u32
+    ensures { λ r. ⌜ effectOf r (now (words .exit)) (now (out .exit))
+        ≡ effect 6 stepNumbers (now (words .entry)) (now (out .entry)) (stepCall (now (plan .entry)) (now (words .entry))) ⌝ }
+{
+    if out.len() < 6 {
+        return SHORT_OUT;
+    }
+    let answer = service::step(plan, words);
+    match answer {
+        StepAnswer::Refused(number) => code_of(number),
+        StepAnswer::Next(step) => {
+            let numbers = step_numbers(step);
+            write_numbers(out, &numbers);
+            0
+        }
+    }
+}
+
+// Takes next steps until rest or until the step budget is used: 1 for rest and 0 for spent, and the number of steps.
+#[no_mangle]
+pub extern "C" fn bpl_run(plan: &[u8], words: &mut [u64], budget: u32, out: &mut [u64]) -> u32
+    ensures { λ r. ⌜ effectOf r (now (words .exit)) (now (out .exit))
+        ≡ effect 2 runNumbers (now (words .entry)) (now (out .entry)) (runCall (now (plan .entry)) (now (words .entry)) budget) ⌝ }
+{
+    if out.len() < 2 {
+        return SHORT_OUT;
+    }
+    let answer = service::run(plan, words, budget);
+    match answer {
+        RunAnswer::Refused(number) => code_of(number),
+        RunAnswer::Rested(steps) => {
+            let numbers = [1, steps as u64];
+            write_numbers(out, &numbers);
+            0
+        }
+        RunAnswer::Spent(steps) => {
+            let numbers = [0, steps as u64];
+            write_numbers(out, &numbers);
+            0
+        }
+    }
+}
+
+// Lists a plan in a lent text: a run from the first placement with the step budget. The number of bytes is answered.
+#[no_mangle]
+pub extern "C" fn bpl_listing(plan: &[u8], budget: u32, text: &mut [u8], out: &mut [u64]) -> u32
+    ensures { λ r. ⌜ effectOf r (now (text .exit)) (now (out .exit))
+        ≡ effect 1 sizeNumber (now (text .entry)) (now (out .entry)) (listingCall (now (plan .entry)) budget (now (text .entry))) ⌝ }
+{
+    if out.len() < 1 {
+        return SHORT_OUT;
+    }
+    let answer = listing::listing(plan, budget, text);
+    match answer {
+        ListingAnswer::Refused(number) => code_of(number),
+        ListingAnswer::Listed(size) => {
+            let numbers = [size as u64];
+            write_numbers(out, &numbers);
+            0
+        }
+    }
+}
