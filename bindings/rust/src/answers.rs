@@ -1,0 +1,141 @@
+//! What the calls answer, made from the archive's numbers.
+
+use crate::raw::{REPORT_NUMBERS, RUN_NUMBERS, STEP_NUMBERS};
+use std::error::Error;
+use std::fmt;
+
+/// Why a plan or a placement is turned back: the number of the check, 1 to 16.
+#[derive(Clone, Copy, Debug, PartialEq, Eq, Hash)]
+pub struct Refusal(u8);
+
+impl Refusal {
+    /// The check's number.
+    pub fn number(self) -> u8 {
+        self.0
+    }
+
+    /// The check's condition.
+    pub fn reason(self) -> &'static str {
+        match self.0 {
+            1 => "the plan is shorter than 15 bytes",
+            2 => "the plan's mark differs",
+            3 => "the plan's version is not 1",
+            4 => "racks or machines per rack 0, or more than 64 machines",
+            5 => "the capacity is 0 or above 1,024",
+            6 => "more than 1,024 blocks",
+            7 => "the plan's length does not fit its number of blocks",
+            8 => "least copies 0 or above the smaller of 8 and the machines",
+            9 => "a spread of 0, above the least copies, or above the racks",
+            10 => "the sum of least copies is above the budget",
+            11 => "the sum of least copies is above what the machines hold",
+            12 => "fewer items are lent than the plan has blocks",
+            13 => "a bit at or above the number of machines is set",
+            14 => "a block's copies are not its chosen count",
+            15 => "a block lies in fewer racks than its spread",
+            16 => "a machine holds more copies than its capacity",
+            _ => "no check has this number",
+        }
+    }
+}
+
+impl fmt::Display for Refusal {
+    fn fmt(&self, f: &mut fmt::Formatter<'_>) -> fmt::Result {
+        write!(f, "refused {}: {}", self.0, self.reason())
+    }
+}
+
+impl Error for Refusal {}
+
+/// A returned code: 0 is done, any other the refusal of that number.
+pub(crate) fn settled(code: u32) -> Result<(), Refusal> {
+    match code {
+        0 => Ok(()),
+        _ => Err(Refusal(u8::try_from(code).expect("a code is below 256"))),
+    }
+}
+
+/// Loads of the machines, and the largest share of a copy (0 without blocks), in 840ths of a read.
+#[derive(Clone, Copy, Debug, PartialEq, Eq, Hash)]
+pub struct Report {
+    pub max_load: u64,
+    pub min_load: u64,
+    pub total_load: u64,
+    pub max_share: u64,
+}
+
+impl Report {
+    pub(crate) fn from_numbers(out: [u64; REPORT_NUMBERS]) -> Report {
+        Report {
+            max_load: out[0],
+            min_load: out[1],
+            total_load: out[2],
+            max_share: out[3],
+        }
+    }
+}
+
+/// A step: the copy of block i passes from machine m to n and, in a swap, that of block j from n to m.
+/// `RackMove` and `RackSwap` are between racks.
+#[derive(Clone, Copy, Debug, PartialEq, Eq, Hash)]
+pub enum Step {
+    Move {
+        m: usize,
+        n: usize,
+        i: usize,
+    },
+    Swap {
+        m: usize,
+        n: usize,
+        i: usize,
+        j: usize,
+    },
+    RackMove {
+        m: usize,
+        n: usize,
+        i: usize,
+    },
+    RackSwap {
+        m: usize,
+        n: usize,
+        i: usize,
+        j: usize,
+    },
+}
+
+impl Step {
+    /// The step of the archive's numbers; none at rest.
+    pub(crate) fn from_numbers(out: [u64; STEP_NUMBERS]) -> Option<Step> {
+        let [taken, kind, m, n, i, j] = out.map(|number| number as usize);
+        match (taken, kind) {
+            (0, _) => None,
+            (_, 0) => Some(Step::Move { m, n, i }),
+            (_, 1) => Some(Step::Swap { m, n, i, j }),
+            (_, 2) => Some(Step::RackMove { m, n, i }),
+            _ => Some(Step::RackSwap { m, n, i, j }),
+        }
+    }
+}
+
+/// How a run ended, with the number of steps taken: at rest, or with the budget spent and a step still left.
+#[derive(Clone, Copy, Debug, PartialEq, Eq, Hash)]
+pub enum RunEnd {
+    Rest(u32),
+    Spent(u32),
+}
+
+impl RunEnd {
+    /// The number of steps taken.
+    pub fn steps(self) -> u32 {
+        match self {
+            RunEnd::Rest(steps) | RunEnd::Spent(steps) => steps,
+        }
+    }
+
+    pub(crate) fn from_numbers(out: [u64; RUN_NUMBERS]) -> RunEnd {
+        let steps = out[1] as u32;
+        match out[0] {
+            0 => RunEnd::Spent(steps),
+            _ => RunEnd::Rest(steps),
+        }
+    }
+}

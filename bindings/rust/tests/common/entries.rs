@@ -1,0 +1,75 @@
+//! Each entry on the same bytes and buffer as the model's: the same answer, and the same whole buffer afterwards.
+
+use super::common::*;
+use bpl::{RunEnd, Step};
+use placement_model::calls::*;
+use placement_model::listing;
+
+pub fn plan(bytes: &[u8]) {
+    let said = numbered(bpl::plan(bytes));
+    assert_eq!(said, enter_plan(bytes).map(|_| ()), "plan {bytes:?}");
+}
+
+pub fn counts(bytes: &[u8], lent: usize) {
+    let before: Vec<u8> = (0..lent).map(|i| 0xE0 | (i as u8 % 16)).collect();
+    let (mut ours, mut model) = (before.clone(), before.clone());
+    let said = numbered(bpl::counts(bytes, &mut ours));
+    let expected = enter_counts(bytes, &mut model).map(|_| ());
+    assert_eq!(said, expected, "counts {bytes:?}");
+    assert_eq!(ours, model, "counts {bytes:?}");
+    kept(said.is_err(), bytes, &before, &ours);
+}
+
+pub fn first(bytes: &[u8], words: &mut [u64]) {
+    let before = words.to_vec();
+    let mut model = before.clone();
+    let said = numbered(bpl::first(bytes, words));
+    let expected = enter_first(bytes, &mut model).map(|_| ());
+    assert_eq!(said, expected, "first {bytes:?}");
+    assert_eq!(*words, model, "first {bytes:?}");
+    kept(said.is_err(), bytes, &before, words);
+}
+
+pub fn check(bytes: &[u8], words: &[u64]) -> Result<(), u8> {
+    let said = numbered(bpl::check(bytes, words));
+    let expected = enter_check(bytes, words).map(|_| ());
+    assert_eq!(said, expected, "check {bytes:?} {words:?}");
+    said
+}
+
+pub fn report(bytes: &[u8], words: &[u64]) {
+    let said = numbered(bpl::report(bytes, words));
+    let expected = enter_report(bytes, words).map(report_of);
+    assert_eq!(said, expected, "report {bytes:?} {words:?}");
+}
+
+pub fn step(bytes: &[u8], words: &mut [u64]) -> Result<Option<Step>, u8> {
+    let before = words.to_vec();
+    let mut model = before.clone();
+    let said = numbered(bpl::step(bytes, words));
+    let expected = enter_step(bytes, &mut model).map(|step| step.map(step_of));
+    assert_eq!(said, expected, "step {bytes:?} {before:?}");
+    assert_eq!(*words, model, "step {bytes:?} {before:?}");
+    kept(said.is_err(), bytes, &before, words);
+    said
+}
+
+pub fn run(bytes: &[u8], words: &mut [u64], budget: u32) -> Result<RunEnd, u8> {
+    let before = words.to_vec();
+    let mut model = before.clone();
+    let said = numbered(bpl::run(bytes, words, budget));
+    let expected = enter_run(bytes, &mut model, budget).map(end_of);
+    assert_eq!(said, expected, "run {budget} {bytes:?} {before:?}");
+    assert_eq!(*words, model, "run {budget} {bytes:?} {before:?}");
+    kept(said.is_err(), bytes, &before, words);
+    said
+}
+
+pub fn listing(bytes: &[u8], budget: u32) {
+    let said = numbered(bpl::listing(bytes, budget));
+    let expected = match enter_plan(bytes) {
+        Ok(_) => Ok(listing::text(bytes, budget)),
+        Err(number) => Err(number),
+    };
+    assert_eq!(said, expected, "listing {budget} {bytes:?}");
+}

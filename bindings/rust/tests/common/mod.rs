@@ -1,0 +1,190 @@
+//! Plans, placements and comparisons that the tests share.
+#![allow(dead_code)]
+
+use bpl::{Refusal, Report, RunEnd, Step};
+use placement_model::calls;
+use placement_model::damage::{
+    broken, flawed, over_budget, over_capacity, over_racks, two_records,
+};
+use placement_model::gen::{
+    draft, filled, leaning, noise, placement, too_long, Draft, Rng, Size, MEDIUM, SMALL, TINY,
+};
+use placement_model::plan::{read, Plan};
+use placement_model::steps::{self, End, Kind};
+
+/// What stands in a buffer before a call, so that a write is seen.
+pub const PATTERN: u64 = 0xA5C3_96F0_1B2D_4E87;
+
+/// The number of cases: BPL_CASES, or the test's own.
+pub fn cases(default: u64) -> u64 {
+    match std::env::var("BPL_CASES") {
+        Ok(text) => text.parse().expect("BPL_CASES is a number"),
+        Err(_) => default,
+    }
+}
+
+/// Sixty blocks on up to twenty machines.
+const LONG: Size = Size {
+    machines: 20,
+    blocks: 60,
+    coarse: false,
+};
+
+/// Mostly small plans, since the model's search is plain loops.
+pub fn size(rng: &mut Rng) -> Size {
+    match rng.below(20) {
+        0 => MEDIUM,
+        1 => LONG,
+        2..=9 => SMALL,
+        _ => TINY,
+    }
+}
+
+/// A plan that the checks accept.
+pub fn accepted(rng: &mut Rng) -> Draft {
+    let size = size(rng);
+    if rng.once_in(5) {
+        filled(rng, size)
+    } else {
+        draft(rng, size)
+    }
+}
+
+/// A damaged plan, or bytes that are none.
+pub fn damaged(rng: &mut Rng) -> Vec<u8> {
+    let size = size(rng);
+    let whole = accepted(rng).bytes();
+    let made = match rng.below(8) {
+        0 => over_budget(rng, size),
+        1 => Some(over_capacity(rng, size)),
+        2 => over_racks(rng, size),
+        3 => {
+            let least_first = rng.once_in(2);
+            two_records(rng, size, least_first)
+        }
+        4 => return noise(rng),
+        5 => return too_long(rng),
+        _ => None,
+    };
+    match made {
+        Some(draft) => draft.bytes(),
+        None => {
+            let row = rng.from_to(1, 11) as u8;
+            let once = flawed(rng, whole, row);
+            if once.len() >= 15 && rng.once_in(3) {
+                let row = rng.from_to(1, 11) as u8;
+                return flawed(rng, once, row);
+            }
+            once
+        }
+    }
+}
+
+/// Bytes of either sort.
+pub fn any_bytes(rng: &mut Rng) -> Vec<u8> {
+    if rng.once_in(4) {
+        damaged(rng)
+    } else {
+        accepted(rng).bytes()
+    }
+}
+
+/// B words for a plan: a good placement, a damaged one, or random words.
+pub fn any_placement(rng: &mut Rng, plan: &Plan) -> Vec<u64> {
+    match rng.below(8) {
+        0 | 1 => placement(rng, plan),
+        2..=4 => leaning(rng, plan),
+        5 | 6 => {
+            let rows = [(); 4].map(|()| rng.once_in(3));
+            broken(rng, plan, rows).unwrap_or_else(|| placement(rng, plan))
+        }
+        _ => plan.blocks.iter().map(|_| rng.word()).collect(),
+    }
+}
+
+/// Words to lend with these bytes: a placement and spare words behind it, or one too few, or any.
+pub fn lent_words(rng: &mut Rng, bytes: &[u8]) -> Vec<u64> {
+    let Ok(plan) = read(bytes) else {
+        let number = rng.below(20) as usize;
+        return patterned(number);
+    };
+    let mut words = any_placement(rng, &plan);
+    if rng.once_in(12) {
+        words.pop();
+        return words;
+    }
+    let spare = rng.below(4) as usize;
+    words.extend(patterned(spare));
+    words
+}
+
+/// Words that all differ.
+pub fn patterned(number: usize) -> Vec<u64> {
+    (0..number as u64)
+        .map(|i| PATTERN.wrapping_mul(2 * i + 1))
+        .collect()
+}
+
+/// A step budget.
+pub fn budget(rng: &mut Rng) -> u32 {
+    match rng.below(6) {
+        0 => 0,
+        1 => 1,
+        2 => 2,
+        3 => u32::MAX,
+        _ => rng.below(40) as u32,
+    }
+}
+
+/// A binding's answer with the refusal as its number.
+pub fn numbered<T>(answer: Result<T, Refusal>) -> Result<T, u8> {
+    answer.map_err(Refusal::number)
+}
+
+/// The model's report as the binding's.
+pub fn report_of(report: calls::Report) -> Report {
+    Report {
+        max_load: report.maximum,
+        min_load: report.minimum,
+        total_load: report.sum,
+        max_share: report.largest_share,
+    }
+}
+
+/// The model's step as the binding's.
+pub fn step_of(step: steps::Step) -> Step {
+    let steps::Step { kind, m, n, i, j } = step;
+    match (kind, j) {
+        (Kind::Move, None) => Step::Move { m, n, i },
+        (Kind::RackMove, None) => Step::RackMove { m, n, i },
+        (Kind::Swap, Some(j)) => Step::Swap { m, n, i, j },
+        (Kind::RackSwap, Some(j)) => Step::RackSwap { m, n, i, j },
+        _ => panic!("a move has no second block and a swap has one: {step:?}"),
+    }
+}
+
+/// The model's end of a run as the binding's.
+pub fn end_of((end, steps): (End, u32)) -> RunEnd {
+    match end {
+        End::Rest => RunEnd::Rest(steps),
+        End::Spent => RunEnd::Spent(steps),
+    }
+}
+
+/// A refused call left the buffer as it was, and any call the items past the plan's blocks.
+pub fn kept<T: PartialEq + std::fmt::Debug>(
+    refused: bool,
+    bytes: &[u8],
+    before: &[T],
+    after: &[T],
+) {
+    if refused {
+        assert_eq!(before, after, "a refused call wrote");
+    } else {
+        let blocks = read(bytes)
+            .expect("an answered call has a plan")
+            .blocks
+            .len();
+        assert_eq!(before[blocks..], after[blocks..], "a call wrote past B");
+    }
+}

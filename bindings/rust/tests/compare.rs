@@ -1,0 +1,172 @@
+//! Every entry against the independent model, on random plans and placements and over random lists of calls.
+//! BPL_CASES sets the number of cases.
+
+mod common;
+#[path = "common/entries.rs"]
+mod entries;
+
+use bpl::{RunEnd, Step};
+use common::*;
+use placement_model::gen::{coarse, leaning, sized, Rng, LARGE};
+use placement_model::plan::read;
+
+/// The number of blocks that the bytes tell, if they are a plan.
+fn blocks_of(bytes: &[u8]) -> usize {
+    read(bytes).map_or(0, |plan| plan.blocks.len())
+}
+
+/// What the cases met: checks by number (0 is passed), steps by kind, ends of runs.
+#[derive(Debug, Default)]
+struct Met {
+    checks: [u64; 17],
+    steps: [u64; 5],
+    ends: [u64; 2],
+}
+
+impl Met {
+    fn check(&mut self, said: Result<(), u8>) {
+        self.checks[said.err().unwrap_or(0) as usize] += 1;
+    }
+
+    fn step(&mut self, said: Result<Option<Step>, u8>) {
+        let Ok(step) = said else { return };
+        let kind = match step {
+            None => 0,
+            Some(Step::Move { .. }) => 1,
+            Some(Step::Swap { .. }) => 2,
+            Some(Step::RackMove { .. }) => 3,
+            Some(Step::RackSwap { .. }) => 4,
+        };
+        self.steps[kind] += 1;
+    }
+
+    fn run(&mut self, said: Result<RunEnd, u8>) {
+        match said {
+            Ok(RunEnd::Rest(_)) => self.ends[0] += 1,
+            Ok(RunEnd::Spent(_)) => self.ends[1] += 1,
+            Err(_) => {}
+        }
+    }
+
+    /// Every check, kind and end was met.
+    fn all(&self) -> bool {
+        let mut numbers = self.checks.iter().chain(&self.steps).chain(&self.ends);
+        numbers.all(|number| *number > 0)
+    }
+}
+
+/// All entries once, on bytes and words of any sort.
+#[test]
+fn each_entry() {
+    let mut met = Met::default();
+    for case in 0..cases(20_000) {
+        let rng = &mut Rng::new(case);
+        let bytes = any_bytes(rng);
+        let words = lent_words(rng, &bytes);
+        let blocks = blocks_of(&bytes);
+        entries::plan(&bytes);
+        entries::counts(&bytes, blocks);
+        entries::counts(&bytes, blocks + 3);
+        entries::counts(&bytes, blocks.saturating_sub(1));
+        met.check(entries::check(&bytes, &words));
+        entries::report(&bytes, &words);
+        met.step(entries::step(&bytes, &mut words.clone()));
+        met.run(entries::run(&bytes, &mut words.clone(), budget(rng)));
+        entries::first(&bytes, &mut patterned(words.len()));
+        entries::first(&bytes, &mut patterned(blocks.saturating_sub(1)));
+        entries::listing(&bytes, budget(rng));
+    }
+    assert!(
+        cases(20_000) < 5000 || met.all(),
+        "not all was met: {met:?}"
+    );
+    println!("{met:?}");
+}
+
+/// One call of a list: any entry, at times with other bytes or with too few words.
+fn call(rng: &mut Rng, bytes: &[u8], words: &mut [u64]) {
+    let other = damaged(rng);
+    let bytes = if rng.once_in(6) { &other } else { bytes };
+    let most = words.len() as u64;
+    let lent = if rng.once_in(6) {
+        rng.from_to(0, most)
+    } else {
+        most
+    };
+    let part = &mut words[..lent as usize];
+    match rng.below(9) {
+        0 => drop(entries::check(bytes, part)),
+        1 => entries::report(bytes, part),
+        2 => entries::counts(bytes, part.len()),
+        3 if rng.once_in(4) => entries::first(bytes, part),
+        4 | 5 => drop(entries::run(bytes, part, budget(rng))),
+        6 => entries::listing(bytes, 3),
+        _ => drop(entries::step(bytes, part)),
+    }
+}
+
+/// Lists of calls that share one plan and its words: what each call is handed is what the calls before it left.
+#[test]
+fn lists_of_calls() {
+    for case in 0..cases(4000) {
+        let rng = &mut Rng::new(1 << 32 | case);
+        let draft = accepted(rng);
+        let bytes = draft.bytes();
+        let plan = draft.plan().expect("an accepted draft");
+        let mut words = leaning(rng, &plan);
+        words.extend(patterned(2));
+        for _ in 0..rng.from_to(0, 14) {
+            let before = words.clone();
+            call(rng, &bytes, &mut words);
+            let blocks = plan.blocks.len();
+            assert_eq!(before[blocks..], words[blocks..], "a call wrote past B");
+        }
+    }
+}
+
+/// A few large plans: all entries, with few steps.
+#[test]
+fn large_plans() {
+    for case in 0..cases(2000).div_ceil(100) {
+        let rng = &mut Rng::new(2 << 32 | case);
+        let draft = if rng.once_in(2) {
+            coarse(rng)
+        } else {
+            sized(rng, LARGE, 8, 8, 1024)
+        };
+        let bytes = draft.bytes();
+        let mut words = patterned(draft.records.len() + 5);
+        entries::plan(&bytes);
+        entries::counts(&bytes, draft.records.len() + 5);
+        entries::first(&bytes, &mut words);
+        assert!(entries::check(&bytes, &words).is_ok());
+        assert!(entries::step(&bytes, &mut words).is_ok());
+        assert!(entries::run(&bytes, &mut words, 2).is_ok());
+        entries::report(&bytes, &words);
+        entries::listing(&bytes, 1);
+        entries::listing(&bytes[..bytes.len() - 1], 1);
+    }
+}
+
+/// Calls in several threads at once answer as they do alone.
+#[test]
+fn threads() {
+    let bytes = accepted(&mut Rng::new(7)).bytes();
+    let alone = bpl::listing(&bytes, 1000);
+    let together: Vec<_> = std::thread::scope(|scope| {
+        let calls: Vec<_> = (0..4)
+            .map(|_| {
+                scope.spawn(|| {
+                    (0..50)
+                        .map(|_| bpl::listing(&bytes, 1000))
+                        .collect::<Vec<_>>()
+                })
+            })
+            .collect();
+        calls
+            .into_iter()
+            .flat_map(|call| call.join().expect("no call panics"))
+            .collect()
+    });
+    assert!(together.iter().all(|listing| *listing == alone));
+}

@@ -1,0 +1,101 @@
+//! The specification's own examples, and the repository's stored ones.
+
+use bpl::{Report, RunEnd, Step};
+use placement_model::samples;
+use std::fs;
+use std::path::PathBuf;
+
+/// Plan H: counts 4, 2, 1; words 15, 5, 2; the listing's five lines.
+#[test]
+fn plan_h() {
+    let bytes = samples::h().bytes();
+    let (mut counts, mut words) = ([0; 3], [0; 3]);
+    assert_eq!(bpl::plan(&bytes), Ok(()));
+    assert_eq!(bpl::counts(&bytes, &mut counts), Ok(()));
+    assert_eq!(counts, [4, 2, 1]);
+    assert_eq!(bpl::first(&bytes, &mut words), Ok(()));
+    assert_eq!(words, [15, 5, 2]);
+    assert_eq!(bpl::check(&bytes, &words), Ok(()));
+    let report = Report {
+        max_load: 5040,
+        min_load: 2520,
+        total_load: 16800,
+        max_share: 2520,
+    };
+    assert_eq!(bpl::report(&bytes, &words), Ok(report));
+    assert_eq!(bpl::step(&bytes, &mut words), Ok(None));
+    let listing = "plan 2 2 3\nblock 0 4 2520 0 1 2 3\nblock 1 2 2520 0 2\nblock 2 1 1680 1\nrest 0 5040 2520 16800 2520\n";
+    assert_eq!(bpl::listing(&bytes, 100_000).as_deref(), Ok(listing));
+}
+
+/// Plan Y: two moves, then rest; with step budget 1 `spent`.
+#[test]
+fn plan_y() {
+    let bytes = samples::y().bytes();
+    let mut words = [0; 3];
+    assert_eq!(bpl::first(&bytes, &mut words), Ok(()));
+    assert_eq!(words, [1, 2, 1]);
+    let mut spent = words;
+    assert_eq!(bpl::run(&bytes, &mut spent, 1), Ok(RunEnd::Spent(1)));
+    let first = Step::Move { m: 0, n: 1, i: 0 };
+    assert_eq!(bpl::step(&bytes, &mut words), Ok(Some(first)));
+    assert_eq!(words, spent);
+    let second = Step::Move { m: 1, n: 0, i: 1 };
+    assert_eq!(bpl::step(&bytes, &mut words), Ok(Some(second)));
+    assert_eq!(bpl::step(&bytes, &mut words), Ok(None));
+}
+
+/// Plan Z: two swaps, then rest with words 1, 2, 1, 2.
+#[test]
+fn plan_z() {
+    let bytes = samples::z().bytes();
+    let mut words = [1, 1, 2, 2];
+    let first = Step::Swap {
+        m: 0,
+        n: 1,
+        i: 0,
+        j: 2,
+    };
+    assert_eq!(bpl::step(&bytes, &mut words), Ok(Some(first)));
+    let second = Step::Swap {
+        m: 1,
+        n: 0,
+        i: 0,
+        j: 1,
+    };
+    assert_eq!(bpl::step(&bytes, &mut words), Ok(Some(second)));
+    assert_eq!(bpl::run(&bytes, &mut words, 9), Ok(RunEnd::Rest(0)));
+    assert_eq!(words, [1, 2, 1, 2]);
+}
+
+/// The refusals of the empty file and of a short buffer, in words.
+#[test]
+fn refusals() {
+    let empty = bpl::plan(&[]).unwrap_err();
+    assert_eq!(empty.number(), 1);
+    assert_eq!(
+        empty.to_string(),
+        "refused 1: the plan is shorter than 15 bytes"
+    );
+    let short = bpl::first(&samples::h().bytes(), &mut [0; 2]).unwrap_err();
+    assert_eq!(short.number(), 12);
+}
+
+/// Each stored example: its plan gives its listing.
+#[test]
+fn examples() {
+    let folder = PathBuf::from(env!("CARGO_MANIFEST_DIR")).join("../../examples");
+    let mut seen = 0;
+    for entry in fs::read_dir(folder).expect("the examples' folder") {
+        let path = entry.expect("an entry of the folder").path();
+        if path.extension().is_some_and(|end| end == "plan") {
+            let bytes = fs::read(&path).expect("a plan");
+            let stored = fs::read_to_string(path.with_extension("listing")).expect("its listing");
+            let listing = bpl::listing(&bytes, 100_000)
+                .unwrap_or_else(|refusal| format!("refused {}\n", refusal.number()));
+            assert_eq!(listing, stored, "{}", path.display());
+            seen += 1;
+        }
+    }
+    assert!(seen > 0, "no example was found");
+}
