@@ -1,0 +1,203 @@
+//! The three sides on the largest plans and on the smallest.
+
+use crate::optimised::State;
+use crate::plans::{Size, LARGEST};
+use crate::sides::{compared, first_words, run_timed, step_timed, Side, LIBRARY};
+use crate::table::Table;
+use crate::timing::{ratio, shown, timed};
+use placement_model::gen::Draft;
+use placement_model::plan::read;
+use placement_model::samples::{h, y};
+use placement_model::steps::End;
+
+/// Spreads one, and spreads mixed.
+pub const BOTH: [Size; 2] = [
+    LARGEST,
+    Size {
+        mixed: true,
+        ..LARGEST
+    },
+];
+
+/// The heads of the columns that every comparison ends with.
+const SIDES_HEAD: [&str; 5] = [
+    "model",
+    "optimised",
+    "library",
+    "model / library",
+    "optimised / library",
+];
+
+/// A table of a comparison, with columns of its own in front.
+fn table(own: &[&str]) -> Table {
+    Table::new(&[own, &SIDES_HEAD].concat())
+}
+
+/// A row of a comparison: its own cells, then the times, and how they compare.
+fn row(table: &mut Table, own: &[String], [model, optimised, library]: [f64; 3]) {
+    let times = [model, optimised, library].map(shown);
+    let ratios = [ratio(model, library), ratio(optimised, library)];
+    table.row(own.iter().cloned().chain(times).chain(ratios));
+}
+
+/// From bytes to listing, with a small step budget.
+pub fn listings() {
+    let budget = 300;
+    println!("## From bytes to listing\n");
+    println!("64 machines, 1,024 blocks, step budget {budget}: reading, counts, first placement, run, text.\n");
+    let mut table = table(&["spreads"]);
+    for size in BOTH {
+        let bytes = size.fine();
+        let (times, _) = compared("listing", |side| timed(|| (side.listing)(&bytes, budget)));
+        row(&mut table, &[size.spreads().to_string()], times);
+    }
+    table.print();
+}
+
+/// Time per step of a run from the first placement.
+pub fn long_runs(steps: u32) {
+    println!("## A run of {steps} steps from the first placement\n");
+    println!("64 machines, 1,024 blocks, popularities random in 24 bits. Time per step; a call also reads the plan");
+    println!("and judges the placement once, and makes one search after the last step.\n");
+    let mut table = table(&["spreads", "steps"]);
+    for size in BOTH {
+        let bytes = size.fine();
+        let start = first_words(&bytes, size.blocks);
+        let (times, (_, taken, _)) = compared("run", |side| run_timed(side, &bytes, &start, steps));
+        let per_step = times.map(|time| time / f64::from(taken.max(1)));
+        row(
+            &mut table,
+            &[size.spreads().to_string(), taken.to_string()],
+            per_step,
+        );
+    }
+    table.print();
+}
+
+/// Time per step of short runs after the given numbers of steps, which the library takes.
+pub fn windows(after: &[u32]) {
+    let length = 60;
+    println!("## Steps later in a run\n");
+    println!(
+        "The same plans: time per step of a call for {length} steps, after a number of steps.\n"
+    );
+    let mut table = table(&["spreads", "after"]);
+    for size in BOTH {
+        let bytes = size.fine();
+        let mut words = first_words(&bytes, size.blocks);
+        let mut taken = 0;
+        for goal in after {
+            let (end, more) =
+                (LIBRARY.run)(&bytes, &mut words, goal - taken).expect("words of this plan");
+            taken += more;
+            if end == End::Rest {
+                println!("Spreads {}: at rest after {taken} steps.\n", size.spreads());
+                break;
+            }
+            let (times, (_, steps, _)) =
+                compared("window", |side| run_timed(side, &bytes, &words, length));
+            let per_step = times.map(|time| time / f64::from(steps.max(1)));
+            row(
+                &mut table,
+                &[size.spreads().to_string(), taken.to_string()],
+                per_step,
+            );
+        }
+    }
+    table.print();
+}
+
+/// The search that finds no step.
+pub fn at_rest() {
+    println!("## A full search at rest\n");
+    println!("64 machines, 1,024 blocks, popularities from 0 to 9. One step call on a placement at rest, on all sides with");
+    println!("reading the plan and judging the placement; the optimised version's search alone stands in the third column.\n");
+    let mut table = table(&["spreads", "steps to rest", "search alone (optimised)"]);
+    for size in BOTH {
+        let bytes = size.coarse();
+        let mut words = first_words(&bytes, size.blocks);
+        let (end, steps) =
+            (LIBRARY.run)(&bytes, &mut words, 2_000_000).expect("words of this plan");
+        assert_eq!(end, End::Rest, "a coarse plan comes to rest");
+        let (times, (step, _)) = compared("rest", |side| step_timed(side, &bytes, &words));
+        assert_eq!(step, None, "no step is left at rest");
+        let plan = read(&bytes).expect("an accepted plan");
+        let state = State::new(&plan, &words);
+        let (alone, _) = timed(|| state.next_step());
+        row(
+            &mut table,
+            &[size.spreads().to_string(), steps.to_string(), shown(alone)],
+            times,
+        );
+    }
+    table.print();
+}
+
+/// Every call on one small plan.
+fn small_calls(table: &mut Table, name: &str, draft: &Draft) {
+    let bytes = draft.bytes();
+    let blocks = draft.records.len();
+    let words = first_words(&bytes, blocks as u16);
+    let mut add = |call: &str, times: [f64; 3]| {
+        let own = [name.to_string(), call.to_string()];
+        row(table, &own, times);
+    };
+    add(
+        "plan",
+        compared(name, |side| timed(|| (side.plan)(&bytes))).0,
+    );
+    add(
+        "counts",
+        compared(name, |side| counts_timed(side, &bytes, blocks)).0,
+    );
+    add(
+        "first",
+        compared(name, |side| first_timed(side, &bytes, blocks)).0,
+    );
+    add(
+        "check",
+        compared(name, |side| timed(|| (side.check)(&bytes, &words))).0,
+    );
+    add(
+        "report",
+        compared(name, |side| timed(|| (side.report)(&bytes, &words))).0,
+    );
+    add(
+        "step",
+        compared(name, |side| step_timed(side, &bytes, &words)).0,
+    );
+    add(
+        "run",
+        compared(name, |side| run_timed(side, &bytes, &words, 100_000)).0,
+    );
+    add(
+        "listing",
+        compared(name, |side| timed(|| (side.listing)(&bytes, 100_000))).0,
+    );
+}
+
+/// The chosen counts: seconds, and the counts.
+pub fn counts_timed(side: &Side, bytes: &[u8], blocks: usize) -> (f64, Vec<u8>) {
+    let mut counts = vec![0; blocks];
+    let (seconds, done) = timed(|| (side.counts)(bytes, &mut counts));
+    done.expect("an accepted plan");
+    (seconds, counts)
+}
+
+/// The first placement: seconds, and the words.
+pub fn first_timed(side: &Side, bytes: &[u8], blocks: usize) -> (f64, Vec<u64>) {
+    let mut words = vec![0; blocks];
+    let (seconds, done) = timed(|| (side.first)(bytes, &mut words));
+    done.expect("an accepted plan");
+    (seconds, words)
+}
+
+/// The specification's plans H, whose first placement is at rest, and Y, which takes two steps.
+pub fn smallest() {
+    println!("## The smallest plans\n");
+    println!("The specification's plans H (4 machines, 3 blocks, at rest from the start) and Y (2 machines, 3 blocks, two steps).\n");
+    let mut table = table(&["plan", "call"]);
+    small_calls(&mut table, "H", &h());
+    small_calls(&mut table, "Y", &y());
+    table.print();
+}

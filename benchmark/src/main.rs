@@ -1,0 +1,37 @@
+//! `placement_benchmark [quick]`: prints all tables as markdown; see scripts/benchmark.
+
+use placement_benchmark::{comparison, growth, machine, memory, timing};
+use std::process::exit;
+
+/// All tables; `quick` takes fewer steps where the model is slow.
+fn all(quick: bool) {
+    println!("{}\n", timing::RULE);
+    machine::print();
+    println!("- Mode: {}\n", if quick { "quick" } else { "full" });
+    comparison::listings();
+    let (steps, after): (u32, &[u32]) = if quick {
+        (1000, &[0, 1000, 3000])
+    } else {
+        (10_000, &[0, 1000, 3000, 10_000, 50_000])
+    };
+    comparison::long_runs(steps);
+    comparison::windows(after);
+    comparison::at_rest();
+    growth::growth();
+    comparison::smallest();
+    memory::memory();
+    println!("\nLoad average at the end: {}", machine::load_average());
+}
+
+fn main() {
+    let arguments: Vec<String> = std::env::args().skip(1).collect();
+    match arguments.iter().map(String::as_str).collect::<Vec<_>>()[..] {
+        [] => all(false),
+        ["quick"] => all(true),
+        ["memory", side] => memory::child(side),
+        _ => {
+            eprintln!("usage: placement_benchmark [quick]");
+            exit(2);
+        }
+    }
+}

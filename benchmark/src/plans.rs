@@ -1,0 +1,77 @@
+//! The plans that are timed, always the same from the same seed.
+
+use placement_model::gen::{Draft, Record, Rng};
+
+/// How large a plan is, and of what kind.
+#[derive(Clone, Copy)]
+pub struct Size {
+    pub racks: u8,
+    pub per_rack: u8,
+    pub blocks: u16,
+    /// Spreads from one to the block's least copies; else all spreads are one.
+    pub mixed: bool,
+}
+
+/// 64 machines and 1,024 blocks.
+pub const LARGEST: Size = Size {
+    racks: 8,
+    per_rack: 8,
+    blocks: 1024,
+    mixed: false,
+};
+
+impl Size {
+    pub fn machines(&self) -> usize {
+        usize::from(self.racks) * usize::from(self.per_rack)
+    }
+
+    /// What the tables call the spreads.
+    pub fn spreads(&self) -> &'static str {
+        if self.mixed {
+            "mixed"
+        } else {
+            "one"
+        }
+    }
+
+    /// A record with least copies from 1 to 3.
+    fn record(&self, rng: &mut Rng, popularity: u32) -> Record {
+        let least = rng.from_to(1, 3) as u8;
+        let most = if self.mixed { least.min(self.racks) } else { 1 };
+        Record {
+            popularity,
+            least,
+            spread: rng.from_to(1, u64::from(most)) as u8,
+        }
+    }
+
+    /// A plan with a budget of 4,000 copies for 1,024 blocks, and machines that can hold 5,120; in proportion for
+    /// fewer blocks.
+    fn plan(&self, popularity: impl Fn(&mut Rng) -> u32) -> Vec<u8> {
+        let mut rng = Rng::new(7);
+        let blocks = u32::from(self.blocks);
+        let records = (0..blocks).map(|_| {
+            let popularity = popularity(&mut rng);
+            self.record(&mut rng, popularity)
+        });
+        let draft = Draft {
+            racks: self.racks,
+            per_rack: self.per_rack,
+            capacity: (5 * blocks).div_ceil(self.machines() as u32) as u16,
+            records: records.collect(),
+            budget: blocks * 4000 / 1024,
+        };
+        assert!(draft.plan().is_some(), "a plan that is timed is accepted");
+        draft.bytes()
+    }
+
+    /// Popularities random in 24 bits: runs are long.
+    pub fn fine(&self) -> Vec<u8> {
+        self.plan(|rng| rng.below(1 << 24) as u32)
+    }
+
+    /// Popularities from 0 to 9: rest is reached.
+    pub fn coarse(&self) -> Vec<u8> {
+        self.plan(|rng| rng.below(10) as u32)
+    }
+}

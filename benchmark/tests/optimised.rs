@@ -1,0 +1,149 @@
+//! The optimised version against the model on random plans: step by step, whole runs, checks and listings.
+
+use placement_benchmark::optimised::{check, enter_report, enter_run, enter_step, listing, State};
+use placement_model::calls;
+use placement_model::damage::{broken, flawed};
+use placement_model::gen::*;
+use placement_model::listing::text;
+use placement_model::placement::{first, loads};
+use placement_model::samples::{empty, h, one_machine, y, z, Z_WORDS};
+use placement_model::steps::{step_plain, End};
+use placement_model::{placement, plan::Plan};
+
+/// Both take the same steps from these words, with the same words and loads after each, until rest or `most` steps.
+fn same_steps(plan: &Plan, words: &[u64], most: usize) -> usize {
+    let mut state = State::new(plan, words);
+    for taken in 0..most {
+        let step = step_plain(plan, state.words());
+        assert_eq!(state.next_step(), step);
+        let Some(step) = step else { return taken };
+        let after = step.taken(state.words());
+        state.take(&step);
+        assert_eq!(state.words(), after);
+        assert_eq!(state.loads(), loads(plan, &after));
+    }
+    most
+}
+
+/// Both make the same of a run from these words.
+fn same_run(bytes: &[u8], words: &[u64], budget: u32) {
+    let (mut ours, mut theirs) = (words.to_vec(), words.to_vec());
+    let answer = enter_run(bytes, &mut ours, budget);
+    assert_eq!(answer, calls::enter_run(bytes, &mut theirs, budget));
+    assert_eq!(ours, theirs);
+}
+
+#[test]
+fn steps_of_random_plans() {
+    let mut rng = Rng::new(1);
+    let mut taken = 0;
+    for size in [TINY, SMALL, MEDIUM] {
+        for _ in 0..150 {
+            let plan = draft(&mut rng, size).plan().expect("accepted");
+            taken += same_steps(&plan, &first(&plan), 60);
+            let words = leaning(&mut rng, &plan);
+            taken += same_steps(&plan, &words, 60);
+        }
+    }
+    assert!(taken > 5000, "only {taken} steps were compared");
+}
+
+#[test]
+fn steps_with_full_machines() {
+    let mut rng = Rng::new(2);
+    for _ in 0..150 {
+        let plan = filled(&mut rng, SMALL).plan().expect("accepted");
+        let words = leaning(&mut rng, &plan);
+        same_steps(&plan, &words, 60);
+    }
+}
+
+#[test]
+fn steps_of_the_largest_plans() {
+    let mut rng = Rng::new(3);
+    for (racks, per_rack) in [(8, 8), (1, 64), (64, 1)] {
+        let plan = sized(&mut rng, LARGE, racks, per_rack, 1024)
+            .plan()
+            .expect("accepted");
+        same_steps(&plan, &first(&plan), 12);
+        let words = leaning(&mut rng, &plan);
+        same_steps(&plan, &words, 12);
+    }
+}
+
+#[test]
+fn whole_runs() {
+    let mut rng = Rng::new(4);
+    for size in [
+        TINY,
+        SMALL,
+        Size {
+            coarse: true,
+            ..MEDIUM
+        },
+    ] {
+        for _ in 0..100 {
+            let draft = draft(&mut rng, size);
+            let plan = draft.plan().expect("accepted");
+            let words = leaning(&mut rng, &plan);
+            for budget in [0, 1, 7, 3000] {
+                same_run(&draft.bytes(), &words, budget);
+            }
+        }
+    }
+    same_run(&z().bytes(), &Z_WORDS, u32::MAX);
+}
+
+#[test]
+fn rest_is_answered_at_rest() {
+    let bytes = y().bytes();
+    let mut words = [0; 3];
+    calls::enter_first(&bytes, &mut words).expect("accepted");
+    assert_eq!(enter_run(&bytes, &mut words, 2), Ok((End::Rest, 2)));
+    let before = words;
+    assert_eq!(enter_step(&bytes, &mut words), Ok(None));
+    assert_eq!(words, before);
+}
+
+#[test]
+fn checks_and_single_steps() {
+    let mut rng = Rng::new(5);
+    for k in 0..600 {
+        let draft = draft(&mut rng, SMALL);
+        let plan = draft.plan().expect("accepted");
+        let rows = [0, 1, 2, 3].map(|r| k >> r & 1 == 1);
+        let Some(words) = broken(&mut rng, &plan, rows) else {
+            continue;
+        };
+        let (mut ours, mut theirs) = (words.clone(), words.clone());
+        assert_eq!(
+            check(&plan, &words),
+            placement::check(&plan, &words).map(|_| ())
+        );
+        assert_eq!(check(&plan, &words[1..]), Err(12));
+        let bytes = draft.bytes();
+        assert_eq!(
+            enter_report(&bytes, &words),
+            calls::enter_report(&bytes, &words)
+        );
+        let answer = enter_step(&draft.bytes(), &mut ours);
+        assert_eq!(answer, calls::enter_step(&draft.bytes(), &mut theirs));
+        assert_eq!(ours, theirs);
+    }
+}
+
+#[test]
+fn listings() {
+    let mut rng = Rng::new(6);
+    for draft in [h(), y(), z(), empty(), one_machine()] {
+        assert_eq!(listing(&draft.bytes(), 100), text(&draft.bytes(), 100));
+    }
+    for _ in 0..200 {
+        let bytes = draft(&mut rng, SMALL).bytes();
+        let row = rng.from_to(1, 11) as u8;
+        let damaged = flawed(&mut rng, bytes.clone(), row);
+        for bytes in [bytes, damaged] {
+            assert_eq!(listing(&bytes, 20), text(&bytes, 20));
+        }
+    }
+}
