@@ -35,9 +35,9 @@
  *     B are never read or written.
  *   - `out` takes numbers. Its items past those named are never written.
  *
- * The functions keep no state and use no memory but the lent buffers and the stack (under 256 KiB): calls in several
- * threads at once are independent of each other. They always return: bpl_run and bpl_listing after at most `budget`
- * steps.
+ * The functions keep no state and use no memory but the lent buffers and the stack (80 KiB were enough where it was
+ * measured; leave 256): calls in several threads at once are independent of each other. They always return: bpl_run
+ * and bpl_listing after at most `budget` steps.
  */
 #ifndef BPL_H
 #define BPL_H
