@@ -40,16 +40,17 @@ fn row(table: &mut Table, own: &[String], [model, optimised, library]: [f64; 3])
     table.row(own.iter().cloned().chain(times).chain(ratios));
 }
 
-/// From bytes to listing, with a small step budget.
-pub fn listings() {
-    let budget = 300;
+/// From bytes to listing, with smaller step budgets than the program's.
+pub fn listings(budgets: &[u32]) {
     println!("## From bytes to listing\n");
-    println!("64 machines, 1,024 blocks, step budget {budget}: reading, counts, first placement, run, text.\n");
-    let mut table = table(&["spreads"]);
+    println!("64 machines, 1,024 blocks: reading, counts, first placement, run, text.\n");
+    let mut table = table(&["spreads", "step budget"]);
     for size in BOTH {
         let bytes = size.fine();
-        let (times, _) = compared("listing", |side| timed(|| (side.listing)(&bytes, budget)));
-        row(&mut table, &[size.spreads().to_string()], times);
+        for &budget in budgets {
+            let (times, _) = compared("listing", |side| timed(|| (side.listing)(&bytes, budget)));
+            row(&mut table, &[size.spreads().to_string(), budget.to_string()], times);
+        }
     }
     table.print();
 }

@@ -8,12 +8,12 @@ fn all(quick: bool) {
     println!("{}\n", timing::RULE);
     machine::print();
     println!("- Mode: {}\n", if quick { "quick" } else { "full" });
-    comparison::listings();
-    let (steps, after): (u32, &[u32]) = if quick {
-        (1000, &[0, 1000, 3000])
+    let (budgets, steps, after): (&[u32], u32, &[u32]) = if quick {
+        (&[300], 1000, &[0, 1000, 3000])
     } else {
-        (10_000, &[0, 1000, 3000, 10_000, 50_000])
+        (&[300, 3000], 10_000, &[0, 1000, 3000, 10_000, 50_000])
     };
+    comparison::listings(budgets);
     comparison::long_runs(steps);
     comparison::windows(after);
     comparison::at_rest();
