@@ -8,7 +8,7 @@
  *   1 to 16   refused, by the table below: nothing is written to any buffer.
  *   255       a lent buffer for results is too short (`out`, or the text of bpl_listing): nothing is written. A short
  *             `out` is judged first of all, before the plan is looked at.
- *   No other value is returned.
+ *   No other value is returned (proved: crates/capi/specs/Codes.antt).
  *
  *    1  the plan is shorter than 15 bytes            9  a spread is 0, above the least copies, or above R
  *    2  its mark differs from 42 50 4C              10  the sum of least copies is above the budget

@@ -1,7 +1,7 @@
 -- An exported call's effect by cases: a short `out`, a refusal, an answer. And numbers written over `out`, one by one.
 -- Assumes nothing.
 use mathlib.Core.Path.{_≡_, refl, ap, sym, _∙_}
-use mathlib.Core.List.{List, [], _++_}
+use mathlib.Core.List.{List, _++_}
 use Prim.Native.Nat.{ℕ, _+_, _<_, _≤_}
 use native.Mathlib.Nat.{le-antisymm}
 use borrow.Author.Tests.{lt-ltb, le-ltb}
@@ -17,7 +17,7 @@ module _ {A : Type 0} (need : ℕ) (numbers : A → List ℕ) (items out : List 
   unfolding effect
   out-short l = rw (lt-ltb (length out) need l)
 
-  out-enough : need ≤ length out → effect need numbers items out call ≡ replied numbers (call .answer) (call .items) out
+  pub out-enough : need ≤ length out → effect need numbers items out call ≡ replied numbers (call .answer) (call .items) out
   unfolding effect
   out-enough l = rw (le-ltb (length out) need l)
 

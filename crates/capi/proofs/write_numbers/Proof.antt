@@ -1,7 +1,6 @@
 -- `capi::write_numbers` meets its contract. The loop's invariant: the numbers passed stand in out.
 -- Assumes nothing.
 use mathlib.Core.Path.{_≡_, refl}
-use mathlib.Core.List.{List}
 use Prim.Native.Nat.{_-_, _<_, _≤_}
 use native.Mathlib.Omega.{arith}
 use borrow.Author.Needs.{needs}

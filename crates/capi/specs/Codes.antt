@@ -1,0 +1,44 @@
+-- What the codes tell apart: 0 is returned exactly for an answer, any other code is a row of the table or that of a short buffer.
+use mathlib.Core.Path.{_≡_}
+use mathlib.Core.Logic.{_⊎_}
+use mathlib.Core.List.{List, []}
+use Prim.Native.Nat.{ℕ, _≤_}
+use lib.ListN.{length}
+use Rattle.model.specs.Plan.{Plan}
+use Rattle.model.specs.Refusal.{accepted, judge}
+use Rattle.model.specs.Calls.{Answer, answered, Outcome, countsCall, firstCall, checkCall, reportCall, stepCall, runCall}
+use Rattle.model.specs.Listing.{listingCall}
+use Rattle.capi.specs.Interface.{shortOut, effect, codeOf, noNumbers, reportNumbers, stepNumbers, runNumbers, sizeNumber}
+
+-- The last row of the table of refusals.
+abbrev pub lastRow : ℕ
+lastRow = 16
+
+-- The code of a refusal.
+pub record RefusalCode (code : ℕ) : Type 0 where
+  pub some : 1 ≤ code
+  pub row : (code ≤ lastRow) ⊎ (code ≡ shortOut)
+
+-- With 0 there is an answer, and `out` had room for its numbers.
+pub record Done {A : Type 0} (need : ℕ) (out : List ℕ) (answer : Answer A) : Type 0 where
+  pub room : need ≤ length out
+  pub given : (a : A) × (answer ≡ answered a)
+
+pub record Tells {A : Type 0} (need : ℕ) (out : List ℕ) (answer : Answer A) (code : ℕ) : Type 0 where
+  pub known : (code ≡ 0) ⊎ RefusalCode code
+  pub done : code ≡ 0 → Done need out answer
+
+abbrev pub EffectTells : {A : Type 0} → ℕ → (A → List ℕ) → List ℕ → List ℕ → Outcome A → Type 0
+EffectTells need numbers items out call = Tells need out (call .answer) (effect need numbers items out call .code)
+
+-- Of every exported function, whatever it is lent.
+pub record Codes (plan items out : List ℕ) (budget : ℕ) : Type 0 where
+  pub plan-known : (codeOf (judge plan) ≡ 0) ⊎ RefusalCode (codeOf (judge plan))
+  pub plan-done : codeOf (judge plan) ≡ 0 → (p : Plan) × (judge plan ≡ accepted p)
+  pub counts-tells : EffectTells 0 noNumbers items [] (countsCall plan items)
+  pub first-tells : EffectTells 0 noNumbers items [] (firstCall plan items)
+  pub check-tells : EffectTells 0 noNumbers items [] (checkCall plan items)
+  pub report-tells : EffectTells 4 reportNumbers items out (reportCall plan items)
+  pub step-tells : EffectTells 6 stepNumbers items out (stepCall plan items)
+  pub run-tells : EffectTells 2 runNumbers items out (runCall plan items budget)
+  pub listing-tells : EffectTells 1 sizeNumber items out (listingCall plan budget items)
