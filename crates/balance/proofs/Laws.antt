@@ -1,4 +1,4 @@
--- What a step that was found lets the words be shifted by, and what a tally adds to a standing placement.
+-- What a step that was found lets the words be shifted by, and what a census adds to a standing placement.
 -- Assumes nothing.
 use mathlib.Core.Path.{_≡_, refl, ap, sym, _∙_}
 use mathlib.Core.Bool.{true, false, not}
@@ -16,13 +16,16 @@ use Rattle.theory.proofs.Held.{load-held, share-held}
 use Rattle.theory.proofs.NextStep.{step-keeps}
 use Rattle.theory.proofs.Runs.{run-zero, run-none, run-suc}
 use Rattle.theory.proofs.Transfer.{move-other, move-length, swap-apart}
-use Rattle.tally.specs.declared.Tally.{Tally}
-use Rattle.tally.specs.Tallies.{Tallied}
+use Rattle.ranking.specs.Ranks.{RankAsked}
+use Rattle.ranking.proofs.Laws.{named-share, places-apart}
+use Rattle.screen.specs.Screen.{shareAt, RankIndexed}
+use Rattle.census.specs.declared.Census.{Census}
+use Rattle.census.specs.Census.{TakeAsked as CensusAsked, CensusOf}
 use Rattle.transfers.specs.Pair.{Shift}
-use Rattle.search.specs.Scene.{Found, SceneOf}
+use Rattle.search.specs.Scene.{Found, SceneOf, LoopAsked}
 use Rattle.search.specs.declared.Step.{Step}
 use Rattle.search.specs.declared.Step.the-variants.{Rest, Move, Swap, RackMove, RackSwap}
-use Rattle.balance.specs.Standing.{StandAsked, Standing, ShiftAsked, TakeAsked}
+use Rattle.balance.specs.Standing.{StandAsked, RankedAsked, Standing, ShiftAsked, TakeAsked}
 
 -- an exchange's second shift can still be made after its first
 pub second-shift : (words : List ℕ) (m n i j : ℕ) → ShiftAsked words m n i → ShiftAsked words n m j
@@ -56,13 +59,67 @@ module _ (words : List ℕ) (racks size blocks : ℕ) (few : racks * size ≤ ma
   take-asked (RackMove m n i) f = shift-asked m n i f
   take-asked (RackSwap m n i j) f = (shift-asked m n i (f .0), shift-asked n m j (f .1))
 
--- with the tally of its words a standing placement is what the search is given
-pub scene-of : (p : Plan) (words shares spreads : List ℕ) (racks size capacity blocks : ℕ) (t : Tally)
+-- what the census is asked with, and what it gives the search
+module _ (words shares spreads keys places : List ℕ) (racks size blocks : ℕ) (at : RankedAsked words shares spreads keys places racks size blocks) where
+  rank-asked : RankAsked shares blocks
+  rank-asked = record { room = at .asked .share-room; few = at .asked .blocks-max; narrow = at .asked .share-narrow }
+
+  pub census-asked : CensusAsked words shares places blocks
+  census-asked =
+      record {
+        few = at .asked .blocks-max;
+        word-room = at .asked .word-room;
+        share-room = at .asked .share-room;
+        place-room = omega (arith, at .placed .sized, at .asked .blocks-max);
+        share-narrow = at .asked .share-narrow;
+        place-below = at .placed .below;
+        apart = places-apart rank-asked (at .placed);
+      }
+
+  module _ (c : Census) (census : CensusOf words shares places blocks c) where
+    rank-indexed : RankIndexed words shares keys blocks (c .by)
+    unfolding shareAt
+    rank-indexed =
+        record {
+          sized = census .by-sized;
+          at = λ i l. (
+            getD places i 0,
+            at .placed .below i l,
+            named-share rank-asked (at .ranked) (getD places i 0) i l (at .placed .is i l),
+            λ m ml. census .by-is m i ml l,
+          );
+        }
+
+    pub loop-asked : LoopAsked words shares spreads (c .on) (c .by) keys (c .loads) (c .used) racks size blocks
+    loop-asked =
+        let asked = at .asked in
+        record {
+          ranges =
+              record {
+                racks-pos = asked .racks-pos;
+                size-pos = asked .size-pos;
+                machines-max = asked .few;
+                blocks-max = asked .blocks-max;
+                word-room = asked .word-room;
+                share-room = asked .share-room;
+                spread-room = asked .spread-room;
+                share-narrow = asked .share-narrow;
+                load-narrow = census .load-narrow;
+              };
+          loads-sized = census .loads-sized;
+          copies-sized = census .used-sized;
+          indexed = census .indexed;
+          ranked = at .ranked;
+          rank-indexed = rank-indexed;
+        }
+
+-- with the census of its words a standing placement is what the search is given
+pub scene-of : (p : Plan) (words shares spreads places : List ℕ) (racks size capacity blocks : ℕ) (c : Census)
     → Standing p words shares spreads racks size capacity blocks
-    → Tallied words shares blocks t
-    → SceneOf p words shares spreads (t .loads) (t .used) racks size capacity blocks
+    → CensusOf words shares places blocks c
+    → SceneOf p words shares spreads (c .loads) (c .used) racks size capacity blocks
 unfolding used
-scene-of p words shares spreads racks size capacity blocks t s tallied =
+scene-of p words shares spreads places racks size capacity blocks c s tallied =
     let below : (m : ℕ) → m < machines p → m < 64 = λ m l. omega (arith, s .valid .shaped .machines-max) in
     record {
       valid = s .valid;

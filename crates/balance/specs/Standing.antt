@@ -8,7 +8,7 @@ use Rattle.model.specs.Refusal.{maxMachines, maxBlocks}
 use Rattle.model.specs.Placement.{held, Feasible, shareOf}
 use Rattle.model.specs.Steps.{nextStep, after, Run}
 use Rattle.theory.specs.Accepted.{Valid}
-use Rattle.ranking.specs.Ranks.{Ranked}
+use Rattle.ranking.specs.Ranks.{Ranked, Placed}
 use Rattle.search.specs.Scene.{stepOf}
 use Rattle.search.specs.declared.Step.{Step}
 use Rattle.search.specs.declared.Step.the-variants.{Rest, Move, Swap, RackMove, RackSwap}
@@ -25,10 +25,11 @@ pub record StandAsked (words shares spreads : List ℕ) (racks size blocks : ℕ
   pub spread-room : blocks ≤ length spreads
   pub share-narrow : (i : ℕ) → i < blocks → getD shares i 0 < 2 ^ 34
 
--- These, with the blocks by rising share.
-pub record RankedAsked (words shares spreads keys : List ℕ) (racks size blocks : ℕ) : Type 0 where
+-- These, with the blocks by rising share and their ranks.
+pub record RankedAsked (words shares spreads keys places : List ℕ) (racks size blocks : ℕ) : Type 0 where
   pub asked : StandAsked words shares spreads racks size blocks
   pub ranked : Ranked shares blocks keys
+  pub placed : Placed shares blocks keys places
 
 -- A feasible placement of plan p, with its blocks' shares and spreads.
 pub record Standing (p : Plan) (words shares spreads : List ℕ) (racks size capacity blocks : ℕ) : Type 0 where

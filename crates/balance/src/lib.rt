@@ -1,5 +1,6 @@
 // Steps over the words of a placement: the next one, one taken, a run of them.
 use search::Step;
+use transfers::Grid;
 ghost use mathlib.Core.Path.{_≡_};
 ghost use mathlib.Core.Bool.{not};
 ghost use Rattle.model.specs.Plan.{Plan};
@@ -13,33 +14,34 @@ pub struct Ran {
     pub steps: u32,
 }
 
-// The next step, not taken; `keys` has the blocks by rising share.
+// The next step, not taken; `keys` has the blocks by rising share, `places` each block's rank there.
 fn look(
     words: &[u64],
     shares: &[u64],
     spreads: &[u8],
     keys: &[u64],
+    places: &[u64],
     racks: usize,
     rack_size: usize,
     capacity: u64,
     blocks: usize,
 ) -> Step
-    requires { ⌜ RankedAsked (now words) (now shares) (now spreads) (now keys) racks «rack_size» blocks ⌝ }
+    requires { ⌜ RankedAsked (now words) (now shares) (now spreads) (now keys) (now places) racks «rack_size» blocks ⌝ }
     ensures { λ r. ⌜ ((p : Plan) → Standing p (now (words .entry)) (now (shares .entry)) (now (spreads .entry)) racks «rack_size» capacity blocks
         → stepOf r ≡ nextStep p (now (words .entry))) × Found (now (words .entry)) racks «rack_size» blocks r ⌝ }
 {
-    let tally = tally::tally_words(words, shares, blocks);
-    search::find(
-        words,
-        shares,
-        spreads,
-        keys,
-        tally,
-        racks,
-        rack_size,
-        capacity,
-        blocks,
-    )
+    let census = census::take(words, shares, places, blocks);
+    let on = census.on;
+    let by = census.by;
+    let loads = census.loads;
+    let used = census.used;
+    let grid = Grid {
+        racks: racks,
+        size: rack_size,
+        capacity: capacity,
+        blocks: blocks,
+    };
+    search::find(words, shares, spreads, &on[..], &by[..], keys, &loads[..], &used[..], grid)
 }
 
 // The copy of block i on m passes to n.
@@ -76,12 +78,13 @@ fn step_ranked(
     shares: &[u64],
     spreads: &[u8],
     keys: &[u64],
+    places: &[u64],
     racks: usize,
     rack_size: usize,
     capacity: u64,
     blocks: usize,
 ) -> Step
-    requires { ⌜ RankedAsked (now words) (now shares) (now spreads) (now keys) racks «rack_size» blocks ⌝ }
+    requires { ⌜ RankedAsked (now words) (now shares) (now spreads) (now keys) (now places) racks «rack_size» blocks ⌝ }
     ensures { λ r. ⌜ ((p : Plan) → Standing p (now (words .entry)) (now (shares .entry)) (now (spreads .entry)) racks «rack_size» capacity blocks
         → Stepped p (now (words .entry)) (now (words .exit)) r) ⌝ }
 {
@@ -90,6 +93,7 @@ fn step_ranked(
         shares,
         spreads,
         keys,
+        places,
         racks,
         rack_size,
         capacity,
@@ -114,11 +118,13 @@ pub fn step_words(
         → Stepped p (now (words .entry)) (now (words .exit)) r) ⌝ }
 {
     let keys = ranking::rank(shares, blocks);
+    let places = ranking::places(&keys[..], blocks);
     step_ranked(
         words,
         shares,
         spreads,
         &keys[..],
+        &places[..],
         racks,
         rack_size,
         capacity,
@@ -154,13 +160,14 @@ fn run_ranked(
     shares: &[u64],
     spreads: &[u8],
     keys: &[u64],
+    places: &[u64],
     racks: usize,
     rack_size: usize,
     capacity: u64,
     blocks: usize,
     limit: u32,
 ) -> Ran
-    requires { ⌜ RankedAsked (now words) (now shares) (now spreads) (now keys) racks «rack_size» blocks ⌝ }
+    requires { ⌜ RankedAsked (now words) (now shares) (now spreads) (now keys) (now places) racks «rack_size» blocks ⌝ }
     ensures { λ r. ⌜ ((p : Plan) → Standing p (now (words .entry)) (now (shares .entry)) (now (spreads .entry)) racks «rack_size» capacity blocks
         → ranOf r (now (words .exit)) ≡ run p limit (now (words .entry))) ⌝ }
 {
@@ -171,6 +178,7 @@ fn run_ranked(
             shares,
             spreads,
             keys,
+            places,
             racks,
             rack_size,
             capacity,
@@ -189,6 +197,7 @@ fn run_ranked(
         shares,
         spreads,
         keys,
+        places,
         racks,
         rack_size,
         capacity,
@@ -216,11 +225,13 @@ pub fn run_words(
         → ranOf r (now (words .exit)) ≡ run p limit (now (words .entry))) ⌝ }
 {
     let keys = ranking::rank(shares, blocks);
+    let places = ranking::places(&keys[..], blocks);
     run_ranked(
         words,
         shares,
         spreads,
         &keys[..],
+        &places[..],
         racks,
         rack_size,
         capacity,

@@ -6,7 +6,6 @@ use Prim.Native.Nat.{ℕ, _+_, _*_, _/_, _%_, _<_, _≤_, _^_}
 use lib.ListN.{length, getD}
 use Rattle.model.specs.Refusal.{maxMachines, maxBlocks}
 use Rattle.model.specs.Placement.{bit, held}
-use Rattle.ranking.specs.Ranks.{Ranked}
 use Rattle.candidates.specs.Index.{spot}
 use Rattle.screen.specs.declared.Scan.{Scan}
 
@@ -14,25 +13,12 @@ use Rattle.screen.specs.declared.Scan.{Scan}
 unfoldable pub shareAt : List ℕ → ℕ → ℕ
 shareAt keys r = getD keys r 0 / 1024
 
--- The block at a rank.
-unfoldable pub blockAt : List ℕ → ℕ → ℕ
-blockAt keys r = getD keys r 0 % 1024
-
-pub record OrderAsked (words keys : List ℕ) (blocks : ℕ) : Type 0 where
-  pub few : blocks ≤ maxBlocks
-  pub room : blocks ≤ length words
-  pub keys-sized : length keys ≡ 1024
-  pub within : (r : ℕ) → r < blocks → blockAt keys r < blocks
-
--- The words by rank.
-pub record Ordered (words keys : List ℕ) (blocks : ℕ) (r : List ℕ) : Type 0 where
-  pub sized : length r ≡ 1024
-  pub is : (k : ℕ) → k < blocks → getD r k 0 ≡ getD words (blockAt keys k) 0
-
--- Each machine's blocks by rank, as bit sets.
-pub record RankIndexed (words keys : List ℕ) (blocks : ℕ) (by : List ℕ) : Type 0 where
+-- Each machine's blocks by rank, as bit sets: every block has a rank with its share, at which its machines are entered.
+pub record RankIndexed (words shares keys : List ℕ) (blocks : ℕ) (by : List ℕ) : Type 0 where
   pub sized : length by ≡ 1024
-  pub is : (m k : ℕ) → m < maxMachines → k < blocks → spot by m k ≡ held words m (blockAt keys k)
+  pub at : (i : ℕ) → i < blocks
+      → (r : ℕ) × (r < blocks) × (shareAt keys r ≡ getD shares i 0)
+      × ((m : ℕ) → m < maxMachines → spot by m r ≡ held words m i)
 
 pub record ScreenAsked (by keys : List ℕ) (m n gap blocks : ℕ) : Type 0 where
   pub sized : length by ≡ 1024

@@ -1,30 +1,7 @@
 // Cheap tests that rule out a pair of machines: over the blocks by rising share, no move or no exchange can lower m's load and
 // keep n's below it. They never rule out a pair that has a step, whatever the spreads.
 ghost use mathlib.Core.Path.{_≡_};
-ghost use Rattle.screen.specs.Screen.{OrderAsked, Ordered, RankIndexed, ScreenAsked, NoMove, NoExchange, BlockAsked, BlockScanned, WordAsked, WordScanned};
-
-// The words in order of rank.
-fn order_words(words: &[u64], keys: &[u64], blocks: usize) -> [u64; 1024]
-    requires { ⌜ OrderAsked (now words) (now keys) blocks ⌝ }
-    ensures { λ r. ⌜ Ordered (now (words .entry)) (now (keys .entry)) blocks r ⌝ }
-{
-    let mut ordered = [0u64; 1024];
-    let mut k: usize = 0;
-    while k < blocks {
-        ordered[k] = words[(keys[k] % 1024) as usize];
-        k += 1;
-    }
-    ordered
-}
-
-// For each machine the bit set of its blocks by rank.
-pub fn rank_index(words: &[u64], keys: &[u64], blocks: usize) -> [u64; 1024]
-    requires { ⌜ OrderAsked (now words) (now keys) blocks ⌝ }
-    ensures { λ r. ⌜ RankIndexed (now (words .entry)) (now (keys .entry)) blocks r ⌝ }
-{
-    let ordered = order_words(words, keys, blocks);
-    candidates::index(&ordered[..], blocks)
-}
+ghost use Rattle.screen.specs.Screen.{ScreenAsked, NoMove, NoExchange, BlockAsked, BlockScanned, WordAsked, WordScanned};
 
 // The blocks passed by rising share: whether one of m's can be exchanged; n's largest share, and below which share of m's it or
 // the next smaller one can be returned (0 where there is none).

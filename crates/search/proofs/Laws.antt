@@ -18,8 +18,7 @@ use Rattle.theory.specs.Local.{LocalMove, LocalSwap}
 use Rattle.theory.proofs.LocalTests.{move-local, swap-local}
 use Rattle.transfers.specs.Pair.{pairStep, PairAsked, PairScene}
 use Rattle.transfers.proofs.Laws.{move-none, swap-none}
-use Rattle.ranking.specs.Ranks.{RankAsked}
-use Rattle.search.specs.Scene.{Ranges, SceneOf, PairAt, PairRanked, pairOf, rowOf, kindOf}
+use Rattle.search.specs.Scene.{SceneOf, PairAt, PairRanked, pairOf, rowOf, kindOf}
 
 pub same-true : (a : Bool) → a ≡ Bool·beq a true
 same-true true = refl
@@ -82,10 +81,6 @@ pair-asked words shares spreads on by keys loads copies racks size blocks low m 
       across-is = same-is across (not (eqb (m / size) (n / size))) kind;
       indexed = at .all .indexed;
     }
-
--- what the order by share is asked with
-pub rank-asked : {words shares spreads loads : List ℕ} {racks size blocks : ℕ} → Ranges words shares spreads loads racks size blocks → RankAsked shares blocks
-rank-asked ranges = record { room = ranges .share-room; few = ranges .blocks-max; narrow = ranges .share-narrow }
 
 -- the same with the blocks by rising share
 pub pair-ranked : (words shares spreads on by keys loads copies : List ℕ) (racks size blocks low m n gap : ℕ) (across : Bool)

@@ -11,7 +11,6 @@ use Rattle.model.specs.Refusal.{maxMachines}
 use Rattle.model.specs.Steps.{none, canMove, canSwap}
 use Rattle.theory.specs.Local.{LocalMove, LocalSwap}
 use Rattle.theory.proofs.LocalTests.{move-local, swap-local}
-use Rattle.ranking.specs.Ranks.{RankAsked}
 use Rattle.screen.specs.Screen.{ScreenAsked, NoMove, NoExchange}
 use Rattle.screen.proofs.Pairs.{ruled-move, ruled-exchange}
 use Rattle.transfers.specs.Pair.{pairStep, PairAsked, PairScene}
@@ -39,9 +38,6 @@ module _ (words shares spreads on by keys : List ℕ) (racks size blocks : ℕ) 
         sorted = at .ranked .sorted;
       }
 
-  rank-asked : RankAsked shares blocks
-  rank-asked = record { room = at .asked .share-room; few = at .asked .blocks-max; narrow = at .asked .share-narrow }
-
   module _ (p : Plan) (scene : PairScene p words shares spreads racks size blocks m n gap) where
     in-plan : (k : ℕ) → k < racks * size → k < machines p
     in-plan k l = rw (scene .racks-is, scene .size-is) at l
@@ -55,7 +51,7 @@ module _ (words shares spreads on by keys : List ℕ) (racks size blocks : ℕ) 
         refuted : (i : ℕ) → i < blocks → LocalMove p words m n i → ⊥
         refuted i l s =
             let share = scene .shares-are i l in
-            let far = ruled-move words shares keys by blocks rank-asked (at .ranked) (at .rank-indexed) m n gap m-max n-max ruled
+            let far = ruled-move words shares keys by blocks (at .rank-indexed) m n gap m-max n-max ruled
             i l (s .on) (s .off) (rw share (s .positive)) in
             omega (arith, scene .gap-is, s .lower)
 
@@ -71,7 +67,7 @@ module _ (words shares spreads on by keys : List ℕ) (racks size blocks : ℕ) 
         refuted i j l h s =
             let share-i = scene .shares-are i l in
             let share-j = scene .shares-are j h in
-            let far = ruled-exchange words shares keys by blocks rank-asked (at .ranked) (at .rank-indexed) m n gap m-max n-max ruled
+            let far = ruled-exchange words shares keys by blocks (at .rank-indexed) m n gap m-max n-max ruled
             i j l h (s .i-on) (s .i-off) (s .j-on) (s .j-off) (rw (share-i, share-j) (s .gain)) in
             omega (arith, scene .gap-is, s .lower)
 

@@ -15,7 +15,6 @@ use Rattle.candidates.specs.Index.{Indexed}
 use Rattle.screen.specs.Screen.{RankIndexed}
 use Rattle.transfers.specs.declared.Hit.{Hit}
 use Rattle.transfers.specs.Pair.{hitOf, pairStep, Shift, HitFound, PairAsked}
-use Rattle.tally.specs.declared.Tally.{Tally}
 use Rattle.search.specs.declared.Step.{Step}
 use Rattle.search.specs.declared.Step.the-variants.{Rest, Move, Swap, RackMove, RackSwap}
 
@@ -47,10 +46,6 @@ pub record Ranges (words shares spreads loads : List ℕ) (racks size blocks : �
   pub share-narrow : (i : ℕ) → i < blocks → getD shares i 0 < 2 ^ 34
   pub load-narrow : (m : ℕ) → m < maxMachines → getD loads m 0 < 2 ^ 45
 
-pub record SearchAsked (words shares spreads keys : List ℕ) (tally : Tally) (racks size blocks : ℕ) : Type 0 where
-  pub ranges : Ranges words shares spreads (tally .loads) racks size blocks
-  pub ranked : Ranked shares blocks keys
-
 -- The plan and the placement that the numbers are of.
 pub record SceneOf (p : Plan) (words shares spreads loads copies : List ℕ) (racks size capacity blocks : ℕ) : Type 0 where
   pub valid : Valid p
@@ -65,18 +60,10 @@ pub record SceneOf (p : Plan) (words shares spreads loads copies : List ℕ) (ra
   pub loads-are : (m : ℕ) → m < machines p → getD loads m 0 ≡ load p words m
   pub used-are : (m : ℕ) → m < machines p → getD copies m 0 ≡ used p words m
 
-abbrev pub Scene : Plan → List ℕ → List ℕ → List ℕ → Tally → ℕ → ℕ → ℕ → ℕ → Type 0
-Scene p words shares spreads tally racks size capacity blocks =
-    SceneOf p words shares spreads (tally .loads) (tally .used) racks size capacity blocks
-
 -- The next step of the definition, which can be carried out.
 pub record NextOfAll (words shares spreads loads copies : List ℕ) (racks size capacity blocks : ℕ) (r : Step) : Type 0 where
   pub sound : Found words racks size blocks r
   pub is : (p : Plan) → SceneOf p words shares spreads loads copies racks size capacity blocks → stepOf r ≡ nextStep p words
-
-abbrev pub NextFound : List ℕ → List ℕ → List ℕ → Tally → ℕ → ℕ → ℕ → ℕ → Step → Type 0
-NextFound words shares spreads tally racks size capacity blocks r =
-    NextOfAll words shares spreads (tally .loads) (tally .used) racks size capacity blocks r
 
 -- A find as an answer.
 pub record AnswerOf (hit : Hit) (across : Bool) (r : Step) : Type 0 where
@@ -117,7 +104,7 @@ pub record LoopAsked (words shares spreads on by keys loads copies : List ℕ) (
   pub copies-sized : length copies ≡ maxMachines
   pub indexed : Indexed words blocks on
   pub ranked : Ranked shares blocks keys
-  pub rank-indexed : RankIndexed words keys blocks by
+  pub rank-indexed : RankIndexed words shares keys blocks by
 
 pub record RowAsked (words shares spreads on by keys loads copies : List ℕ) (racks size blocks low m : ℕ) : Type 0 where
   pub all : LoopAsked words shares spreads on by keys loads copies racks size blocks
@@ -134,7 +121,7 @@ pub record PairAt (words shares spreads on by keys loads copies : List ℕ) (rac
 pub record PairRanked (words shares spreads on by keys : List ℕ) (racks size blocks : ℕ) (across : Bool) (m n gap : ℕ) : Type 0 where
   pub asked : PairAsked words shares spreads on racks size blocks across m n gap
   pub ranked : Ranked shares blocks keys
-  pub rank-indexed : RankIndexed words keys blocks by
+  pub rank-indexed : RankIndexed words shares keys blocks by
 
 -- What a loop finds is what the definition's search finds.
 pub record HitIs (words shares spreads loads copies : List ℕ) (racks size capacity blocks : ℕ) (across : Bool)

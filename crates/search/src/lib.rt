@@ -1,5 +1,4 @@
 // The next step of the definition: the first Move, Swap, RackMove or RackSwap, by machines and blocks lowest first.
-use tally::Tally;
 use transfers::Grid;
 use transfers::Hit;
 use transfers::Pair;
@@ -7,7 +6,7 @@ ghost use mathlib.Core.Path.{_≡_};
 ghost use mathlib.Core.Bool.{Bool};
 ghost use Rattle.model.specs.Steps.{isStep};
 ghost use Rattle.transfers.specs.Pair.{hitOf, MoveFound, SwapFound};
-ghost use Rattle.search.specs.Scene.{isExchange, isAcross, PairRanked, SearchAsked, NextOfAll, NextFound, AnswerOf, KindAsked, OfKind, pairOf, rowOf, kindOf, LoopAsked, RowAsked, PairAt, HitIs};
+ghost use Rattle.search.specs.Scene.{isExchange, isAcross, PairRanked, NextOfAll, AnswerOf, KindAsked, OfKind, pairOf, rowOf, kindOf, LoopAsked, RowAsked, PairAt, HitIs};
 
 // A step, or rest. Block i goes from m to n, of an exchange block j from n to m; m and n of a RackMove or RackSwap lie in
 // different racks.
@@ -258,8 +257,8 @@ fn find_kind(
     Hit::Nothing
 }
 
-// The first step by kind: Move, Swap, RackMove, RackSwap.
-fn find_first(
+// The next step, the first by kind: Move, Swap, RackMove, RackSwap.
+pub fn find(
     words: &[u64],
     shares: &[u64],
     spreads: &[u8],
@@ -289,42 +288,4 @@ fn find_first(
     }
     let last = find_kind(words, shares, spreads, on, by, keys, loads, used, grid, 3);
     as_step(last, true)
-}
-
-// The next step of the placement whose shares, spreads, order by share and tally these are.
-pub fn find(
-    words: &[u64],
-    shares: &[u64],
-    spreads: &[u8],
-    keys: &[u64],
-    tally: Tally,
-    racks: usize,
-    rack_size: usize,
-    capacity: u64,
-    blocks: usize,
-) -> Step
-    requires { ⌜ SearchAsked (now words) (now shares) (now spreads) (now keys) tally racks «rack_size» blocks ⌝ }
-    ensures { λ r. ⌜ NextFound (now (words .entry)) (now (shares .entry)) (now (spreads .entry)) tally racks «rack_size» capacity blocks r ⌝ }
-{
-    let on = candidates::index(words, blocks);
-    let by = screen::rank_index(words, keys, blocks);
-    let loads = tally.loads;
-    let used = tally.used;
-    let grid = Grid {
-        racks: racks,
-        size: rack_size,
-        capacity: capacity,
-        blocks: blocks,
-    };
-    find_first(
-        words,
-        shares,
-        spreads,
-        &on[..],
-        &by[..],
-        keys,
-        &loads[..],
-        &used[..],
-        grid,
-    )
 }

@@ -19,7 +19,7 @@ use Rattle.balance.proofs.run_ranked.Statement.{statement}
 use Rattle.balance.proofs.run_ranked.Tie as tie
 
 abbrev Inv-loop : tie.InvT-loop
-Inv-loop words₀ shares spreads keys racks rack-size capacity blocks limit steps₀ words steps =
+Inv-loop words₀ shares spreads keys places racks rack-size capacity blocks limit steps₀ words steps =
     (steps ≤ limit)
     × (length words ≡ length words₀)
     × ((p : Plan) → Standing p words₀ shares spreads racks rack-size capacity blocks
@@ -27,17 +27,18 @@ Inv-loop words₀ shares spreads keys racks rack-size capacity blocks limit step
     × ((p : Plan) → Standing p words₀ shares spreads racks rack-size capacity blocks → Coming p limit words₀ steps words)
 
 abbrev μ-loop : tie.MeasureT-loop
-μ-loop words₀ shares spreads keys racks rack-size capacity blocks limit steps₀ words steps = limit - steps
+μ-loop words₀ shares spreads keys places racks rack-size capacity blocks limit steps₀ words steps = limit - steps
 
 loop-holds : tie.Need-loop-holds Inv-loop μ-loop
 loop-holds c = (omega arith, refl, λ p s. s, λ p s. coming-first p _ _)
 
 step-ranked-requires : tie.Need-step-ranked-requires Inv-loop μ-loop
 step-ranked-requires c κs =
-    let a = c .before .before .before .before .before .before .before in
+    let a = c .before .before .before .before .before .before .before .before in
     record {
       asked = asked-later (now (a .args .words)) (c .before .before .loop .words) _ _ _ _ _ (a .pre .asked) (c .before .before .loop .inv .1);
       ranked = a .pre .ranked;
+      placed = a .pre .placed;
     }
 
 is-rest-requires : tie.Need-is-rest-requires Inv-loop μ-loop
@@ -50,7 +51,7 @@ returns : tie.Need-returns Inv-loop μ-loop
 unfolding ranOf after
 returns c p s =
     let at = c .before .before .before .before .before .before .before in
-    let first = now (c .before .before .before .before .before .before .before .before .before .before .before .before .args .words) in
+    let first = now (c .before .before .before .before .before .before .before .before .before .before .before .before .before .args .words) in
     let stepped = c .before .before .before .before .step-ranked .ensures p (at .loop .inv .2 p s) in
     let rest : nextStep p (at .loop .words) ≡ none =
     sym (stepped .step-is) ∙ not-step _ (not-true _ (sym (c .before .is-rest .ensures) ∙ c .if1 .taken))
@@ -82,10 +83,11 @@ loop-again c =
 
 look-requires : tie.Need-look-requires Inv-loop μ-loop
 look-requires c κs =
-    let a = c .before .before .before .before .before .before .before in
+    let a = c .before .before .before .before .before .before .before .before in
     record {
       asked = asked-later (now (a .args .words)) (c .before .before .loop .words) _ _ _ _ _ (a .pre .asked) (c .before .before .loop .inv .1);
       ranked = a .pre .ranked;
+      placed = a .pre .placed;
     }
 
 is-rest-requires-2 : tie.Need-is-rest-requires-2 Inv-loop μ-loop
@@ -98,7 +100,7 @@ returns-2 : tie.Need-returns-2 Inv-loop μ-loop
 unfolding ranOf
 returns-2 c p s =
     let at = c .before .before .before .before in
-    let a = c .before .before .before .before .before .before .before .before .before in
+    let a = c .before .before .before .before .before .before .before .before .before .before in
     let limit = a .args .limit in
     let all : at .loop .steps ≡ limit = omega arith in
     let seen = c .before .look .ensures .0 p (at .loop .inv .2 p s) in

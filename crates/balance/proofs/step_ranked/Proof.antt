@@ -13,7 +13,7 @@ look-requires c κs = search needs
 
 take-step-requires : tie.Need-take-step-requires
 take-step-requires c κs =
-    let a = c .before .before .before .before .before .before .before in
+    let a = c .before .before .before .before .before .before .before .before in
     take-asked (now (a .args .words)) (a .args .racks) (a .args .rack-size) (a .args .blocks) (a .pre .asked .few) (a .pre .asked .word-room)
     (c .before .look .result) (c .before .look .ensures .1)
 
@@ -22,7 +22,7 @@ same-length c = search needs
 
 returns : tie.Need-returns
 returns c p s =
-    let words = now (c .before .before .before .before .before .before .before .before .before .before .args .words) in
+    let words = now (c .before .before .before .before .before .before .before .before .before .before .before .args .words) in
     let step = c .before .before .before .before .look .ensures .0 p s in
     record {
       step-is = step;
