@@ -1,5 +1,4 @@
 // The loads, the copies, and each machine's blocks by number and by rank, in one pass over the words.
-ghost use mathlib.Core.Path.{_≡_};
 ghost use Rattle.census.specs.Census.{EnterAsked, EnteredAt, TakeAsked, CensusOf};
 
 // For each of 64 machines: its load, the number of its copies, and the bit sets of its blocks, by number and by rank.

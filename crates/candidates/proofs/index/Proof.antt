@@ -1,7 +1,6 @@
 -- `candidates::index` meets its contract. The loop's invariant: the blocks passed are entered as their words say, the others nowhere.
 -- Assumes nothing.
-use mathlib.Core.Path.{_≡_}
-use Prim.Native.Nat.{ℕ, _-_, _<_, _≤_}
+use Prim.Native.Nat.{_-_, _≤_}
 use native.Mathlib.Omega.{arith}
 use Rattle.candidates.proofs.Laws.{Filed, filed-none, filed-asked, filed-step}
 use Rattle.candidates.proofs.index.Statement.{statement}

@@ -1,8 +1,7 @@
 -- `candidates::mark` meets its contract. The loop's invariant: block i is entered at the machines that have left `rest`, and nothing
 -- else has changed. The measure is the word that is left.
 -- Assumes nothing.
-use mathlib.Core.Path.{_≡_, sym, _∙_}
-use Prim.Native.Nat.{_<_}
+use mathlib.Core.Path.{sym, _∙_}
 use native.Mathlib.Omega.{arith}
 use borrow.Author.Needs.{needs}
 use lib.Pow.{pow-pos}

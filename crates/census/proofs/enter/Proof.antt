@@ -1,7 +1,6 @@
 -- `census::enter` meets its contract. The loop's invariant: what the bits left are to add and to enter is still owing, in each of the four tables.
 -- Assumes nothing.
-use mathlib.Core.Path.{_≡_, sym, _∙_}
-use Prim.Native.Nat.{_<_}
+use mathlib.Core.Path.{sym, _∙_}
 use native.Mathlib.Omega.{arith}
 use lib.Pow.{pow-pos}
 use Rattle.theory.proofs.Bits.{bit-take}

@@ -1,7 +1,6 @@
 -- `tally::add_word` meets its contract. The loop's invariant: each item with what its bit left is to add is the item at entry with what the word's bit is.
 -- Assumes nothing.
-use mathlib.Core.Path.{_≡_, sym, _∙_}
-use Prim.Native.Nat.{_<_}
+use mathlib.Core.Path.{sym, _∙_}
 use native.Mathlib.Omega.{arith}
 use lib.Pow.{pow-pos}
 use Rattle.theory.proofs.Bits.{bit-take}

@@ -1,7 +1,7 @@
 -- `tally::tally_words` meets its contract. The loop's invariant: the arrays are the tally of the words passed, with a bound for each.
 -- Assumes nothing.
 use mathlib.Core.Path.{_≡_}
-use Prim.Native.Nat.{_-_, _<_, _≤_}
+use Prim.Native.Nat.{_-_, _≤_}
 use native.Mathlib.Omega.{arith}
 use Rattle.tally.proofs.Laws.{Passed, passed-none, passed-step, passed-asked}
 use Rattle.tally.proofs.tally_words.Statement.{statement}
