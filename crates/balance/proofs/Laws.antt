@@ -59,10 +59,14 @@ module _ (words : List ℕ) (racks size blocks : ℕ) (few : racks * size ≤ ma
   take-asked (RackMove m n i) f = shift-asked m n i f
   take-asked (RackSwap m n i j) f = (shift-asked m n i (f .0), shift-asked n m j (f .1))
 
+-- what the order by share is asked with
+pub shares-asked : {words shares spreads : List ℕ} {racks size blocks : ℕ} → StandAsked words shares spreads racks size blocks → RankAsked shares blocks
+shares-asked asked = record { room = asked .share-room; few = asked .blocks-max; narrow = asked .share-narrow }
+
 -- what the census is asked with, and what it gives the search
 module _ (words shares spreads keys places : List ℕ) (racks size blocks : ℕ) (at : RankedAsked words shares spreads keys places racks size blocks) where
   rank-asked : RankAsked shares blocks
-  rank-asked = record { room = at .asked .share-room; few = at .asked .blocks-max; narrow = at .asked .share-narrow }
+  rank-asked = shares-asked (at .asked)
 
   pub census-asked : CensusAsked words shares places blocks
   census-asked =

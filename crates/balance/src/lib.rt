@@ -41,7 +41,17 @@ fn look(
         capacity: capacity,
         blocks: blocks,
     };
-    search::find(words, shares, spreads, &on[..], &by[..], keys, &loads[..], &used[..], grid)
+    search::find(
+        words,
+        shares,
+        spreads,
+        &on[..],
+        &by[..],
+        keys,
+        &loads[..],
+        &used[..],
+        grid,
+    )
 }
 
 // The copy of block i on m passes to n.
