@@ -21,26 +21,17 @@ fn look(
     spreads: &[u8],
     keys: &[u64],
     places: &[u64],
-    racks: usize,
-    rack_size: usize,
-    capacity: u64,
-    blocks: usize,
+    grid: Grid,
 ) -> Step
-    requires { ⌜ RankedAsked (now words) (now shares) (now spreads) (now keys) (now places) racks «rack_size» blocks ⌝ }
-    ensures { λ r. ⌜ ((p : Plan) → Standing p (now (words .entry)) (now (shares .entry)) (now (spreads .entry)) racks «rack_size» capacity blocks
-        → stepOf r ≡ nextStep p (now (words .entry))) × Found (now (words .entry)) racks «rack_size» blocks r ⌝ }
+    requires { ⌜ RankedAsked (now words) (now shares) (now spreads) (now keys) (now places) (grid .racks) (grid .size) (grid .blocks) ⌝ }
+    ensures { λ r. ⌜ ((p : Plan) → Standing p (now (words .entry)) (now (shares .entry)) (now (spreads .entry)) (grid .racks) (grid .size) (grid .capacity) (grid .blocks)
+        → stepOf r ≡ nextStep p (now (words .entry))) × Found (now (words .entry)) (grid .racks) (grid .size) (grid .blocks) r ⌝ }
 {
-    let census = census::take(words, shares, places, blocks);
+    let census = census::take(words, shares, places, grid.blocks);
     let on = census.on;
     let by = census.by;
     let loads = census.loads;
     let used = census.used;
-    let grid = Grid {
-        racks: racks,
-        size: rack_size,
-        capacity: capacity,
-        blocks: blocks,
-    };
     search::find(
         words,
         shares,
@@ -89,26 +80,13 @@ fn step_ranked(
     spreads: &[u8],
     keys: &[u64],
     places: &[u64],
-    racks: usize,
-    rack_size: usize,
-    capacity: u64,
-    blocks: usize,
+    grid: Grid,
 ) -> Step
-    requires { ⌜ RankedAsked (now words) (now shares) (now spreads) (now keys) (now places) racks «rack_size» blocks ⌝ }
-    ensures { λ r. ⌜ ((p : Plan) → Standing p (now (words .entry)) (now (shares .entry)) (now (spreads .entry)) racks «rack_size» capacity blocks
+    requires { ⌜ RankedAsked (now words) (now shares) (now spreads) (now keys) (now places) (grid .racks) (grid .size) (grid .blocks) ⌝ }
+    ensures { λ r. ⌜ ((p : Plan) → Standing p (now (words .entry)) (now (shares .entry)) (now (spreads .entry)) (grid .racks) (grid .size) (grid .capacity) (grid .blocks)
         → Stepped p (now (words .entry)) (now (words .exit)) r) ⌝ }
 {
-    let step = look(
-        words,
-        shares,
-        spreads,
-        keys,
-        places,
-        racks,
-        rack_size,
-        capacity,
-        blocks,
-    );
+    let step = look(words, shares, spreads, keys, places, grid);
     take_step(words, step);
     step
 }
@@ -129,17 +107,13 @@ pub fn step_words(
 {
     let keys = ranking::rank(shares, blocks);
     let places = ranking::places(&keys[..], blocks);
-    step_ranked(
-        words,
-        shares,
-        spreads,
-        &keys[..],
-        &places[..],
+    let grid = Grid {
         racks,
-        rack_size,
+        size: rack_size,
         capacity,
         blocks,
-    )
+    };
+    step_ranked(words, shares, spreads, &keys[..], &places[..], grid)
 }
 
 fn is_rest(step: Step) -> bool
@@ -171,29 +145,16 @@ fn run_ranked(
     spreads: &[u8],
     keys: &[u64],
     places: &[u64],
-    racks: usize,
-    rack_size: usize,
-    capacity: u64,
-    blocks: usize,
+    grid: Grid,
     limit: u32,
 ) -> Ran
-    requires { ⌜ RankedAsked (now words) (now shares) (now spreads) (now keys) (now places) racks «rack_size» blocks ⌝ }
-    ensures { λ r. ⌜ ((p : Plan) → Standing p (now (words .entry)) (now (shares .entry)) (now (spreads .entry)) racks «rack_size» capacity blocks
+    requires { ⌜ RankedAsked (now words) (now shares) (now spreads) (now keys) (now places) (grid .racks) (grid .size) (grid .blocks) ⌝ }
+    ensures { λ r. ⌜ ((p : Plan) → Standing p (now (words .entry)) (now (shares .entry)) (now (spreads .entry)) (grid .racks) (grid .size) (grid .capacity) (grid .blocks)
         → ranOf r (now (words .exit)) ≡ run p limit (now (words .entry))) ⌝ }
 {
     let mut steps: u32 = 0;
     while steps < limit {
-        let step = step_ranked(
-            words,
-            shares,
-            spreads,
-            keys,
-            places,
-            racks,
-            rack_size,
-            capacity,
-            blocks,
-        );
+        let step = step_ranked(words, shares, spreads, keys, places, grid);
         if is_rest(step) {
             return Ran {
                 rested: true,
@@ -202,17 +163,7 @@ fn run_ranked(
         }
         steps += 1;
     }
-    let step = look(
-        words,
-        shares,
-        spreads,
-        keys,
-        places,
-        racks,
-        rack_size,
-        capacity,
-        blocks,
-    );
+    let step = look(words, shares, spreads, keys, places, grid);
     Ran {
         rested: is_rest(step),
         steps,
@@ -236,16 +187,11 @@ pub fn run_words(
 {
     let keys = ranking::rank(shares, blocks);
     let places = ranking::places(&keys[..], blocks);
-    run_ranked(
-        words,
-        shares,
-        spreads,
-        &keys[..],
-        &places[..],
+    let grid = Grid {
         racks,
-        rack_size,
+        size: rack_size,
         capacity,
         blocks,
-        limit,
-    )
+    };
+    run_ranked(words, shares, spreads, &keys[..], &places[..], grid, limit)
 }

@@ -19,15 +19,15 @@ use Rattle.balance.proofs.run_ranked.Statement.{statement}
 use Rattle.balance.proofs.run_ranked.Tie as tie
 
 abbrev Inv-loop : tie.InvT-loop
-Inv-loop words₀ shares spreads keys places racks rack-size capacity blocks limit steps₀ words steps =
+Inv-loop words₀ shares spreads keys places grid limit steps₀ words steps =
     (steps ≤ limit)
     × (length words ≡ length words₀)
-    × ((p : Plan) → Standing p words₀ shares spreads racks rack-size capacity blocks
-    → Standing p words shares spreads racks rack-size capacity blocks)
-    × ((p : Plan) → Standing p words₀ shares spreads racks rack-size capacity blocks → Coming p limit words₀ steps words)
+    × ((p : Plan) → Standing p words₀ shares spreads (grid .racks) (grid .size) (grid .capacity) (grid .blocks)
+    → Standing p words shares spreads (grid .racks) (grid .size) (grid .capacity) (grid .blocks))
+    × ((p : Plan) → Standing p words₀ shares spreads (grid .racks) (grid .size) (grid .capacity) (grid .blocks) → Coming p limit words₀ steps words)
 
 abbrev μ-loop : tie.MeasureT-loop
-μ-loop words₀ shares spreads keys places racks rack-size capacity blocks limit steps₀ words steps = limit - steps
+μ-loop words₀ shares spreads keys places grid limit steps₀ words steps = limit - steps
 
 loop-holds : tie.Need-loop-holds Inv-loop μ-loop
 loop-holds c = (omega arith, refl, λ p s. s, λ p s. coming-first p _ _)

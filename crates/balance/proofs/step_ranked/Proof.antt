@@ -14,7 +14,7 @@ look-requires c κs = search needs
 take-step-requires : tie.Need-take-step-requires
 take-step-requires c κs =
     let a = c .before .before .before .before .before .before .before .before in
-    take-asked (now (a .args .words)) (a .args .racks) (a .args .rack-size) (a .args .blocks) (a .pre .asked .few) (a .pre .asked .word-room)
+    take-asked (now (a .args .words)) (a .args .grid .racks) (a .args .grid .size) (a .args .grid .blocks) (a .pre .asked .few) (a .pre .asked .word-room)
     (c .before .look .result) (c .before .look .ensures .1)
 
 same-length : tie.Need-same-length
