@@ -26,39 +26,44 @@ pub record Outcome (A : Type 0) : Type 0 where
 abbrev pub refuse : {A : Type 0} → ℕ → List ℕ → Outcome A
 refuse code items = record { answer = turnedBack code; items = items }
 
--- A call on an accepted plan; otherwise the plan's refusal.
-unfoldable pub onPlan : {A : Type 0} → Verdict → List ℕ → (Plan → Outcome A) → Outcome A
-onPlan (refused code) items call = refuse code items
-onPlan (accepted p) items call = call p
-
 -- The call where the code is 0, otherwise that refusal.
 unfoldable pub unless : {A : Type 0} → ℕ → List ℕ → Outcome A → Outcome A
 unless zero items call = call
 unless (suc code) items call = refuse (suc code) items
 
+-- The refusal code of a call: the plan's, else that of the call's own rows; 0 for none.
+unfoldable pub callRefusal : Verdict → (Plan → ℕ) → ℕ
+callRefusal (refused code) rows = code
+callRefusal (accepted p) rows = rows p
+
+-- A call that is made where neither the plan nor the call's own rows are refused.
+unfoldable pub onPlan : {A : Type 0} → Verdict → List ℕ → (Plan → ℕ) → (Plan → Outcome A) → Outcome A
+onPlan (refused code) items rows call = refuse code items
+onPlan (accepted p) items rows call = unless (rows p) items (call p)
+
+-- Row 12 alone, for a buffer that is only written.
+abbrev pub bufferRefusal : List ℕ → Plan → ℕ
+bufferRefusal items p = check12 (length items) (blockCount p) 0
+
 -- Choosing counts: the largest share, and the chosen counts in the buffer.
 unfoldable pub countsCall : List ℕ → List ℕ → Outcome ℕ
 countsCall bytes items =
-    onPlan (judge bytes) items
-    (λ p.
-    unless (check12 (length items) (blockCount p) 0) items
-    (record { answer = answered (largestShare p (chosen p)); items = filled (blockCount p) (chosen p) items }))
+    onPlan (judge bytes) items (bufferRefusal items)
+    (λ p. record { answer = answered (largestShare p (chosen p)); items = filled (blockCount p) (chosen p) items })
 
 -- Making the first placement: its words in the buffer, and the number of blocks.
 unfoldable pub firstCall : List ℕ → List ℕ → Outcome ℕ
 firstCall bytes words =
-    onPlan (judge bytes) words
-    (λ p.
-    unless (check12 (length words) (blockCount p) 0) words
-    (record { answer = answered (blockCount p); items = filled (blockCount p) (firstWord p) words }))
+    onPlan (judge bytes) words (bufferRefusal words)
+    (λ p. record { answer = answered (blockCount p); items = filled (blockCount p) (firstWord p) words })
 
 -- Rows 12 to 16, for a placement handed in, each over all blocks or machines before the next.
 -- 14: a block's copies are not its chosen count.
 unfoldable pub allCounted : Plan → List ℕ → Bool
 allCounted p words = allb (blockCount p) (λ i. eqb (countOf p words i) (chosen p i))
 
-unfoldable pub placementRefusal : Plan → List ℕ → ℕ
-placementRefusal p words =
+unfoldable pub placementRefusal : List ℕ → Plan → ℕ
+placementRefusal words p =
     check12 (length words) (blockCount p)
     (refuseIf (not (allWithin p words)) 13
     (refuseIf (not (allCounted p words)) 14
@@ -68,8 +73,7 @@ placementRefusal p words =
 
 -- A call on a placement that passes them.
 unfoldable pub onPlacement : {A : Type 0} → List ℕ → List ℕ → (Plan → Outcome A) → Outcome A
-onPlacement bytes words call =
-    onPlan (judge bytes) words (λ p. unless (placementRefusal p words) words (call p))
+onPlacement bytes words call = onPlan (judge bytes) words (placementRefusal words) call
 
 -- Checking a placement never writes; it answers the number of blocks.
 unfoldable pub checkCall : List ℕ → List ℕ → Outcome ℕ

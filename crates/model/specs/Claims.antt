@@ -12,11 +12,17 @@ use Rattle.model.specs.Placement.{Feasible, used, maxLoad, maxShare}
 use Rattle.model.specs.Steps.{Step, AtRest}
 use Rattle.model.specs.Calls.{Answer, turnedBack, answered, Outcome, checkCall, stepCall, RunReply, runCall}
 
--- A call: the bytes that it gets for the plan and how many of the words held it is lent; of a run, also its step limit.
-pub data Call : Type 0 where
-  checkWith : List ℕ → ℕ → Call
-  stepWith : List ℕ → ℕ → Call
-  runWith : List ℕ → ℕ → ℕ → Call
+-- What a call asks for: a check, one step, or a run with a step limit.
+pub data Request : Type 0 where
+  askCheck : Request
+  askStep : Request
+  askRun : ℕ → Request
+
+-- A call: the bytes that it gets for the plan, how many of the words held it is lent, and its request.
+pub record Call : Type 0 where
+  pub bytes : List ℕ
+  pub lent : ℕ
+  pub request : Request
 
 -- What a call answers: its refusal, that the check passed, the step taken, or how a run ended.
 pub data Reply : Type 0 where
@@ -34,14 +40,20 @@ pub record Played : Type 0 where
   pub reply : Reply
   pub words : List ℕ
 
-abbrev pub played : {A : Type 0} → (A → Reply) → Outcome A → List ℕ → Played
-played reply outcome kept = record { reply = replyOf reply (outcome .answer); words = outcome .items ++ kept }
+abbrev pub played : {A : Type 0} → (A → Reply) → Outcome A → Played
+played reply outcome = record { reply = replyOf reply (outcome .answer); words = outcome .items }
+
+-- What a request does on the words lent.
+unfoldable pub respond : Request → List ℕ → List ℕ → Played
+respond askCheck bytes words = played (λ n. checked) (checkCall bytes words)
+respond askStep bytes words = played stepped (stepCall bytes words)
+respond (askRun budget) bytes words = played ran (runCall bytes words budget)
 
 -- A call acts on the words that it is lent; those past them stay.
 unfoldable pub does : Call → List ℕ → Played
-does (checkWith bytes lent) words = played (λ n. checked) (checkCall bytes (take lent words)) (drop lent words)
-does (stepWith bytes lent) words = played stepped (stepCall bytes (take lent words)) (drop lent words)
-does (runWith bytes lent budget) words = played ran (runCall bytes (take lent words) budget) (drop lent words)
+does call words =
+    let part = respond (call .request) (call .bytes) (take (call .lent) words) in
+    record { reply = part .reply; words = part .words ++ drop (call .lent) words }
 
 -- The calls one after the other: the last reply (`before` where there is no call) and the words afterwards.
 unfoldable pub play : Reply → List Call → List ℕ → Played
@@ -50,9 +62,7 @@ play before (call ∷ calls) words = play (does call words .reply) calls (does c
 
 -- A call that gets the plan's own bytes and at least its B words, or one that is refused.
 abbrev pub Gets : List ℕ → ℕ → Call → Type 0
-Gets plan blocks (checkWith bytes lent) = (bytes ≡ plan) × (blocks ≤ lent)
-Gets plan blocks (stepWith bytes lent) = (bytes ≡ plan) × (blocks ≤ lent)
-Gets plan blocks (runWith bytes lent budget) = (bytes ≡ plan) × (blocks ≤ lent)
+Gets plan blocks call = (call .bytes ≡ plan) × (blocks ≤ call .lent)
 
 abbrev pub Refuses : Call → List ℕ → Type 0
 Refuses call words = (code : ℕ) × (does call words .reply ≡ refusedBy code)

@@ -119,7 +119,7 @@ wrote bytes text = record { answer = answered (length bytes); items = bytes ++ d
 -- Listing a plan in a lent text: too short a text is refused first, and a refusal writes nothing.
 unfoldable pub listingCall : List ℕ → ℕ → List ℕ → Outcome ℕ
 listingCall bytes budget text =
-    unless (roomRefusal (length text)) text (onPlan (judge bytes) text (λ p. wrote (listingOf p budget) text))
+    unless (roomRefusal (length text)) text (onPlan (judge bytes) text (λ p. 0) (λ p. wrote (listingOf p budget) text))
 
 -- Printing in a lent text: a refused plan's line is written too.
 unfoldable pub printCall : List ℕ → ℕ → List ℕ → Outcome ℕ

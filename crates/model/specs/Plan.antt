@@ -27,12 +27,15 @@ machines p = p .racks * p .rackSize
 abbrev pub rackOf : Plan → ℕ → ℕ
 rackOf p m = m / p .rackSize
 
--- The failure domains that a spread counts, and that of machine m: the racks.
+-- The failure domains that a spread counts, that of machine m, and the machines in each: the racks.
 abbrev pub domains : Plan → ℕ
 domains p = p .racks
 
 abbrev pub domain : Plan → ℕ → ℕ
 domain p m = rackOf p m
+
+abbrev pub domainSize : Plan → ℕ
+domainSize p = p .rackSize
 
 -- B, and block i.
 abbrev pub blockCount : Plan → ℕ
@@ -60,9 +63,9 @@ unfoldable pub field : List ℕ → ℕ → ℕ → ℕ
 field bytes at zero = 0
 field bytes at (suc width) = field bytes at width * 256 + getD bytes (at + width) 0
 
--- The header's table: each field by its first byte and its width.
-abbrev pub headerLength : ℕ
-headerLength = 15
+-- The header's table: each field by its first byte and its width. Every version's header has these bytes.
+abbrev pub commonLength : ℕ
+commonLength = 15
 
 abbrev pub markIn : List ℕ → ℕ
 markIn bytes = field bytes 0 3
@@ -85,22 +88,40 @@ budgetIn bytes = field bytes 9 4
 abbrev pub blockCountIn : List ℕ → ℕ
 blockCountIn bytes = field bytes 13 2
 
--- A record: the popularity, then the least copies and the spread, one byte each. Record i stands at `recordAt i`.
-abbrev pub popularityWidth : ℕ
-popularityWidth = 3
+-- The format of a version's file: the header's length and the widths of a record's fields, which stand one after the other.
+pub record Format : Type 0 where
+  pub headerLength : ℕ
+  pub popularityWidth : ℕ
+  pub minReplicasWidth : ℕ
+  pub minRacksWidth : ℕ
 
-abbrev pub recordLength : ℕ
-recordLength = popularityWidth + 2
+-- Version 1: a header of 15 bytes, records of a popularity of 3, least copies of 1 and a spread of 1. No other is accepted.
+unfoldable pub formatOf : ℕ → Format
+formatOf version =
+    record { headerLength = commonLength; popularityWidth = 3; minReplicasWidth = 1; minRacksWidth = 1 }
 
-abbrev pub recordAt : ℕ → ℕ
-recordAt i = headerLength + recordLength * i
+abbrev pub formatIn : List ℕ → Format
+formatIn bytes = formatOf (versionIn bytes)
 
-unfoldable pub blockIn : List ℕ → ℕ → Block
-blockIn bytes i =
+-- Where a record's fields stand in it, and its length. Record i stands at `recordAt f i`.
+abbrev pub minReplicasAt : Format → ℕ
+minReplicasAt f = f .popularityWidth
+
+abbrev pub minRacksAt : Format → ℕ
+minRacksAt f = minReplicasAt f + f .minReplicasWidth
+
+abbrev pub recordLength : Format → ℕ
+recordLength f = minRacksAt f + f .minRacksWidth
+
+abbrev pub recordAt : Format → ℕ → ℕ
+recordAt f i = f .headerLength + recordLength f * i
+
+unfoldable pub blockIn : Format → List ℕ → ℕ → Block
+blockIn f bytes i =
     record {
-      popularity = field bytes (recordAt i) popularityWidth;
-      minReplicas = field bytes (recordAt i + popularityWidth) 1;
-      minRacks = field bytes (recordAt i + (popularityWidth + 1)) 1;
+      popularity = field bytes (recordAt f i) (f .popularityWidth);
+      minReplicas = field bytes (recordAt f i + minReplicasAt f) (f .minReplicasWidth);
+      minRacks = field bytes (recordAt f i + minRacksAt f) (f .minRacksWidth);
     }
 
 -- The plan that the bytes hold.
@@ -111,5 +132,5 @@ planIn bytes =
       rackSize = rackSizeIn bytes;
       capacity = capacityIn bytes;
       budget = budgetIn bytes;
-      blocks = table (blockCountIn bytes) (blockIn bytes);
+      blocks = table (blockCountIn bytes) (blockIn (formatIn bytes) bytes);
     }

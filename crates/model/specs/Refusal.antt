@@ -6,7 +6,7 @@ use Prim.Native.Nat.{ℕ, zero, suc, _*_}
 use lib.Dec.{ltb, eqb}
 use lib.ListN.{length}
 use Rattle.order.specs.Search.{firstUp}
-use Rattle.model.specs.Plan.{Plan, machines, domains, blockCount, blockOf, upper, minTotal, headerLength, markIn, versionIn, racksIn, rackSizeIn, capacityIn, blockCountIn, recordAt, planIn}
+use Rattle.model.specs.Plan.{Plan, machines, domains, blockCount, blockOf, upper, minTotal, commonLength, markIn, versionIn, racksIn, rackSizeIn, capacityIn, blockCountIn, Format, formatIn, recordAt, planIn}
 
 -- The row's code where its condition holds, else the later rows' code.
 abbrev pub refuseIf : Bool → ℕ → ℕ → ℕ
@@ -36,7 +36,7 @@ maxBlocks = 1024
 
 -- 1: shorter than 15 bytes.
 unfoldable pub check1 : ℕ → ℕ → ℕ
-check1 size = refuseIf (ltb size headerLength) 1
+check1 size = refuseIf (ltb size commonLength) 1
 
 -- 2: mark differs.
 unfoldable pub check2 : ℕ → ℕ → ℕ
@@ -58,9 +58,9 @@ check5 capacity = refuseIf (eqb capacity 0 || ltb maxCapacity capacity) 5
 unfoldable pub check6 : ℕ → ℕ → ℕ
 check6 count = refuseIf (ltb maxBlocks count) 6
 
--- 7: length not 15 + 5 × B.
-unfoldable pub check7 : ℕ → ℕ → ℕ → ℕ
-check7 size count = refuseIf (not (eqb size (recordAt count))) 7
+-- 7: length not 15 + 5 × B: that of the version's header and B records.
+unfoldable pub check7 : Format → ℕ → ℕ → ℕ → ℕ
+check7 f size count = refuseIf (not (eqb size (recordAt f count))) 7
 
 -- 8: least copies 0 or above the smaller of 8 and M.
 unfoldable pub check8 : ℕ → ℕ → ℕ → ℕ
@@ -108,7 +108,7 @@ refusal bytes =
     (check4 (racksIn bytes) (rackSizeIn bytes)
     (check5 (capacityIn bytes)
     (check6 (blockCountIn bytes)
-    (check7 (length bytes) (blockCountIn bytes)
+    (check7 (formatIn bytes) (length bytes) (blockCountIn bytes)
     (planRefusal (planIn bytes))))))))
 
 -- What a plan's bytes are: turned back with a code, or a plan.
@@ -122,3 +122,8 @@ verdict (suc code) p = refused (suc code)
 
 unfoldable pub judge : List ℕ → Verdict
 judge bytes = verdict (refusal bytes) (planIn bytes)
+
+-- The code of a verdict: 0 for an accepted plan.
+unfoldable pub verdictCode : Verdict → ℕ
+verdictCode (refused code) = code
+verdictCode (accepted p) = 0

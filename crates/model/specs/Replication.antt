@@ -1,10 +1,8 @@
 -- Document 01, "Counts and shares". A block's count is its replication factor.
 use mathlib.Core.Bool.{Bool, _&&_}
-use mathlib.Core.List.{List}
 use Prim.Native.Nat.{ℕ, suc, _+_, _*_, _-_, _/_, _<_, _≤_, min}
 use lib.Dec.{leb}
 use Rattle.order.specs.Sum.{sum}
-use Rattle.order.specs.Table.{table}
 use Rattle.order.specs.Search.{least, allb, largest}
 use Rattle.model.specs.Plan.{Plan, machines, blockCount, blockOf, upper}
 
@@ -46,6 +44,3 @@ figure p = least (reachable p) (largestShare p (λ i. blockOf p i .minReplicas))
 
 unfoldable pub chosen : Plan → ℕ → ℕ
 chosen p i = need p (figure p) i
-
-unfoldable pub chosenCounts : Plan → List ℕ
-chosenCounts p = table (blockCount p) (chosen p)

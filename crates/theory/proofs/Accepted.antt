@@ -14,7 +14,7 @@ use lib.ListN.{length}
 use Rattle.order.proofs.Booleans.{or3-false, in-range}
 use Rattle.order.proofs.Tables.{length-table, getD-table}
 use Rattle.order.proofs.Searches.{none-below, first-all}
-use Rattle.model.specs.Plan.{Plan, noBlock, machines, domains, blockCount, blockOf, upper, minTotal, headerLength, recordAt, planIn, blockIn, markIn, versionIn, racksIn, rackSizeIn, capacityIn, blockCountIn}
+use Rattle.model.specs.Plan.{Plan, noBlock, machines, domains, blockCount, blockOf, upper, minTotal, commonLength, Format, formatIn, recordAt, planIn, blockIn, markIn, versionIn, racksIn, rackSizeIn, capacityIn, blockCountIn}
 use Rattle.model.specs.Refusal.{refuseIf, orElse, isRefusal, mark, maxMachines, maxCapacity, maxBlocks, check1, check2, check3, check4, check5, check6, check7, check8, check9, blockRefusal, blocksRefusal, check10, check11, check12, planRefusal, refusal, refused, accepted, verdict, judge}
 use Rattle.theory.specs.Accepted.{ValidBlock, Shaped, Valid, AcceptedLaws}
 use Rattle.theory.specs.Exact.{PastRow9}
@@ -52,18 +52,18 @@ pub check6-zero : (count later : ℕ) → check6 count later ≡ 0 → (count �
 unfolding check6
 check6-zero count later e = let z = refuse-zero _ _ _ e in (ltb-false _ _ (z .0), z .1)
 
-pub check7-zero : (size count later : ℕ) → check7 size count later ≡ 0 → (size ≡ recordAt count) × (later ≡ 0)
+pub check7-zero : (f : Format) (size count later : ℕ) → check7 f size count later ≡ 0 → (size ≡ recordAt f count) × (later ≡ 0)
 unfolding check7
-check7-zero size count later e = let z = refuse-zero _ _ _ e in (eqb-true _ _ (not-false _ (z .0)), z .1)
+check7-zero f size count later e = let z = refuse-zero _ _ _ e in (eqb-true _ _ (not-false _ (z .0)), z .1)
 
 -- The fields of the plan that the bytes hold.
 pub count-in : (bytes : List ℕ) → blockCount (planIn bytes) ≡ blockCountIn bytes
 unfolding planIn
-count-in bytes = length-table (blockCountIn bytes) (blockIn bytes)
+count-in bytes = length-table (blockCountIn bytes) (blockIn (formatIn bytes) bytes)
 
-pub block-in : (bytes : List ℕ) (i : ℕ) → i < blockCountIn bytes → blockOf (planIn bytes) i ≡ blockIn bytes i
+pub block-in : (bytes : List ℕ) (i : ℕ) → i < blockCountIn bytes → blockOf (planIn bytes) i ≡ blockIn (formatIn bytes) bytes i
 unfolding planIn
-block-in bytes i l = getD-table (blockCountIn bytes) (blockIn bytes) i noBlock l
+block-in bytes i l = getD-table (blockCountIn bytes) (blockIn (formatIn bytes) bytes) i noBlock l
 
 block-zero : (p : Plan) (i : ℕ) → blockRefusal p i ≡ 0 → ValidBlock p i
 unfolding blockRefusal check8 check9
@@ -143,25 +143,25 @@ blocks-code p = first-all (λ code. code ≤ 9) isRefusal 0 (blockRefusal p) (bl
 rows-past : (code : ℕ) → PastRow9 code → (bytes : List ℕ) → refusal bytes ≡ code
     → (1 ≤ racksIn bytes) × (1 ≤ rackSizeIn bytes) × (racksIn bytes * rackSizeIn bytes ≤ maxMachines)
     × (1 ≤ capacityIn bytes) × (capacityIn bytes ≤ maxCapacity) × (blockCountIn bytes ≤ maxBlocks)
-    × (length bytes ≡ recordAt (blockCountIn bytes)) × (blocksRefusal (planIn bytes) ≡ 0) × (totalRefusal (planIn bytes) ≡ code)
+    × (length bytes ≡ recordAt (formatIn bytes) (blockCountIn bytes)) × (blocksRefusal (planIn bytes) ≡ 0) × (totalRefusal (planIn bytes) ≡ code)
 unfolding refusal check1 check2 check3 check4 check5 check6 check7 planRefusal
 rows-past code past bytes e =
     let r = racksIn bytes in
     let s = rackSizeIn bytes in
     let c = capacityIn bytes in
     let b = blockCountIn bytes in
-    let z1 = refuse-past code past (ltb (length bytes) headerLength) 0 _ e (lit< tt) in
+    let z1 = refuse-past code past (ltb (length bytes) commonLength) 0 _ e (lit< tt) in
     let z2 = refuse-past code past (not (eqb (markIn bytes) mark)) 1 _ (z1 .1) (lit< tt) in
     let z3 = refuse-past code past (not (eqb (versionIn bytes) 1)) 2 _ (z2 .1) (lit< tt) in
     let z4 = refuse-past code past (eqb r 0 || eqb s 0 || ltb maxMachines (r * s)) 3 _ (z3 .1) (lit< tt) in
     let z5 = refuse-past code past (eqb c 0 || ltb maxCapacity c) 4 _ (z4 .1) (lit< tt) in
     let z6 = refuse-past code past (ltb maxBlocks b) 5 _ (z5 .1) (lit< tt) in
-    let z7 = refuse-past code past (not (eqb (length bytes) (recordAt b))) 6 _ (z6 .1) (lit< tt) in
+    let z7 = refuse-past code past (not (eqb (length bytes) (recordAt (formatIn bytes) b))) 6 _ (z6 .1) (lit< tt) in
     let blocks = orElse-past code past (blocksRefusal (planIn bytes)) _ (blocks-code (planIn bytes)) (z7 .1) in
     let h4 = check4-zero r s 0 (z4 .0) in
     let h5 = check5-zero c 0 (z5 .0) in
     let h6 = check6-zero b 0 (z6 .0) in
-    let h7 = check7-zero (length bytes) b 0 (z7 .0) in
+    let h7 = check7-zero (formatIn bytes) (length bytes) b 0 (z7 .0) in
     (h4 .0, h4 .1, h4 .2, h5 .0, h5 .1, h6 .0, h7 .0, blocks .0, blocks .1)
 
 module _ (bytes : List ℕ) (past : PastRow9 (refusal bytes)) where
@@ -175,11 +175,11 @@ module _ (bytes : List ℕ) (past : PastRow9 (refusal bytes)) where
         machines-max = z .2;
         capacity-pos = z .3;
         capacity-max = z .4;
-        blocks-max = rw (length-table (blockCountIn bytes) (blockIn bytes)) (z .5);
+        blocks-max = rw (length-table (blockCountIn bytes) (blockIn (formatIn bytes) bytes)) (z .5);
         block = blocks-zero (planIn bytes) (z .7);
       }
 
-  pub length-past : length bytes ≡ recordAt (blockCountIn bytes)
+  pub length-past : length bytes ≡ recordAt (formatIn bytes) (blockCountIn bytes)
   length-past = rows-past (refusal bytes) past bytes refl .6
 
   pub code-past : refusal bytes ≡ totalRefusal (planIn bytes)
@@ -204,7 +204,7 @@ accepted-laws bytes p e =
     record {
       held = sym (z .1);
       valid = rw (z .1) at (refusal-zero bytes (z .0));
-      length-is = length-past bytes (inr (z .0)) ∙ ap recordAt (sym (count-in bytes) ∙ ap blockCount (z .1));
+      length-is = length-past bytes (inr (z .0)) ∙ ap (recordAt (formatIn bytes)) (sym (count-in bytes) ∙ ap blockCount (z .1));
     }
 
 -- The verdict, from the code.

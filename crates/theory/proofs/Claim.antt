@@ -17,7 +17,7 @@ use Rattle.model.specs.Replication.{chosen}
 use Rattle.model.specs.Placement.{Feasible, firstWord, firstPlacement, totalLoad, maxShare}
 use Rattle.model.specs.Steps.{none, after, nextStep, AtRest, run}
 use Rattle.model.specs.Calls.{Outcome, RunReply, onPlan, unless, onPlacement, placementRefusal, checkCall, stepCall, runCall}
-use Rattle.model.specs.Claims.{Call, checkWith, stepWith, runWith, Reply, refusedBy, checked, stepped, ran, replyOf, does, play, Gets, Refuses, Allowed, SaysRest, Bounded, After, Claim}
+use Rattle.model.specs.Claims.{Request, askCheck, askStep, askRun, Call, Reply, refusedBy, checked, stepped, ran, replyOf, respond, does, play, Gets, Refuses, Allowed, SaysRest, Bounded, After, Claim}
 use Rattle.theory.specs.Accepted.{Valid}
 use Rattle.theory.specs.Local.{Settled, Taken, none-taken}
 use Rattle.theory.proofs.Accepted.{accepted-laws}
@@ -29,6 +29,7 @@ use Rattle.theory.proofs.Runs.{taken-past, taken-keeps, next-taken, run
 use Rattle.theory.proofs.Bounds.{one-spread, larger-spreads}
 use Rattle.theory.proofs.Agreement.{Agree, agree-feasible, agree-rest}
 use Rattle.theory.proofs.Handed.{feasible-length, placement-passes}
+use Rattle.theory.proofs.Outcomes.{onPlan-made}
 
 pub rest-bounded : (p : Plan) → Valid p → (count : ℕ → ℕ) (words : List ℕ) → Feasible p count words → AtRest p words → Bounded p words
 rest-bounded p valid count words f rest =
@@ -45,44 +46,39 @@ rest-bounded p valid count words f rest =
     total : (count' : ℕ → ℕ) (other : List ℕ) → Feasible p count' other → totalLoad p words ≡ totalLoad p other
     total count' other f' = total-load p valid count words f ∙ sym (total-load p valid count' other f')
 
--- A call that acts, and one that is refused.
-module _ {A : Type 0} (bytes words : List ℕ) (call : Plan → Outcome A) where
-  placement-call : (p : Plan) → judge bytes ≡ accepted p → placementRefusal p words ≡ 0 → onPlacement bytes words call ≡ call p
-  unfolding onPlacement onPlan unless
-  placement-call p e z = rw (e, z)
+-- a refused call leaves the words
+refused-call : {A : Type 0} (bytes words : List ℕ) (call : Plan → Outcome A) (reply : A → Reply) (code : ℕ)
+    → ((p : Plan) → replyOf reply (call p .answer) ≡ refusedBy code → ⊥)
+    → replyOf reply (onPlacement bytes words call .answer) ≡ refusedBy code → onPlacement bytes words call .items ≡ words
+unfolding onPlacement onPlan unless
+refused-call {A} bytes words call reply code acts = by-verdict (judge bytes)
+  where
+    by-code : (p : Plan) (n : ℕ) → replyOf reply (unless n words (call p) .answer) ≡ refusedBy code → unless n words (call p) .items ≡ words
+    by-code p zero e = absurd (acts p e)
+    by-code p (suc n) e = refl
 
-  -- a refused call leaves the words
-  refused-call : (reply : A → Reply) (code : ℕ) → ((p : Plan) → replyOf reply (call p .answer) ≡ refusedBy code → ⊥)
-      → replyOf reply (onPlacement bytes words call .answer) ≡ refusedBy code → onPlacement bytes words call .items ≡ words
-  unfolding onPlacement onPlan unless
-  refused-call reply code acts = by-verdict (judge bytes)
-    where
-      by-code : (p : Plan) (n : ℕ) → replyOf reply (unless n words (call p) .answer) ≡ refusedBy code → unless n words (call p) .items ≡ words
-      by-code p zero e = absurd (acts p e)
-      by-code p (suc n) e = refl
-
-      outcome : Verdict → Outcome A
-      outcome verdict = onPlan verdict words (λ p. unless (placementRefusal p words) words (call p))
-
-      by-verdict : (v : Verdict) → replyOf reply (outcome v .answer) ≡ refusedBy code → outcome v .items ≡ words
-      by-verdict (refused n) e = refl
-      by-verdict (accepted p) e = by-code p (placementRefusal p words) e
+    by-verdict : (v : Verdict) → replyOf reply (onPlan v words (placementRefusal words) call .answer) ≡ refusedBy code
+        → onPlan v words (placementRefusal words) call .items ≡ words
+    by-verdict (refused n) e = refl
+    by-verdict (accepted p) e = by-code p (placementRefusal words p) e
 
 -- two constructors
 clash : _≡_ {A = ℕ} 0 1 → ⊥
 clash e = omega arith
 
+respond-refused : (request : Request) (bytes words : List ℕ) (code : ℕ) → respond request bytes words .reply ≡ refusedBy code
+    → respond request bytes words .words ≡ words
+unfolding respond checkCall stepCall runCall
+respond-refused askCheck bytes words code e = refused-call bytes words _ (λ n. checked) code (λ p q. clash (cc)) e
+respond-refused askStep bytes words code e = refused-call bytes words _ stepped code (λ p q. clash (cc)) e
+respond-refused (askRun budget) bytes words code e = refused-call bytes words _ ran code (λ p q. clash (cc)) e
+
 does-refused : (call : Call) (words : List ℕ) (code : ℕ) → does call words .reply ≡ refusedBy code → does call words .words ≡ words
-unfolding does checkCall stepCall runCall
-does-refused (checkWith bytes lent) words code e =
-    ap (λ (s : List ℕ). s ++ drop lent words) (refused-call bytes (take lent words) _ (λ n. checked) code (λ p q. clash (cc)) e)
-    ∙ take-append-drop lent words
-does-refused (stepWith bytes lent) words code e =
-    ap (λ (s : List ℕ). s ++ drop lent words) (refused-call bytes (take lent words) _ stepped code (λ p q. clash (cc)) e)
-    ∙ take-append-drop lent words
-does-refused (runWith bytes lent budget) words code e =
-    ap (λ (s : List ℕ). s ++ drop lent words) (refused-call bytes (take lent words) _ ran code (λ p q. clash (cc)) e)
-    ∙ take-append-drop lent words
+unfolding does
+does-refused call words code e =
+    ap (λ (s : List ℕ). s ++ drop (call .lent) words)
+    (respond-refused (call .request) (call .bytes) (take (call .lent) words) code e)
+    ∙ take-append-drop (call .lent) words
 
 -- neither a refusal nor a check says that it rests
 refused-silent : (r : Reply) (code : ℕ) → r ≡ refusedBy code → SaysRest r → ⊥
@@ -127,7 +123,7 @@ module _ (bytes : List ℕ) (p : Plan) (reads : judge bytes ≡ accepted p) (bef
       lent-feasible =
           agree-feasible p words (take lent words) (λ i l. sym (getD-take lent words i 0 (omega arith))) (chosen p) (held .feasible)
 
-      lent-passes : placementRefusal p (take lent words) ≡ 0
+      lent-passes : placementRefusal (take lent words) p ≡ 0
       lent-passes = placement-passes p valid (take lent words) lent-feasible
 
       -- a call that takes next steps on the words lent
@@ -164,28 +160,26 @@ module _ (bytes : List ℕ) (p : Plan) (reads : judge bytes ≡ accepted p) (bef
               → drop (blockCount p) (s ++ drop lent words) ≡ drop (blockCount p) s ++ drop lent words
           past s f = drop-append-le (blockCount p) s (drop lent words) (feasible-length p valid (chosen p) s f)
 
-      after-check : After p before (does (checkWith bytes lent) words)
-      unfolding does checkCall
-      after-check =
-          rw (placement-call bytes (take lent words) _ p reads lent-passes)
+      -- what each request does
+      after-request : (request : Request)
+          → After p before (record {
+            reply = respond request bytes (take lent words) .reply;
+            words = respond request bytes (take lent words) .words ++ drop lent words;
+          })
+      unfolding respond checkCall stepCall runCall onPlacement
+      after-request askCheck =
+          rw (onPlan-made (take lent words) (placementRefusal (take lent words)) _ (judge bytes) p reads lent-passes)
           (after-steps none-taken checked (λ says. absurd (checked-silent says)))
-
-      after-step : After p before (does (stepWith bytes lent) words)
-      unfolding does stepCall
-      after-step =
-          rw (placement-call bytes (take lent words) _ p reads lent-passes)
+      after-request askStep =
+          rw (onPlan-made (take lent words) (placementRefusal (take lent words)) _ (judge bytes) p reads lent-passes)
           (after-steps (next-taken p (take lent words) .1) _ (step-says p (take lent words)))
-
-      after-run : (budget : ℕ) → After p before (does (runWith bytes lent budget) words)
-      unfolding does runCall
-      after-run budget =
-          rw (placement-call bytes (take lent words) _ p reads lent-passes)
+      after-request (askRun budget) =
+          rw (onPlan-made (take lent words) (placementRefusal (take lent words)) _ (judge bytes) p reads lent-passes)
           (after-steps (run-laws p budget (take lent words) .taken) _ (run-says p budget (take lent words)))
 
     after-gets : (call : Call) → Gets bytes (blockCount p) call → After p before (does call words)
-    after-gets (checkWith other lent) (same, enough) = rw same (after-check lent enough)
-    after-gets (stepWith other lent) (same, enough) = rw same (after-step lent enough)
-    after-gets (runWith other lent budget) (same, enough) = rw same (after-run lent enough budget)
+    unfolding does
+    after-gets call (same, enough) = rw same (after-request (call .lent) enough (call .request))
 
     after-call : (call : Call) → Gets bytes (blockCount p) call ⊎ Refuses call words → After p before (does call words)
     after-call call (inl gets) = after-gets call gets

@@ -48,7 +48,7 @@ unfolding allCounted
 counted-iff p words = allb-iff (blockCount p) _ _ (λ i. eqb-iff (countOf p words i) (chosen p i))
 
 module _ (p : Plan) (valid : Valid p) (words : List ℕ) where
-  pub placement-passes : Feasible p (chosen p) words → placementRefusal p words ≡ 0
+  pub placement-passes : Feasible p (chosen p) words → placementRefusal words p ≡ 0
   unfolding placementRefusal check12
   placement-passes f =
       rw (
@@ -59,7 +59,7 @@ module _ (p : Plan) (valid : Valid p) (words : List ℕ) where
         fit-iff p words .1 (f .fits),
       )
 
-  pub placement-feasible : placementRefusal p words ≡ 0 → Feasible p (chosen p) words
+  pub placement-feasible : placementRefusal words p ≡ 0 → Feasible p (chosen p) words
   unfolding placementRefusal
   placement-feasible e =
       let z12 = check12-zero _ _ _ e in

@@ -14,7 +14,7 @@ use Rattle.order.specs.Table.{table}
 use Rattle.order.specs.Search.{firstUp, least, allb, largest, smallest}
 use Rattle.order.proofs.Sums.{sum-mono, sum-const}
 use Rattle.order.proofs.Extremes.{largest-le, smallest-term}
-use Rattle.model.specs.Plan.{Plan, machines, blockCount, blockOf, upper, minTotal, field, blockIn, planIn, domains, headerLength, markIn, versionIn, racksIn, rackSizeIn, capacityIn, blockCountIn, popularityWidth, recordAt}
+use Rattle.model.specs.Plan.{Plan, machines, blockCount, blockOf, upper, minTotal, field, blockIn, planIn, domains, commonLength, markIn, versionIn, racksIn, rackSizeIn, capacityIn, blockCountIn, formatIn, formatOf, recordAt}
 use Rattle.model.specs.Refusal.{refuseIf, orElse, isRefusal, mark, maxMachines, maxCapacity, maxBlocks, check1, check2, check3, check4, check5, check6, check7, check8, check9, blockRefusal, blocksRefusal, check10, check11, planRefusal, refusal, Verdict, refused, accepted, judge}
 use Rattle.model.specs.Replication.{limit, share, need, chosen}
 use Rattle.model.specs.Placement.{bit, wordOf, held, countOf, replicas, replicasIn, domainsUsed, used, allWithin, allSpread, allFit, countsFeasible, isFeasible, position, laidWord, firstWord, firstPlacement, shareOf, load, maxLoad, minLoad, totalLoad, maxShare, Feasible}
@@ -31,7 +31,7 @@ use Rattle.theory.proofs.Bits.{bit-le}
 use Rattle.theory.proofs.FirstPlacement.{first-feasible, machines-pos}
 use Rattle.theory.proofs.Runs.{run-laws, run-feasible}
 use Rattle.theory.proofs.Held.{share-held}
-use Rattle.theory.proofs.Outcomes.{on-refused, on-accepted, unless-none, unless-some}
+use Rattle.theory.proofs.Outcomes.{onPlan-verdict, onPlan-made, unless-none, unless-some}
 use Rattle.theory.proofs.Trials.{figures, trials}
 use Rattle.theory.proofs.Lines.{field-length, line-length, fields-cons, fields-none, lines-length, holders-length}
 
@@ -41,11 +41,11 @@ runLines p r = planLine p ++ lines (blockCount p) (blockLine p (r .words)) ++ la
 
 -- plan H's first placement, at rest
 H-first : firstPlacement (planIn plan-H) ≡ 15 ∷ 5 ∷ 2 ∷ []
-unfolding firstPlacement planIn blockIn field upper chosen position laidWord firstWord need share sum table least plan-H
+unfolding firstPlacement planIn blockIn formatOf field upper chosen position laidWord firstWord need share sum table least plan-H
 H-first = rw (figures .H) refl
 
 H-lines : runLines (planIn plan-H) (run (planIn plan-H) 100_000 (15 ∷ 5 ∷ 2 ∷ [])) ≡ listing-H
-unfolding runLines lastLine planLine blockLine lines holders line fields numberField decimal digits reportOf maxLoad minLoad totalLoad maxShare planIn blockIn field upper minTotal shifted afterMove afterSwap after improves canMove canSwap pairs nextMove nextSwap nextStep run bit replicas replicasIn domainsUsed used allWithin allSpread allFit countsFeasible isFeasible shareOf load largest smallest share limit sum table allb firstUp plan-H listing-H
+unfolding runLines lastLine planLine blockLine lines holders line fields numberField decimal digits reportOf maxLoad minLoad totalLoad maxShare planIn blockIn formatOf field upper minTotal shifted afterMove afterSwap after improves canMove canSwap pairs nextMove nextSwap nextStep run bit replicas replicasIn domainsUsed used allWithin allSpread allFit countsFeasible isFeasible shareOf load largest smallest share limit sum table allb firstUp plan-H listing-H
 H-lines = refl
 
 H-printed : printed plan-H 100_000 ≡ listing-H
@@ -196,13 +196,13 @@ plan-max p =
 refusal-max : (bytes : List ℕ) → refusal bytes ≤ 11
 unfolding refusal check1 check2 check3 check4 check5 check6 check7
 refusal-max bytes =
-    refuse-max (ltb (length bytes) headerLength) 1 _ (omega arith)
+    refuse-max (ltb (length bytes) commonLength) 1 _ (omega arith)
     (refuse-max (not (eqb (markIn bytes) mark)) 2 _ (omega arith)
     (refuse-max (not (eqb (versionIn bytes) 1)) 3 _ (omega arith)
     (refuse-max (eqb (racksIn bytes) 0 || eqb (rackSizeIn bytes) 0 || ltb maxMachines (racksIn bytes * rackSizeIn bytes)) 4 _ (omega arith)
     (refuse-max (eqb (capacityIn bytes) 0 || ltb maxCapacity (capacityIn bytes)) 5 _ (omega arith)
     (refuse-max (ltb maxBlocks (blockCountIn bytes)) 6 _ (omega arith)
-    (refuse-max (not (eqb (length bytes) (recordAt (blockCountIn bytes)))) 7 _ (omega arith)
+    (refuse-max (not (eqb (length bytes) (recordAt (formatIn bytes) (blockCountIn bytes)))) 7 _ (omega arith)
     (plan-max (planIn bytes))))))))
 
 -- what is printed, by the verdict
@@ -226,10 +226,10 @@ field-bound bytes h at (suc width) =
 
 share-fits : (bytes : List ℕ) → ((i : ℕ) → getD bytes i 0 < 256) → (count : ℕ → ℕ) (i : ℕ) → i < blockCount (planIn bytes)
     → share (blockOf (planIn bytes) i .popularity) (count i) < 2 ^ 34
-unfolding blockIn
+unfolding blockIn formatOf
 share-fits bytes h count i l =
     rw (block-in bytes i (rw (count-in bytes) at l))
-    (share-bound _ (count i) (field-bound bytes h (recordAt i) popularityWidth))
+    (share-bound _ (count i) (field-bound bytes h (recordAt (formatIn bytes) i) 3))
 
 pub listing-laws : ListingLaws
 listing-laws =
@@ -264,12 +264,12 @@ module _ (bytes text : List ℕ) (budget : ℕ) where
 
   pub listing-refused : (code : ℕ) → listingRoom ≤ length text → judge bytes ≡ refused code → listingCall bytes budget text ≡ refuse code text
   unfolding listingCall
-  listing-refused code l e = unless-none text _ _ (room-is (length text) l) ∙ on-refused text (judge bytes) code _ e
+  listing-refused code l e = unless-none text _ _ (room-is (length text) l) ∙ onPlan-verdict text (λ p. 0) _ (judge bytes) code e
 
   pub listing-made : (p : Plan) → listingRoom ≤ length text → judge bytes ≡ accepted p
       → listingCall bytes budget text ≡ wrote (listingOf p budget) text
   unfolding listingCall
-  listing-made p l e = unless-none text _ _ (room-is (length text) l) ∙ on-accepted text (judge bytes) p _ e
+  listing-made p l e = unless-none text _ _ (room-is (length text) l) ∙ onPlan-made text (λ p. 0) _ (judge bytes) p e refl
 
   pub print-short : length text < listingRoom → printCall bytes budget text ≡ refuse shortRoom text
   unfolding printCall

@@ -10,7 +10,7 @@ use borrow.Author.Tests.{lt-ltb, le-ltb, ne-eqb}
 use lib.Dec.{ltb, eqb}
 use lib.ListN.{length, getD, take}
 use lib.Seq.{length-take-le, getD-take}
-use Rattle.model.specs.Plan.{field, markIn, versionIn, racksIn, rackSizeIn, capacityIn, blockCountIn, recordAt, planIn}
+use Rattle.model.specs.Plan.{field, markIn, versionIn, racksIn, rackSizeIn, capacityIn, blockCountIn, Format, formatOf, formatIn, recordAt, planIn}
 use Rattle.model.specs.Refusal.{refuseIf, mark, maxMachines, maxCapacity, maxBlocks, check1, check2, check3, check4, check5, check6, check7, planRefusal, refusal, Verdict, refused, judge}
 use Rattle.model.specs.Listing.{printed, printedOf}
 use Rattle.theory.specs.Listing.{inputRoom, LongInput}
@@ -35,18 +35,18 @@ long-code found version racks size capacity count =
     (some-code (ltb maxBlocks count) 6 7 (omega arith) (omega arith)))))
 
 -- past check 6, check 7 refuses
-past-six : (size count later : ℕ) → inputRoom ≤ size → check6 count (check7 size count later) ≡ check6 count 7
-unfolding check6 check7
-past-six size count later l = elim (decLt maxBlocks count) [
+past-six : (version size count later : ℕ) → inputRoom ≤ size → check6 count (check7 (formatOf version) size count later) ≡ check6 count 7
+unfolding check6 check7 formatOf inputRoom
+past-six version size count later l = elim (decLt maxBlocks count) [
   | yes m ↦ rw (lt-ltb maxBlocks count m)
-  | no m ↦ rw (le-ltb maxBlocks count (omega arith), ne-eqb size (recordAt count) (λ e. omega arith))
+  | no m ↦ rw (le-ltb maxBlocks count (omega arith), ne-eqb size (recordAt (formatOf version) count) (λ e. omega arith))
 ]
 
 long-refusal : (bytes : List ℕ) → inputRoom ≤ length bytes
     → refusal bytes ≡ longRefusal (markIn bytes) (versionIn bytes) (racksIn bytes) (rackSizeIn bytes) (capacityIn bytes) (blockCountIn bytes)
-unfolding refusal check1 longRefusal
+unfolding refusal check1 longRefusal inputRoom formatOf
 long-refusal bytes l =
-    rw (le-ltb (length bytes) 15 (omega arith), past-six (length bytes) (blockCountIn bytes) (planRefusal (planIn bytes)) l)
+    rw (le-ltb (length bytes) 15 (omega arith), past-six (versionIn bytes) (length bytes) (blockCountIn bytes) (planRefusal (planIn bytes)) l)
 
 -- the header's fields are in the first bytes
 field-take : (n : ℕ) (bytes : List ℕ) (at width : ℕ) → at + width ≤ n → field (take n bytes) at width ≡ field bytes at width
@@ -56,6 +56,7 @@ field-take n bytes at (suc width) l =
     ap₂ (λ (x y : ℕ). x * 256 + y) (field-take n bytes at width (omega arith)) (getD-take n bytes (at + width) 0 (omega arith))
 
 same-refusal : (bytes : List ℕ) → inputRoom ≤ length bytes → refusal (take inputRoom bytes) ≡ refusal bytes
+unfolding inputRoom formatOf
 same-refusal bytes l =
     let sized : length (take inputRoom bytes) ≡ inputRoom = length-take-le inputRoom bytes l in
     let same : (at width : ℕ) → at + width ≤ 15 → field (take inputRoom bytes) at width ≡ field bytes at width =

@@ -7,7 +7,7 @@ use lib.ListN.{set, take}
 use Rattle.order.specs.Sum.{sum}
 use Rattle.order.specs.Table.{table}
 use Rattle.order.specs.Search.{firstUp}
-use Rattle.model.specs.Plan.{upper, minTotal, field, blockIn, planIn}
+use Rattle.model.specs.Plan.{upper, minTotal, field, formatOf, blockIn, planIn}
 use Rattle.model.specs.Refusal.{check1, check2, check3, check4, check5, check6, check7, check8, check9, blockRefusal, blocksRefusal, check10, check11, planRefusal, refusal, refused, accepted, judge}
 use Rattle.theory.specs.Trials.{plan-H, plan-full}
 
@@ -30,7 +30,7 @@ pub record RowExamples : Type 0 where
   pub row11 : judge plan-full ≡ refused 11
 
 pub row-examples : RowExamples
-unfolding judge refusal check1 check2 check3 check4 check5 check6 check7 planRefusal blocksRefusal blockRefusal check8 check9 check10 check11 planIn blockIn field upper minTotal sum table firstUp plan-H plan-full
+unfolding judge refusal check1 check2 check3 check4 check5 check6 check7 planRefusal blocksRefusal blockRefusal check8 check9 check10 check11 planIn blockIn formatOf field upper minTotal sum table firstUp plan-H plan-full
 row-examples =
     record {
       row1 = refl;
@@ -48,7 +48,7 @@ row-examples =
 
 -- 8 comes before 9 within a block, but block 0's 9 before block 1's 8
 pub block-order : (judge (set (with 18 5) 19 0) ≡ refused 8) × (judge (set (with 19 3) 23 5) ≡ refused 9)
-unfolding judge refusal check1 check2 check3 check4 check5 check6 check7 planRefusal blocksRefusal blockRefusal check8 check9 check10 check11 planIn blockIn field upper minTotal sum table firstUp plan-H
+unfolding judge refusal check1 check2 check3 check4 check5 check6 check7 planRefusal blocksRefusal blockRefusal check8 check9 check10 check11 planIn blockIn formatOf field upper minTotal sum table firstUp plan-H
 block-order = (refl, refl)
 
 -- H is accepted, with its fields
@@ -66,5 +66,5 @@ pub H-accepted :
           ∷ record { popularity = 2; minReplicas = 1; minRacks = 1 }
           ∷ [];
     })
-unfolding judge refusal check1 check2 check3 check4 check5 check6 check7 planRefusal blocksRefusal blockRefusal check8 check9 check10 check11 planIn blockIn field upper minTotal sum table firstUp plan-H
+unfolding judge refusal check1 check2 check3 check4 check5 check6 check7 planRefusal blocksRefusal blockRefusal check8 check9 check10 check11 planIn blockIn formatOf field upper minTotal sum table firstUp plan-H
 H-accepted = refl

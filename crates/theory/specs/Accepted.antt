@@ -3,7 +3,7 @@ use mathlib.Core.Path.{_≡_}
 use mathlib.Core.List.{List}
 use lib.ListN.{length}
 use Prim.Native.Nat.{ℕ, _*_, _<_, _≤_}
-use Rattle.model.specs.Plan.{Plan, machines, domains, blockCount, blockOf, upper, minTotal, planIn, recordAt}
+use Rattle.model.specs.Plan.{Plan, machines, domains, blockCount, blockOf, upper, minTotal, formatIn, planIn, recordAt}
 use Rattle.model.specs.Refusal.{maxMachines, maxCapacity, maxBlocks, judge, accepted}
 
 -- What rows 8 and 9 leave of block i: 1 ≤ least ≤ the smaller of 8 and M, 1 ≤ spread ≤ least, spread ≤ R.
@@ -34,7 +34,7 @@ pub record Valid (p : Plan) : Type 0 where
 pub record Accepted (bytes : List ℕ) (p : Plan) : Type 0 where
   pub held : p ≡ planIn bytes
   pub valid : Valid p
-  pub length-is : length bytes ≡ recordAt (blockCount p)
+  pub length-is : length bytes ≡ recordAt (formatIn bytes) (blockCount p)
 
 abbrev pub AcceptedLaws : Type 0
 AcceptedLaws = (bytes : List ℕ) (p : Plan) → judge bytes ≡ accepted p → Accepted bytes p

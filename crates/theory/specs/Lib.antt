@@ -1,5 +1,6 @@
 -- What is claimed of the model's definitions.
 pub mod Accepted
+pub mod Widths
 pub mod Exact
 pub mod Counts
 pub mod Local

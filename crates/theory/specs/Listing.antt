@@ -3,7 +3,7 @@ use mathlib.Core.Path.{_≡_}
 use mathlib.Core.List.{List, [], _∷_}
 use Prim.Native.Nat.{ℕ, _+_, _<_, _≤_, _^_}
 use lib.ListN.{length, getD, take}
-use Rattle.model.specs.Plan.{recordAt}
+use Rattle.model.specs.Plan.{formatOf, recordAt}
 use Rattle.model.specs.Refusal.{maxBlocks}
 use Rattle.model.specs.Listing.{printed, listingRoom}
 use Rattle.theory.specs.Trials.{plan-H}
@@ -34,9 +34,9 @@ pub record ListingLaws : Type 0 where
   pub fits : (bytes : List ℕ) → ((i : ℕ) → getD bytes i 0 < 256) → (budget : ℕ) → budget < 2 ^ 32
       → length (printed bytes budget) ≤ listingRoom
 
--- One byte more than the largest plan has.
-abbrev pub inputRoom : ℕ
-inputRoom = recordAt maxBlocks + 1
+-- One byte more than the largest plan has, which is of version 1.
+unfoldable pub inputRoom : ℕ
+inputRoom = recordAt (formatOf 1) maxBlocks + 1
 
 -- An input longer than any plan prints the same as its first bytes alone: the program need not read further.
 abbrev pub LongInput : Type 0

@@ -1,0 +1,19 @@
+-- How large the numbers of an accepted plan get. Another width, unit or limit changes these values and nothing that cites the names.
+use Prim.Native.Nat.{ℕ, _*_, _^_}
+use Rattle.model.specs.Refusal.{maxBlocks}
+use Rattle.model.specs.Replication.{unit}
+
+-- The bytes of the widest popularity of any version, and what every popularity is below.
+abbrev pub widestPopularity : ℕ
+widestPopularity = 3
+
+abbrev pub popularityBound : ℕ
+popularityBound = 256 ^ widestPopularity
+
+-- What every share is below: a whole popularity in units.
+abbrev pub shareBound : ℕ
+shareBound = popularityBound * unit
+
+-- What every load is below: a share of every block.
+abbrev pub loadBound : ℕ
+loadBound = shareBound * maxBlocks
