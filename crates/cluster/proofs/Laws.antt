@@ -1,0 +1,125 @@
+-- The numbers of a valid plan are in range, and its blocks' words give back what was put into them.
+-- Assumes nothing.
+use mathlib.Core.Path.{_≡_, ap, sym, _∙_}
+use mathlib.Core.List.{List}
+use Prim.Native.Nat.{ℕ, _*_, _+_, _/_, _%_, _≤_, _<_}
+use native.Mathlib.Nat.{le-trans}
+use native.Mathlib.Omega.{arith}
+use lib.ListN.{getD}
+use Rattle.model.specs.Plan.{Plan, machines, maxReplicas, blockCount, blockOf, upper}
+use Rattle.model.specs.Replication.{FeasibleCounts, share}
+use Rattle.model.specs.Placement.{Feasible, shareOf}
+use Rattle.theory.specs.Accepted.{ValidBlock, Valid}
+use Rattle.theory.proofs.Shares.{upper-max, count-range}
+use Rattle.theory.proofs.Held.{share-held}
+use Rattle.cluster.specs.declared.Cluster.{Cluster}
+use Rattle.cluster.specs.Cluster.{machinesIn, InRange, clusterOf, ClusterOf}
+use Rattle.cluster.specs.Blocks.{popularityIn, leastIn, spreadAsked, mostIn, shareIn, countIn, spreadIn, demandOf, profileOf, DemandsOf, ProfilesOf}
+
+-- ── ClusterOf ──────────────────────────────────────────────────────────────────────────────────────────────────────────
+
+pub clusterOf-range : (p : Plan) → Valid p → InRange (clusterOf p)
+clusterOf-range p valid =
+    let s = valid .shaped in
+    record {
+      racks-pos = s .racks-pos;
+      size-pos = s .size-pos;
+      machines-max = s .machines-max;
+      capacity-max = s .capacity-max;
+      blocks-max = s .blocks-max;
+    }
+
+module _ (p : Plan) (c : Cluster) (of : ClusterOf p c) where
+  pub cluster-range : InRange c
+  cluster-range = rw (of .is) (clusterOf-range p (of .valid))
+
+  pub cluster-racks : c .racks ≡ p .racks
+  cluster-racks = ap (λ (k : Cluster). k .racks) (of .is)
+
+  pub cluster-size : c .«rack_size» ≡ p .rackSize
+  cluster-size = ap (λ (k : Cluster). k .«rack_size») (of .is)
+
+  pub cluster-capacity : c .capacity ≡ p .capacity
+  cluster-capacity = ap (λ (k : Cluster). k .capacity) (of .is)
+
+  pub cluster-blocks : c .blocks ≡ blockCount p
+  cluster-blocks = ap (λ (k : Cluster). k .blocks) (of .is)
+
+  pub cluster-machines : machinesIn c ≡ machines p
+  cluster-machines = ap machinesIn (of .is)
+
+  pub cluster-block : (i : ℕ) → i < c .blocks → ValidBlock p i
+  cluster-block i l = of .valid .shaped .block i (rw (cluster-blocks) at l)
+
+-- ── demandOf ───────────────────────────────────────────────────────────────────────────────────────────────────────────
+
+-- the numbers of a valid block fit eight bits each
+eight : (n k : ℕ) → n ≤ k → k ≤ maxReplicas → n < 256
+eight n k l m = omega arith
+
+module _ (p : Plan) (i : ℕ) (b : ValidBlock p i) where
+  least-narrow : blockOf p i .minReplicas < 256
+  least-narrow = eight _ _ (b .min-upper) (upper-max p i)
+
+  spread-narrow : blockOf p i .minRacks < 256
+  spread-narrow = eight _ _ (le-trans (b .racks-min) (b .min-upper)) (upper-max p i)
+
+  most-narrow : upper p i < 256
+  most-narrow = eight _ _ (upper-max p i) (omega arith)
+
+  pub demandOf-popularity : popularityIn (demandOf p i) ≡ blockOf p i .popularity
+  unfolding demandOf
+  demandOf-popularity = let l = least-narrow in let s = spread-narrow in let m = most-narrow in omega arith
+
+  pub demandOf-least : leastIn (demandOf p i) ≡ blockOf p i .minReplicas
+  unfolding demandOf
+  demandOf-least = let l = least-narrow in let s = spread-narrow in let m = most-narrow in omega arith
+
+  pub demandOf-spread : spreadAsked (demandOf p i) ≡ blockOf p i .minRacks
+  unfolding demandOf
+  demandOf-spread = let s = spread-narrow in let m = most-narrow in omega arith
+
+  pub demandOf-most : mostIn (demandOf p i) ≡ upper p i
+  unfolding demandOf
+  demandOf-most = let m = most-narrow in omega arith
+
+-- ── profileOf ──────────────────────────────────────────────────────────────────────────────────────────────────────────
+
+module _ (p : Plan) (count : ℕ → ℕ) (i : ℕ) (b : ValidBlock p i) (few : count i ≤ maxReplicas) where
+  pub profileOf-share : shareIn (profileOf p count i) ≡ share (blockOf p i .popularity) (count i)
+  unfolding profileOf
+  profileOf-share = let s = spread-narrow p i b in omega arith
+
+  pub profileOf-count : countIn (profileOf p count i) ≡ count i
+  unfolding profileOf
+  profileOf-count = let s = spread-narrow p i b in omega arith
+
+  pub profileOf-spread : spreadIn (profileOf p count i) ≡ blockOf p i .minRacks
+  unfolding profileOf
+  profileOf-spread = let s = spread-narrow p i b in omega arith
+
+-- ── ProfilesOf ─────────────────────────────────────────────────────────────────────────────────────────────────────────
+
+module _ (p : Plan) (count : ℕ → ℕ) (c : Cluster) (profiles : List ℕ) (of : ProfilesOf p count c profiles)
+    (counts : FeasibleCounts p count) (i : ℕ) (l : i < c .blocks) where
+  in-plan : i < blockCount p
+  in-plan = rw (cluster-blocks p c (of .cluster)) at l
+
+  count-few : count i ≤ maxReplicas
+  count-few = count-range p count (of .cluster .valid .shaped) counts i in-plan .1
+
+  pub profiles-share : shareIn (getD profiles i 0) ≡ share (blockOf p i .popularity) (count i)
+  profiles-share = rw (of .are i l) (profileOf-share p count i (cluster-block p c (of .cluster) i l) count-few)
+
+  pub profiles-count : countIn (getD profiles i 0) ≡ count i
+  profiles-count = rw (of .are i l) (profileOf-count p count i (cluster-block p c (of .cluster) i l) count-few)
+
+  pub profiles-spread : spreadIn (getD profiles i 0) ≡ blockOf p i .minRacks
+  profiles-spread = rw (of .are i l) (profileOf-spread p count i (cluster-block p c (of .cluster) i l) count-few)
+
+-- in a placement with these counts the shares are those of its blocks
+pub profiles-shareOf : (p : Plan) (count : ℕ → ℕ) (c : Cluster) (profiles words : List ℕ) → ProfilesOf p count c profiles
+    → Feasible p count words → (i : ℕ) → i < c .blocks → shareIn (getD profiles i 0) ≡ shareOf p words i
+profiles-shareOf p count c profiles words of feasible i l =
+    profiles-share p count c profiles of (feasible .counts) i l
+    ∙ share-held p count words feasible i (rw (cluster-blocks p c (of .cluster)) at l)

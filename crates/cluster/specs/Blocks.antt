@@ -1,0 +1,76 @@
+-- A block's numbers in one word: what the plan demands of it, and its profile once its count is chosen. A further number of a
+-- block is a field more here, and no function between the reader and the search gets another parameter.
+use mathlib.Core.Path.{_≡_}
+use mathlib.Core.List.{List}
+use Prim.Native.Nat.{ℕ, _+_, _*_, _/_, _%_, _<_, _≤_}
+use lib.ListN.{length, getD}
+use Rattle.model.specs.Plan.{Plan, maxReplicas, blockCount, blockOf, upper}
+use Rattle.model.specs.Replication.{share}
+use Rattle.theory.specs.Widths.{popularityBound, shareBound}
+use Rattle.cluster.specs.declared.Cluster.{Cluster}
+use Rattle.cluster.specs.Cluster.{InRange, ClusterOf}
+
+-- A demand: the popularity, the least copies, the spread and the upper count, the last three in eight bits each.
+abbrev pub demandWord : ℕ → ℕ → ℕ → ℕ → ℕ
+demandWord popularity least spread most = ((popularity * 256 + least) * 256 + spread) * 256 + most
+
+abbrev pub popularityIn : ℕ → ℕ
+popularityIn demand = demand / 16777216
+
+abbrev pub leastIn : ℕ → ℕ
+leastIn demand = demand / 65536 % 256
+
+abbrev pub spreadAsked : ℕ → ℕ
+spreadAsked demand = demand / 256 % 256
+
+abbrev pub mostIn : ℕ → ℕ
+mostIn demand = demand % 256
+
+-- A profile: the share of a copy, the count and the spread, the last two in eight bits each.
+abbrev pub profileWord : ℕ → ℕ → ℕ → ℕ
+profileWord share count spread = (share * 256 + count) * 256 + spread
+
+abbrev pub shareIn : ℕ → ℕ
+shareIn profile = profile / 65536
+
+abbrev pub countIn : ℕ → ℕ
+countIn profile = profile / 256 % 256
+
+abbrev pub spreadIn : ℕ → ℕ
+spreadIn profile = profile % 256
+
+-- Block i of plan p: its demand, and its profile at given counts.
+unfoldable pub demandOf : Plan → ℕ → ℕ
+demandOf p i = demandWord (blockOf p i .popularity) (blockOf p i .minReplicas) (blockOf p i .minRacks) (upper p i)
+
+unfoldable pub profileOf : Plan → (ℕ → ℕ) → ℕ → ℕ
+profileOf p count i = profileWord (share (blockOf p i .popularity) (count i)) (count i) (blockOf p i .minRacks)
+
+-- One demand in its ranges.
+pub record DemandInRange (demand : ℕ) : Type 0 where
+  pub popularity-narrow : popularityIn demand < popularityBound
+  pub least-pos : 1 ≤ leastIn demand
+  pub least-most : leastIn demand ≤ mostIn demand
+  pub most-max : mostIn demand ≤ maxReplicas
+
+-- These demands have room and range.
+pub record DemandsFit (c : Cluster) (demands : List ℕ) : Type 0 where
+  pub in-range : InRange c
+  pub room : c .blocks ≤ length demands
+  pub each : (i : ℕ) → i < c .blocks → DemandInRange (getD demands i 0)
+
+-- They hold the numbers of plan p.
+pub record DemandsOf (p : Plan) (c : Cluster) (demands : List ℕ) : Type 0 where
+  pub cluster : ClusterOf p c
+  pub are : (i : ℕ) → i < c .blocks → getD demands i 0 ≡ demandOf p i
+
+-- These profiles have room and range.
+pub record ProfilesFit (c : Cluster) (profiles : List ℕ) : Type 0 where
+  pub in-range : InRange c
+  pub room : c .blocks ≤ length profiles
+  pub narrow : (i : ℕ) → i < c .blocks → shareIn (getD profiles i 0) < shareBound
+
+-- They hold the numbers of plan p at these counts.
+pub record ProfilesOf (p : Plan) (count : ℕ → ℕ) (c : Cluster) (profiles : List ℕ) : Type 0 where
+  pub cluster : ClusterOf p c
+  pub are : (i : ℕ) → i < c .blocks → getD profiles i 0 ≡ profileOf p count i
