@@ -1,53 +1,37 @@
 -- What steps over the words are given and say, in the model's terms.
 use mathlib.Core.Path.{_≡_}
 use mathlib.Core.List.{List}
-use Prim.Native.Nat.{ℕ, _*_, _<_, _≤_, _^_}
-use lib.ListN.{length, getD}
-use Rattle.model.specs.Plan.{Plan, blockCount, blockOf}
-use Rattle.model.specs.Refusal.{maxMachines, maxBlocks}
-use Rattle.model.specs.Placement.{held, Feasible, shareOf}
+use Prim.Native.Nat.{ℕ, _<_}
+use lib.ListN.{length}
+use Rattle.model.specs.Plan.{Plan}
+use Rattle.model.specs.Refusal.{maxMachines}
+use Rattle.model.specs.Placement.{held}
 use Rattle.model.specs.Steps.{nextStep, after, Run}
-use Rattle.theory.specs.Accepted.{Valid}
-use Rattle.ranking.specs.Ranks.{Ranked, Placed}
-use Rattle.search.specs.Scene.{stepOf}
+use Rattle.cluster.specs.declared.Cluster.{Cluster}
+use Rattle.cluster.specs.Blocks.{PlacementFits}
+use Rattle.loads.specs.declared.Loads.{Loads}
+use Rattle.loads.specs.Loads.{LoadsOf}
+use Rattle.index.specs.Index.{Ordered}
+use Rattle.search.specs.Scene.{stepOf, Found}
 use Rattle.search.specs.declared.Step.{Step}
 use Rattle.search.specs.declared.Step.the-variants.{Rest, Move, Swap, RackMove, RackSwap}
 use Rattle.balance.specs.declared.Ran.{Ran}
 
--- The numbers in their ranges, and room for the blocks.
-pub record StandAsked (words shares spreads : List ℕ) (racks size blocks : ℕ) : Type 0 where
-  pub racks-pos : 1 ≤ racks
-  pub size-pos : 1 ≤ size
-  pub few : racks * size ≤ maxMachines
-  pub blocks-max : blocks ≤ maxBlocks
-  pub word-room : blocks ≤ length words
-  pub share-room : blocks ≤ length shares
-  pub spread-room : blocks ≤ length spreads
-  pub share-narrow : (i : ℕ) → i < blocks → getD shares i 0 < 2 ^ 34
+-- A placement with its loads and copies.
+pub record StepAsked (c : Cluster) (words profiles : List ℕ) (loads : Loads) : Type 0 where
+  pub fits : PlacementFits c words profiles
+  pub loads-of : LoadsOf c words profiles (loads .load) (loads .copies)
 
--- These, with the blocks by rising share and their ranks.
-pub record RankedAsked (words shares spreads keys places : List ℕ) (racks size blocks : ℕ) : Type 0 where
-  pub asked : StandAsked words shares spreads racks size blocks
-  pub ranked : Ranked shares blocks keys
-  pub placed : Placed shares blocks keys places
-
--- A feasible placement of plan p, with its blocks' shares and spreads.
-pub record Standing (p : Plan) (words shares spreads : List ℕ) (racks size capacity blocks : ℕ) : Type 0 where
-  pub valid : Valid p
-  pub count : ℕ → ℕ
-  pub feasible : Feasible p count words
-  pub racks-is : racks ≡ p .racks
-  pub size-is : size ≡ p .rackSize
-  pub capacity-is : capacity ≡ p .capacity
-  pub blocks-is : blocks ≡ blockCount p
-  pub shares-are : (i : ℕ) → i < blocks → getD shares i 0 ≡ shareOf p words i
-  pub spreads-are : (i : ℕ) → i < blocks → getD spreads i 0 ≡ blockOf p i .minRacks
+-- With an index that has its blocks in order.
+pub record OrderedAsked (c : Cluster) (words profiles index : List ℕ) (loads : Loads) : Type 0 where
+  pub asked : StepAsked c words profiles loads
+  pub ordered : Ordered c profiles index
 
 -- A copy that can be shifted: m holds block i and n does not.
 pub record ShiftAsked (words : List ℕ) (m n i : ℕ) : Type 0 where
   pub word-in : i < length words
-  pub m-small : m < maxMachines
-  pub n-small : n < maxMachines
+  pub m-max : m < maxMachines
+  pub n-max : n < maxMachines
   pub holds : held words m i ≡ 1
   pub lacks : held words n i ≡ 0
 
@@ -58,6 +42,19 @@ TakeAsked words (Move m n i) = ShiftAsked words m n i
 TakeAsked words (Swap m n i j) = ShiftAsked words m n i × ShiftAsked words n m j
 TakeAsked words (RackMove m n i) = ShiftAsked words m n i
 TakeAsked words (RackSwap m n i j) = ShiftAsked words m n i × ShiftAsked words n m j
+
+-- A step that was found at some placement with these loads.
+pub record FollowAsked (profiles : List ℕ) (loads : Loads) (step : Step) : Type 0 where
+  pub cluster : Cluster
+  pub words : List ℕ
+  pub asked : StepAsked cluster words profiles loads
+  pub found : Found cluster words step
+
+-- The loads and copies after it, at every such placement.
+abbrev pub Followed : List ℕ → Loads → Step → Loads → Type 0
+Followed profiles loads step r =
+    (c : Cluster) (words : List ℕ) → StepAsked c words profiles loads → Found c words step
+    → LoadsOf c (after words (stepOf step)) profiles (r .load) (r .copies)
 
 -- The next step, taken.
 pub record Stepped (p : Plan) (words later : List ℕ) (r : Step) : Type 0 where

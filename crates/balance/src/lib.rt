@@ -1,12 +1,16 @@
-// Steps over the words of a placement: the next one, one taken, a run of them.
+// Steps over the words of a placement: the next one, one taken, a run of them. The loads follow each step.
+use cluster::Cluster;
+use loads::Loads;
 use search::Step;
-use transfers::Grid;
 ghost use mathlib.Core.Path.{_≡_};
 ghost use mathlib.Core.Bool.{not};
+ghost use Prim.Native.Nat.{ℕ};
 ghost use Rattle.model.specs.Plan.{Plan};
 ghost use Rattle.model.specs.Steps.{isStep, nextStep, afterMove, after, run};
-ghost use Rattle.search.specs.Scene.{Found, stepOf};
-ghost use Rattle.balance.specs.Standing.{StandAsked, RankedAsked, Standing, ShiftAsked, TakeAsked, Stepped, ranOf};
+ghost use Rattle.cluster.specs.Blocks.{PlacementOf};
+ghost use Rattle.index.specs.Index.{Ordered};
+ghost use Rattle.search.specs.Scene.{NextFound, stepOf};
+ghost use Rattle.balance.specs.Standing.{StepAsked, OrderedAsked, ShiftAsked, TakeAsked, FollowAsked, Followed, Stepped, ranOf};
 
 // How a run ended, and the number of steps taken.
 pub struct Ran {
@@ -14,35 +18,16 @@ pub struct Ran {
     pub steps: u32,
 }
 
-// The next step, not taken; `keys` has the blocks by rising share, `places` each block's rank there.
-fn look(
-    words: &[u64],
-    shares: &[u64],
-    spreads: &[u8],
-    keys: &[u64],
-    places: &[u64],
-    grid: Grid,
-) -> Step
-    requires { ⌜ RankedAsked (now words) (now shares) (now spreads) (now keys) (now places) (grid .racks) (grid .size) (grid .blocks) ⌝ }
-    ensures { λ r. ⌜ ((p : Plan) → Standing p (now (words .entry)) (now (shares .entry)) (now (spreads .entry)) (grid .racks) (grid .size) (grid .capacity) (grid .blocks)
-        → stepOf r ≡ nextStep p (now (words .entry))) × Found (now (words .entry)) (grid .racks) (grid .size) (grid .blocks) r ⌝ }
+// The next step, not taken; the index is made anew from the words.
+fn look(words: &[u64], profiles: &[u64], index: &mut [u64], loads: Loads, cluster: Cluster) -> Step
+    requires { ⌜ OrderedAsked cluster (now words) (now profiles) (now index) loads ⌝ }
+    ensures { λ r. ⌜ NextFound cluster (now (words .entry)) (now (profiles .entry)) r
+        × Ordered cluster (now (profiles .entry)) (now (index .exit)) ⌝ }
 {
-    let census = census::take(words, shares, places, grid.blocks);
-    let on = census.on;
-    let by = census.by;
-    let loads = census.loads;
-    let used = census.used;
-    search::find(
-        words,
-        shares,
-        spreads,
-        &on[..],
-        &by[..],
-        keys,
-        &loads[..],
-        &used[..],
-        grid,
-    )
+    index::fill(index, words, cluster);
+    let load = loads.load;
+    let copies = loads.copies;
+    search::find(words, profiles, index, &load[..], &copies[..], cluster)
 }
 
 // The copy of block i on m passes to n.
@@ -73,47 +58,24 @@ fn take_step(words: &mut [u64], step: Step)
     }
 }
 
-// Takes the next step, or leaves the words as they are at rest.
-fn step_ranked(
-    words: &mut [u64],
-    shares: &[u64],
-    spreads: &[u8],
-    keys: &[u64],
-    places: &[u64],
-    grid: Grid,
-) -> Step
-    requires { ⌜ RankedAsked (now words) (now shares) (now spreads) (now keys) (now places) (grid .racks) (grid .size) (grid .blocks) ⌝ }
-    ensures { λ r. ⌜ ((p : Plan) → Standing p (now (words .entry)) (now (shares .entry)) (now (spreads .entry)) (grid .racks) (grid .size) (grid .capacity) (grid .blocks)
-        → Stepped p (now (words .entry)) (now (words .exit)) r) ⌝ }
+// The loads and copies after a step that was found.
+fn loads_after(loads: Loads, profiles: &[u64], step: Step) -> Loads
+    requires { ⌜ FollowAsked (now profiles) loads step ⌝ }
+    ensures { λ r. ⌜ Followed (now (profiles .entry)) loads step r ⌝ }
 {
-    let step = look(words, shares, spreads, keys, places, grid);
-    take_step(words, step);
-    step
-}
-
-// Takes the next step, or leaves the words as they are at rest.
-pub fn step_words(
-    words: &mut [u64],
-    shares: &[u64],
-    spreads: &[u8],
-    racks: usize,
-    rack_size: usize,
-    capacity: u64,
-    blocks: usize,
-) -> Step
-    requires { ⌜ StandAsked (now words) (now shares) (now spreads) racks «rack_size» blocks ⌝ }
-    ensures { λ r. ⌜ ((p : Plan) → Standing p (now (words .entry)) (now (shares .entry)) (now (spreads .entry)) racks «rack_size» capacity blocks
-        → Stepped p (now (words .entry)) (now (words .exit)) r) ⌝ }
-{
-    let keys = ranking::rank(shares, blocks);
-    let places = ranking::places(&keys[..], blocks);
-    let grid = Grid {
-        racks,
-        size: rack_size,
-        capacity,
-        blocks,
-    };
-    step_ranked(words, shares, spreads, &keys[..], &places[..], grid)
+    match step {
+        Step::Rest => loads,
+        Step::Move { m, n, i } => loads::shift(loads, m, n, cluster::share_of(profiles[i])),
+        Step::Swap { m, n, i, j } => {
+            let given = loads::shift(loads, m, n, cluster::share_of(profiles[i]));
+            loads::shift(given, n, m, cluster::share_of(profiles[j]))
+        }
+        Step::RackMove { m, n, i } => loads::shift(loads, m, n, cluster::share_of(profiles[i])),
+        Step::RackSwap { m, n, i, j } => {
+            let given = loads::shift(loads, m, n, cluster::share_of(profiles[i]));
+            loads::shift(given, n, m, cluster::share_of(profiles[j]))
+        }
+    }
 }
 
 fn is_rest(step: Step) -> bool
@@ -139,59 +101,57 @@ fn is_rest(step: Step) -> bool
 }
 
 // Takes next steps until rest or until the step limit is used; at the end of the limit it looks whether a step is left.
-fn run_ranked(
+fn run_ordered(
     words: &mut [u64],
-    shares: &[u64],
-    spreads: &[u8],
-    keys: &[u64],
-    places: &[u64],
-    grid: Grid,
+    profiles: &[u64],
+    index: &mut [u64],
+    start: Loads,
+    cluster: Cluster,
     limit: u32,
 ) -> Ran
-    requires { ⌜ RankedAsked (now words) (now shares) (now spreads) (now keys) (now places) (grid .racks) (grid .size) (grid .blocks) ⌝ }
-    ensures { λ r. ⌜ ((p : Plan) → Standing p (now (words .entry)) (now (shares .entry)) (now (spreads .entry)) (grid .racks) (grid .size) (grid .capacity) (grid .blocks)
+    requires { ⌜ OrderedAsked cluster (now words) (now profiles) (now index) start ⌝ }
+    ensures { λ r. ⌜ ((p : Plan) (count : ℕ → ℕ) → PlacementOf p count cluster (now (words .entry)) (now (profiles .entry))
         → ranOf r (now (words .exit)) ≡ run p limit (now (words .entry))) ⌝ }
 {
+    let mut loads = start;
     let mut steps: u32 = 0;
     while steps < limit {
-        let step = step_ranked(words, shares, spreads, keys, places, grid);
+        let step = look(words, profiles, index, loads, cluster);
         if is_rest(step) {
             return Ran {
                 rested: true,
                 steps,
             };
         }
+        loads = loads_after(loads, profiles, step);
+        take_step(words, step);
         steps += 1;
     }
-    let step = look(words, shares, spreads, keys, places, grid);
+    let step = look(words, profiles, index, loads, cluster);
     Ran {
         rested: is_rest(step),
         steps,
     }
 }
 
+// Takes the next step, or leaves the words as they are at rest.
+pub fn step(words: &mut [u64], profiles: &[u64], loads: Loads, cluster: Cluster) -> Step
+    requires { ⌜ StepAsked cluster (now words) (now profiles) loads ⌝ }
+    ensures { λ r. ⌜ ((p : Plan) (count : ℕ → ℕ) → PlacementOf p count cluster (now (words .entry)) (now (profiles .entry))
+        → Stepped p (now (words .entry)) (now (words .exit)) r) ⌝ }
+{
+    let mut index = index::start(profiles, cluster);
+    let step = look(words, profiles, &mut index[..], loads, cluster);
+    take_step(words, step);
+    step
+}
+
 // Takes next steps until rest or until the step limit is used. Shares never change, so their order is made once.
-pub fn run_words(
-    words: &mut [u64],
-    shares: &[u64],
-    spreads: &[u8],
-    racks: usize,
-    rack_size: usize,
-    capacity: u64,
-    blocks: usize,
-    limit: u32,
-) -> Ran
-    requires { ⌜ StandAsked (now words) (now shares) (now spreads) racks «rack_size» blocks ⌝ }
-    ensures { λ r. ⌜ ((p : Plan) → Standing p (now (words .entry)) (now (shares .entry)) (now (spreads .entry)) racks «rack_size» capacity blocks
+pub fn run(words: &mut [u64], profiles: &[u64], loads: Loads, cluster: Cluster, limit: u32) -> Ran
+    requires { ⌜ StepAsked cluster (now words) (now profiles) loads ⌝ }
+    ensures { λ r. ⌜ ((p : Plan) (count : ℕ → ℕ) → PlacementOf p count cluster (now (words .entry)) (now (profiles .entry))
         → ranOf r (now (words .exit)) ≡ run p limit (now (words .entry))) ⌝ }
 {
-    let keys = ranking::rank(shares, blocks);
-    let places = ranking::places(&keys[..], blocks);
-    let grid = Grid {
-        racks,
-        size: rack_size,
-        capacity,
-        blocks,
-    };
-    run_ranked(words, shares, spreads, &keys[..], &places[..], grid, limit)
+    let mut index = index::start(profiles, cluster);
+    run_ordered(words, profiles, &mut index[..], loads, cluster, limit)
 }

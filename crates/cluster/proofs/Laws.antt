@@ -8,13 +8,13 @@ use native.Mathlib.Omega.{arith}
 use lib.ListN.{getD}
 use Rattle.model.specs.Plan.{Plan, machines, maxReplicas, blockCount, blockOf, upper}
 use Rattle.model.specs.Replication.{FeasibleCounts, share}
-use Rattle.model.specs.Placement.{Feasible, shareOf}
+use Rattle.model.specs.Placement.{shareOf}
 use Rattle.theory.specs.Accepted.{ValidBlock, Valid}
 use Rattle.theory.proofs.Shares.{upper-max, count-range}
 use Rattle.theory.proofs.Held.{share-held}
 use Rattle.cluster.specs.declared.Cluster.{Cluster}
 use Rattle.cluster.specs.Cluster.{machinesIn, InRange, clusterOf, ClusterOf}
-use Rattle.cluster.specs.Blocks.{popularityIn, leastIn, spreadAsked, mostIn, shareIn, countIn, spreadIn, demandOf, profileOf, DemandsOf, ProfilesOf}
+use Rattle.cluster.specs.Blocks.{popularityIn, leastIn, spreadAsked, mostIn, shareIn, countIn, spreadIn, demandOf, profileOf, ProfilesOf, PlacementOf}
 
 -- ── ClusterOf ──────────────────────────────────────────────────────────────────────────────────────────────────────────
 
@@ -117,9 +117,22 @@ module _ (p : Plan) (count : ℕ → ℕ) (c : Cluster) (profiles : List ℕ) (o
   pub profiles-spread : spreadIn (getD profiles i 0) ≡ blockOf p i .minRacks
   profiles-spread = rw (of .are i l) (profileOf-spread p count i (cluster-block p c (of .cluster) i l) count-few)
 
--- in a placement with these counts the shares are those of its blocks
-pub profiles-shareOf : (p : Plan) (count : ℕ → ℕ) (c : Cluster) (profiles words : List ℕ) → ProfilesOf p count c profiles
-    → Feasible p count words → (i : ℕ) → i < c .blocks → shareIn (getD profiles i 0) ≡ shareOf p words i
-profiles-shareOf p count c profiles words of feasible i l =
-    profiles-share p count c profiles of (feasible .counts) i l
-    ∙ share-held p count words feasible i (rw (cluster-blocks p c (of .cluster)) at l)
+-- ── PlacementOf ────────────────────────────────────────────────────────────────────────────────────────────────────────
+
+module _ (p : Plan) (count : ℕ → ℕ) (c : Cluster) (words profiles : List ℕ) (of : PlacementOf p count c words profiles)
+    (i : ℕ) (l : i < c .blocks) where
+  pub placement-block : i < blockCount p
+  placement-block = rw (cluster-blocks p c (of .profiles-of .cluster)) at l
+
+  pub placement-share : shareIn (getD profiles i 0) ≡ shareOf p words i
+  placement-share =
+      profiles-share p count c profiles (of .profiles-of) (of .feasible .counts) i l
+      ∙ share-held p count words (of .feasible) i placement-block
+
+  pub placement-spread : spreadIn (getD profiles i 0) ≡ blockOf p i .minRacks
+  placement-spread = profiles-spread p count c profiles (of .profiles-of) (of .feasible .counts) i l
+
+-- a machine of the cluster is one of the plan
+pub placement-machine : (p : Plan) (count : ℕ → ℕ) (c : Cluster) (words profiles : List ℕ) → PlacementOf p count c words profiles
+    → (m : ℕ) → m < machinesIn c → m < machines p
+placement-machine p count c words profiles of m l = rw (cluster-machines p c (of .profiles-of .cluster)) at l

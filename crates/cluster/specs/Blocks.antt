@@ -6,6 +6,7 @@ use Prim.Native.Nat.{ℕ, _+_, _*_, _/_, _%_, _<_, _≤_}
 use lib.ListN.{length, getD}
 use Rattle.model.specs.Plan.{Plan, maxReplicas, blockCount, blockOf, upper}
 use Rattle.model.specs.Replication.{share}
+use Rattle.model.specs.Placement.{Feasible}
 use Rattle.theory.specs.Widths.{popularityBound, shareBound}
 use Rattle.cluster.specs.declared.Cluster.{Cluster}
 use Rattle.cluster.specs.Cluster.{InRange, ClusterOf}
@@ -74,3 +75,13 @@ pub record ProfilesFit (c : Cluster) (profiles : List ℕ) : Type 0 where
 pub record ProfilesOf (p : Plan) (count : ℕ → ℕ) (c : Cluster) (profiles : List ℕ) : Type 0 where
   pub cluster : ClusterOf p c
   pub are : (i : ℕ) → i < c .blocks → getD profiles i 0 ≡ profileOf p count i
+
+-- A placement's words and its blocks' profiles have room and range.
+pub record PlacementFits (c : Cluster) (words profiles : List ℕ) : Type 0 where
+  pub profiles-fit : ProfilesFit c profiles
+  pub word-room : c .blocks ≤ length words
+
+-- They are those of a lawful placement of plan p at these counts.
+pub record PlacementOf (p : Plan) (count : ℕ → ℕ) (c : Cluster) (words profiles : List ℕ) : Type 0 where
+  pub profiles-of : ProfilesOf p count c profiles
+  pub feasible : Feasible p count words

@@ -1,23 +1,61 @@
-// The fixed header of a plan file: its fields, and the checks 1 to 7.
+// The fixed header of a plan file: its fields, and the checks 1 to 7; the format that its version gives.
+use cluster::Cluster;
+use cluster::MAX_BLOCKS;
+use cluster::MAX_MACHINES;
 ghost use mathlib.Core.Path.{_≡_};
 ghost use Prim.Native.Nat.{ℕ, _+_, _<_, _≤_, _^_};
 ghost use lib.ListN.{length};
-ghost use Rattle.model.specs.Plan.{field, headerLength};
-ghost use Rattle.model.specs.Refusal.{orElse, check4, check5, check6, check7};
+ghost use Rattle.model.specs.Plan.{field, commonLength, formatOf, recordAt};
+ghost use Rattle.model.specs.Refusal.{orElse, maxBlocks, check4, check5, check6, check7};
+ghost use Rattle.header.specs.Format.{asFormat, FormatFits};
 ghost use Rattle.header.specs.Header.{headerIn, Narrow, MarkChecked, HeaderChecked};
 
-// The header's fields. `blocks` is the number of blocks B.
+// The bytes that every version's header has, the mark, and the most copies that a machine can be said to hold.
+const COMMON_LENGTH: usize = 15;
+
+const MARK: usize = 0x42504C;
+
+const MAX_CAPACITY: usize = 1024;
+
+// The header's fields: the version, R, S, C and B, and the budget.
 pub struct Header {
-    pub racks: usize,
-    pub rack_size: usize,
-    pub capacity: usize,
+    pub version: usize,
+    pub cluster: Cluster,
     pub budget: usize,
-    pub blocks: usize,
+}
+
+// The header's length and the widths of a record's fields, which stand one after the other.
+pub struct Format {
+    pub header_length: usize,
+    pub popularity_width: usize,
+    pub min_replicas_width: usize,
+    pub min_racks_width: usize,
 }
 
 pub enum HeaderAnswer {
     Refused(u8),
     Passed(Header),
+}
+
+// The format of a version's file.
+pub fn format_of(version: usize) -> Format
+    ensures { λ r. ⌜ (asFormat r ≡ formatOf version) × FormatFits (asFormat r) ⌝ }
+{
+    Format {
+        header_length: COMMON_LENGTH,
+        popularity_width: 3,
+        min_replicas_width: 1,
+        min_racks_width: 1,
+    }
+}
+
+// Where record i stands.
+pub fn record_at(format: Format, i: usize) -> usize
+    requires { ⌜ FormatFits (asFormat format) × (i ≤ maxBlocks) ⌝ }
+    ensures { λ r. ⌜ (r ≡ recordAt (asFormat format) i) × (r ≤ 8192) ⌝ }
+{
+    let record = format.popularity_width + format.min_replicas_width + format.min_racks_width;
+    format.header_length + record * i
 }
 
 fn wide(x: u8) -> usize
@@ -44,10 +82,10 @@ pub fn field_at(bytes: &[u8], at: usize, width: usize) -> usize
 fn mark_refusal(bytes: &[u8]) -> u8
     ensures { λ r. ⌜ MarkChecked (now (bytes .entry)) r ⌝ }
 {
-    if bytes.len() < 15 {
+    if bytes.len() < COMMON_LENGTH {
         return 1;
     }
-    if field_at(bytes, 0, 3) != 0x42504C {
+    if field_at(bytes, 0, 3) != MARK {
         return 2;
     }
     if field_at(bytes, 3, 2) != 1 {
@@ -67,41 +105,45 @@ fn rack_refusal(racks: usize, rack_size: usize) -> u8
     if rack_size == 0 {
         return 4;
     }
-    if racks * rack_size > 64 {
+    if racks * rack_size > MAX_MACHINES {
         return 4;
     }
     0
 }
 
 // Checks 5 to 7; 0 where all pass.
-fn size_refusal(capacity: usize, blocks: usize, size: usize) -> u8
-    ensures { λ r. ⌜ ((later : ℕ) → check5 capacity (check6 blocks (check7 size blocks later)) ≡ orElse r later) ⌝ }
+fn size_refusal(version: usize, capacity: usize, blocks: usize, size: usize) -> u8
+    ensures { λ r. ⌜ ((later : ℕ) → check5 capacity (check6 blocks (check7 (formatOf version) size blocks later)) ≡ orElse r later) ⌝ }
 {
     if capacity == 0 {
         return 5;
     }
-    if capacity > 1024 {
+    if capacity > MAX_CAPACITY {
         return 5;
     }
-    if blocks > 1024 {
+    if blocks > MAX_BLOCKS {
         return 6;
     }
-    if size != 15 + 5 * blocks {
+    if size != record_at(format_of(version), blocks) {
         return 7;
     }
     0
 }
 
 fn fields(bytes: &[u8]) -> Header
-    requires { ⌜ headerLength ≤ length (now bytes) ⌝ }
+    requires { ⌜ commonLength ≤ length (now bytes) ⌝ }
     ensures { λ r. ⌜ (r ≡ headerIn (now (bytes .entry))) × Narrow r ⌝ }
 {
-    Header {
+    let cluster = Cluster {
         racks: field_at(bytes, 5, 1),
         rack_size: field_at(bytes, 6, 1),
         capacity: field_at(bytes, 7, 2),
-        budget: field_at(bytes, 9, 4),
         blocks: field_at(bytes, 13, 2),
+    };
+    Header {
+        version: field_at(bytes, 3, 2),
+        cluster,
+        budget: field_at(bytes, 9, 4),
     }
 }
 
@@ -114,11 +156,12 @@ pub fn read(bytes: &[u8]) -> HeaderAnswer
         return HeaderAnswer::Refused(marked);
     }
     let h = fields(bytes);
-    let racked = rack_refusal(h.racks, h.rack_size);
+    let cluster = h.cluster;
+    let racked = rack_refusal(cluster.racks, cluster.rack_size);
     if racked != 0 {
         return HeaderAnswer::Refused(racked);
     }
-    let sized = size_refusal(h.capacity, h.blocks, bytes.len());
+    let sized = size_refusal(h.version, cluster.capacity, cluster.blocks, bytes.len());
     if sized != 0 {
         return HeaderAnswer::Refused(sized);
     }

@@ -1,27 +1,29 @@
 -- What the reader's answers say, in the model's terms.
 use mathlib.Core.Path.{_≡_}
 use mathlib.Core.List.{List}
-use Prim.Native.Nat.{ℕ, _*_, _<_, _≤_, _^_}
+use Prim.Native.Nat.{ℕ, _+_, _<_, _≤_}
 use lib.ListN.{length}
 use Rattle.order.specs.Table.{table, filled}
-use Rattle.model.specs.Plan.{Plan, blockCount, blockOf, domains, upper, minTotal, recordAt, blockIn, blockCountIn, planIn}
-use Rattle.model.specs.Refusal.{blocksRefusal, maxMachines, maxCapacity, maxBlocks, Verdict, refused, accepted}
-use Rattle.theory.specs.Accepted.{Valid}
+use Rattle.model.specs.Plan.{Plan, blockOf, minTotal, Format, formatOf, recordLength, recordAt, blockIn, planIn}
+use Rattle.model.specs.Refusal.{blocksRefusal, maxBlocks, Verdict, refused, accepted, judge}
+use Rattle.cluster.specs.Cluster.{InRange, ClusterOf}
+use Rattle.cluster.specs.Blocks.{demandOf, DemandsFit}
 use Rattle.header.specs.declared.Header.{Header}
+use Rattle.header.specs.Format.{FormatFits}
 use Rattle.plan.specs.declared.Reading.{Reading}
 use Rattle.plan.specs.declared.Reading.the-variants.{Refused, Accepted}
-use Rattle.plan.specs.declared.Scan.{Scan}
-use Rattle.plan.specs.declared.Scan.the-variants.{Fault, Total}
+use Rattle.plan.specs.declared.Records.{Records}
+use Rattle.plan.specs.declared.Records.the-variants.{Fault, Total}
 
 -- The plan with a header's fields and the records of the bytes.
 unfoldable pub planOf : List ℕ → Header → Plan
 planOf bytes h =
     record {
-      racks = h .racks;
-      rackSize = h .«rack_size»;
-      capacity = h .capacity;
+      racks = h .cluster .racks;
+      rackSize = h .cluster .«rack_size»;
+      capacity = h .cluster .capacity;
       budget = h .budget;
-      blocks = table (h .blocks) (blockIn bytes);
+      blocks = table (h .cluster .blocks) (blockIn (formatOf (h .version)) bytes);
     }
 
 -- The reader's answer on these bytes, as the model's verdict.
@@ -29,13 +31,11 @@ unfoldable pub verdictOf : List ℕ → Reading → Verdict
 verdictOf bytes (Refused code) = refused code
 verdictOf bytes (Accepted h) = accepted (planOf bytes h)
 
--- What the pass over the records is given: the limits of rows 8 and 9, and as many records as the bytes hold.
-pub record ScanAsked (bytes : List ℕ) (most racks blocks : ℕ) : Type 0 where
-  pub most-is : (i : ℕ) → most ≡ upper (planIn bytes) i
-  pub racks-is : racks ≡ domains (planIn bytes)
-  pub blocks-is : blocks ≡ blockCountIn bytes
-  pub blocks-max : blocks ≤ maxBlocks
-  pub length-is : length bytes ≡ recordAt blocks
+-- Record i lies in the bytes.
+pub record RecordIn (bytes : List ℕ) (f : Format) (i : ℕ) : Type 0 where
+  pub fits : FormatFits f
+  pub below : i < maxBlocks
+  pub room : recordAt f i + recordLength f ≤ length bytes
 
 pub record FaultAs (bytes : List ℕ) (code : ℕ) : Type 0 where
   pub is : blocksRefusal (planIn bytes) ≡ code
@@ -45,32 +45,23 @@ pub record TotalAs (bytes : List ℕ) (total : ℕ) : Type 0 where
   pub none : blocksRefusal (planIn bytes) ≡ 0
   pub is : total ≡ minTotal (planIn bytes)
 
-abbrev pub Scanned : List ℕ → Scan → Type 0
-Scanned bytes (Fault code) = FaultAs bytes code
-Scanned bytes (Total total) = TotalAs bytes total
+-- What the pass over the records finds.
+abbrev pub RecordsRead : List ℕ → Records → Type 0
+RecordsRead bytes (Fault code) = FaultAs bytes code
+RecordsRead bytes (Total total) = TotalAs bytes total
 
--- What taking the records apart is given: room for each field of B records that lie in the bytes.
-pub record DecodeAsked (bytes : List ℕ) (blocks : ℕ) (popularities least spreads : List ℕ) : Type 0 where
-  pub length-is : length bytes ≡ recordAt blocks
-  pub popularity-room : blocks ≤ length popularities
-  pub least-room : blocks ≤ length least
-  pub spread-room : blocks ≤ length spreads
+-- What taking the records apart is given: an accepted plan's bytes with its header, and room for its demands.
+pub record DecodeAsked (bytes : List ℕ) (h : Header) (demands : List ℕ) : Type 0 where
+  pub accepts : judge bytes ≡ accepted (planOf bytes h)
+  pub room : h .cluster .blocks ≤ length demands
 
--- Each list holds a field of the records, its later items as they were; and a popularity has three bytes.
-pub record Decoded (bytes : List ℕ) (blocks : ℕ) (popularities₀ least₀ spreads₀ popularities least spreads : List ℕ) : Type 0 where
-  pub popularity-is : popularities ≡ filled blocks (λ i. blockIn bytes i .popularity) popularities₀
-  pub least-is : least ≡ filled blocks (λ i. blockIn bytes i .minReplicas) least₀
-  pub spread-is : spreads ≡ filled blocks (λ i. blockIn bytes i .minRacks) spreads₀
-  pub narrow : (i : ℕ) → i < blocks → blockIn bytes i .popularity < 2 ^ 24
+-- The demands of the plan's blocks, in their ranges; later items stay.
+pub record Decoded (bytes : List ℕ) (h : Header) (demands₀ demands : List ℕ) : Type 0 where
+  pub are : demands ≡ filled (h .cluster .blocks) (demandOf (planOf bytes h)) demands₀
+  pub fit : DemandsFit (h .cluster) demands
 
 -- What holds of a header that was accepted with its bytes.
 pub record AcceptedHeader (bytes : List ℕ) (h : Header) : Type 0 where
-  pub valid : Valid (planOf bytes h)
-  pub racks-pos : 1 ≤ h .racks
-  pub size-pos : 1 ≤ h .«rack_size»
-  pub machines-max : h .racks * h .«rack_size» ≤ maxMachines
-  pub capacity-max : h .capacity ≤ maxCapacity
-  pub blocks-max : h .blocks ≤ maxBlocks
-  pub blocks-is : blockCount (planOf bytes h) ≡ h .blocks
-  pub block-is : (i : ℕ) → i < h .blocks → blockOf (planOf bytes h) i ≡ blockIn bytes i
-  pub length-is : length bytes ≡ recordAt (h .blocks)
+  pub cluster-of : ClusterOf (planOf bytes h) (h .cluster)
+  pub block-is : (i : ℕ) → i < h .cluster .blocks → blockOf (planOf bytes h) i ≡ blockIn (formatOf (h .version)) bytes i
+  pub length-is : length bytes ≡ recordAt (formatOf (h .version)) (h .cluster .blocks)

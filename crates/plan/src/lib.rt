@@ -1,13 +1,19 @@
 // A plan file, judged: checks 1 to 11 on any bytes, and the records of an accepted plan.
+use header::Format;
 use header::Header;
 use header::HeaderAnswer;
 ghost use mathlib.Core.Path.{_≡_};
-ghost use Prim.Native.Nat.{ℕ, _+_, _<_, _≤_, _^_, min};
-ghost use lib.ListN.{length};
-ghost use Rattle.model.specs.Plan.{recordAt, blockIn, recordLength, maxReplicas};
+ghost use Prim.Native.Nat.{_<_};
+ghost use Rattle.model.specs.Plan.{blockIn, upper};
 ghost use Rattle.model.specs.Refusal.{check8, check9, judge};
+ghost use Rattle.theory.specs.Widths.{popularityBound};
+ghost use Rattle.cluster.specs.Cluster.{InRange};
+ghost use Rattle.header.specs.Format.{asFormat};
 ghost use Rattle.header.specs.Header.{PassedAs};
-ghost use Rattle.plan.specs.Reading.{verdictOf, ScanAsked, Scanned, DecodeAsked, Decoded};
+ghost use Rattle.plan.specs.Reading.{planOf, verdictOf, RecordIn, RecordsRead, DecodeAsked, Decoded};
+
+// The most copies of a block.
+const MAX_REPLICAS: usize = 8;
 
 // What a plan's bytes are: refused with its number, or accepted with the header's fields.
 pub enum Reading {
@@ -16,43 +22,49 @@ pub enum Reading {
 }
 
 // What a pass over the records finds: a refusal, or the sum of the least copies.
-enum Scan {
+enum Records {
     Fault(u8),
     Total(usize),
 }
 
 // The popularity of block i.
-pub fn popularity(bytes: &[u8], i: usize) -> u64
-    requires { ⌜ recordAt i + recordLength ≤ length (now bytes) ⌝ }
-    ensures { λ r. ⌜ (r ≡ blockIn (now (bytes .entry)) i .popularity) × (r < 2 ^ 24) ⌝ }
+fn popularity(bytes: &[u8], format: Format, i: usize) -> u64
+    requires { ⌜ RecordIn (now bytes) (asFormat format) i ⌝ }
+    ensures { λ r. ⌜ (r ≡ blockIn (asFormat format) (now (bytes .entry)) i .popularity) × (r < popularityBound) ⌝ }
 {
-    header::field_at(bytes, 15 + 5 * i, 3) as u64
+    let at = header::record_at(format, i);
+    header::field_at(bytes, at, format.popularity_width) as u64
 }
 
 // The least copies of block i.
-pub fn min_replicas(bytes: &[u8], i: usize) -> usize
-    requires { ⌜ recordAt i + recordLength ≤ length (now bytes) ⌝ }
-    ensures { λ r. ⌜ (r ≡ blockIn (now (bytes .entry)) i .minReplicas) × (r < 2 ^ 8) ⌝ }
+fn min_replicas(bytes: &[u8], format: Format, i: usize) -> usize
+    requires { ⌜ RecordIn (now bytes) (asFormat format) i ⌝ }
+    ensures { λ r. ⌜ (r ≡ blockIn (asFormat format) (now (bytes .entry)) i .minReplicas) × (r < 256) ⌝ }
 {
-    header::field_at(bytes, 15 + 5 * i + 3, 1)
+    let at = header::record_at(format, i) + format.popularity_width;
+    header::field_at(bytes, at, format.min_replicas_width)
 }
 
 // The spread of block i.
-pub fn min_racks(bytes: &[u8], i: usize) -> usize
-    requires { ⌜ recordAt i + recordLength ≤ length (now bytes) ⌝ }
-    ensures { λ r. ⌜ (r ≡ blockIn (now (bytes .entry)) i .minRacks) × (r < 2 ^ 8) ⌝ }
+fn min_racks(bytes: &[u8], format: Format, i: usize) -> usize
+    requires { ⌜ RecordIn (now bytes) (asFormat format) i ⌝ }
+    ensures { λ r. ⌜ (r ≡ blockIn (asFormat format) (now (bytes .entry)) i .minRacks) × (r < 256) ⌝ }
 {
-    header::field_at(bytes, 15 + 5 * i + 4, 1)
+    let at = header::record_at(format, i) + format.popularity_width + format.min_replicas_width;
+    header::field_at(bytes, at, format.min_racks_width)
 }
 
-// The smaller of 8 and the number of machines.
-pub fn most_replicas(machines: usize) -> usize
-    ensures { λ r. ⌜ r ≡ min maxReplicas machines ⌝ }
+// The upper count of block i: the smaller of 8 and the number of machines.
+fn upper_count(bytes: &[u8], h: Header, i: usize) -> usize
+    requires { ⌜ InRange (h .cluster) ⌝ }
+    ensures { λ r. ⌜ (r ≡ upper (planOf (now (bytes .entry)) h) i) × (r < 256) ⌝ }
 {
-    if machines < 8 {
+    let cluster = h.cluster;
+    let machines = cluster.machines();
+    if machines < MAX_REPLICAS {
         return machines;
     }
-    8
+    MAX_REPLICAS
 }
 
 // Checks 8 and 9 of one block; 0 where both pass.
@@ -78,22 +90,25 @@ fn block_refusal(most: usize, racks: usize, least: usize, spread: usize) -> u8
 }
 
 // Checks 8 and 9 block by block, and the sum of the least copies, in one pass over the records.
-fn scan_records(bytes: &[u8], most: usize, racks: usize, blocks: usize) -> Scan
-    requires { ⌜ ScanAsked (now bytes) most racks blocks ⌝ }
-    ensures { λ r. ⌜ Scanned (now (bytes .entry)) r ⌝ }
+fn scan_records(bytes: &[u8], h: Header) -> Records
+    requires { ⌜ PassedAs (now bytes) h ⌝ }
+    ensures { λ r. ⌜ RecordsRead (now (bytes .entry)) r ⌝ }
 {
+    let format = header::format_of(h.version);
+    let cluster = h.cluster;
     let mut total: usize = 0;
     let mut i: usize = 0;
-    while i < blocks {
-        let least = min_replicas(bytes, i);
-        let code = block_refusal(most, racks, least, min_racks(bytes, i));
+    while i < cluster.blocks {
+        let least = min_replicas(bytes, format, i);
+        let spread = min_racks(bytes, format, i);
+        let code = block_refusal(upper_count(bytes, h, i), cluster.racks, least, spread);
         if code != 0 {
-            return Scan::Fault(code);
+            return Records::Fault(code);
         }
         total += least;
         i += 1;
     }
-    Scan::Total(total)
+    Records::Total(total)
 }
 
 // Checks 8 to 11, for a header that passed checks 1 to 7.
@@ -101,15 +116,15 @@ fn judge_records(bytes: &[u8], h: Header) -> Reading
     requires { ⌜ PassedAs (now bytes) h ⌝ }
     ensures { λ r. ⌜ verdictOf (now (bytes .entry)) r ≡ judge (now (bytes .entry)) ⌝ }
 {
-    let machines = h.racks * h.rack_size;
-    let scanned = scan_records(bytes, most_replicas(machines), h.racks, h.blocks);
+    let cluster = h.cluster;
+    let scanned = scan_records(bytes, h);
     match scanned {
-        Scan::Fault(code) => Reading::Refused(code),
-        Scan::Total(total) => {
+        Records::Fault(code) => Reading::Refused(code),
+        Records::Total(total) => {
             if h.budget < total {
                 return Reading::Refused(10);
             }
-            if machines * h.capacity < total {
+            if cluster.machines() * cluster.capacity < total {
                 return Reading::Refused(11);
             }
             Reading::Accepted(h)
@@ -128,23 +143,21 @@ pub fn read(bytes: &[u8]) -> Reading
     }
 }
 
-// The records of an accepted plan, taken apart into one list for each field; later items stay.
-pub fn decode(
-    bytes: &[u8],
-    blocks: usize,
-    popularities: &mut [u64],
-    least: &mut [u8],
-    spreads: &mut [u8],
-)
-    requires { ⌜ DecodeAsked (now bytes) blocks (now popularities) (now least) (now spreads) ⌝ }
-    ensures { λ r. ⌜ Decoded (now (bytes .entry)) blocks (now (popularities .entry)) (now (least .entry)) (now (spreads .entry))
-        (now (popularities .exit)) (now (least .exit)) (now (spreads .exit)) ⌝ }
+// The records of an accepted plan, taken apart into a demand for each block; later items stay.
+pub fn decode(bytes: &[u8], h: Header, demands: &mut [u64])
+    requires { ⌜ DecodeAsked (now bytes) h (now demands) ⌝ }
+    ensures { λ r. ⌜ Decoded (now (bytes .entry)) h (now (demands .entry)) (now (demands .exit)) ⌝ }
 {
+    let format = header::format_of(h.version);
+    let cluster = h.cluster;
     let mut i: usize = 0;
-    while i < blocks {
-        popularities[i] = popularity(bytes, i);
-        least[i] = min_replicas(bytes, i) as u8;
-        spreads[i] = min_racks(bytes, i) as u8;
+    while i < cluster.blocks {
+        demands[i] = cluster::demand(
+            popularity(bytes, format, i),
+            min_replicas(bytes, format, i),
+            min_racks(bytes, format, i),
+            upper_count(bytes, h, i),
+        );
         i += 1;
     }
 }

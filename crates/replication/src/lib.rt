@@ -1,29 +1,35 @@
 // Replication factors: how many copies each block gets, and the share of a read that each copy serves.
+use cluster::Cluster;
 ghost use mathlib.Core.Path.{_≡_};
-ghost use Prim.Native.Nat.{_<_, _≤_, _^_};
-ghost use Rattle.model.specs.Plan.{Plan, blockOf};
-ghost use Rattle.model.specs.Replication.{share, largestShare, reachable, figure, chosen};
-ghost use Rattle.replication.specs.Choice.{NeedAsked, NeedOf, Ranges, Fields, ChooseAsked, FillAsked, Laid};
+ghost use Prim.Native.Nat.{_<_, _≤_};
+ghost use Rattle.model.specs.Plan.{Plan, maxReplicas, blockOf};
+ghost use Rattle.model.specs.Replication.{share, largestShare, reachable, figure};
+ghost use Rattle.theory.specs.Widths.{popularityBound, shareBound};
+ghost use Rattle.cluster.specs.Blocks.{DemandsFit, DemandsOf};
+ghost use Rattle.replication.specs.Choice.{NeedAsked, NeedOf, LimitedDemands, ChooseAsked, FillAsked, ChosenProfiles, ChosenAs};
 
-// The quotients of 840 by 1 to 8.
+// The units in a read, and its quotients by 1 to 8.
+const UNIT: u64 = 840;
+
 const QUOTIENTS: [u64; 8] = [840, 420, 280, 210, 168, 140, 120, 105];
 
-// The share of a copy of a block that has `count` of them, in 840ths of a read.
-pub fn share_of(popularity: u64, count: usize) -> u64
-    requires { ⌜ (popularity < 2 ^ 24) × (1 ≤ count) × (count ≤ 8) ⌝ }
-    ensures { λ r. ⌜ (r ≡ share popularity count) × (r < 2 ^ 34) ⌝ }
+// The share of a copy of a block that has `count` of them, in units.
+fn share_at(popularity: u64, count: usize) -> u64
+    requires { ⌜ (popularity < popularityBound) × (1 ≤ count) × (count ≤ maxReplicas) ⌝ }
+    ensures { λ r. ⌜ (r ≡ share popularity count) × (r < shareBound) ⌝ }
 {
     popularity * QUOTIENTS[count - 1]
 }
 
-// The least count from `from` to `most` whose share is within the figure, `most` + 1 where there is none. A share is within the
-// figure where popularity × 840 is at most figure × count.
-fn needed(popularity: u64, from: usize, most: usize, figure: u64) -> usize
-    requires { ⌜ NeedAsked popularity from most figure ⌝ }
-    ensures { λ r. ⌜ NeedOf popularity from most figure r ⌝ }
+// The least count from the least copies to the upper count whose share is within the figure, one more than the upper count where
+// there is none. A share is within the figure where the popularity in units is at most figure × count.
+fn needed(demand: u64, figure: u64) -> usize
+    requires { ⌜ NeedAsked demand figure ⌝ }
+    ensures { λ r. ⌜ NeedOf demand figure r ⌝ }
 {
-    let reads = popularity * 840;
-    let mut k = from;
+    let reads = cluster::popularity_of(demand) * UNIT;
+    let most = cluster::most_of(demand);
+    let mut k = cluster::least_of(demand);
     while k <= most {
         if reads <= figure * (k as u64) {
             return k;
@@ -34,22 +40,15 @@ fn needed(popularity: u64, from: usize, most: usize, figure: u64) -> usize
 }
 
 // Whether feasible counts keep every share within the figure.
-fn reaches(
-    popularities: &[u64],
-    least: &[u8],
-    most: usize,
-    limit: usize,
-    blocks: usize,
-    wanted: u64,
-) -> bool
-    requires { ⌜ Ranges (now popularities) (now least) most blocks × (wanted < 2 ^ 34) ⌝ }
-    ensures { λ r. ⌜ ((p : Plan) → Fields p (now (popularities .entry)) (now (least .entry)) most limit blocks → r ≡ reachable p wanted) ⌝ }
+fn reaches(demands: &[u64], limit: usize, cluster: Cluster, wanted: u64) -> bool
+    requires { ⌜ DemandsFit cluster (now demands) × (wanted < shareBound) ⌝ }
+    ensures { λ r. ⌜ ((p : Plan) → LimitedDemands p cluster (now (demands .entry)) limit → r ≡ reachable p wanted) ⌝ }
 {
     let mut total: usize = 0;
     let mut i: usize = 0;
-    while i < blocks {
-        let count = needed(popularities[i], least[i] as usize, most, wanted);
-        if count > most {
+    while i < cluster.blocks {
+        let count = needed(demands[i], wanted);
+        if count > cluster::most_of(demands[i]) {
             return false;
         }
         total += count;
@@ -62,15 +61,18 @@ fn reaches(
 }
 
 // The largest share at the least copies.
-fn top_share(popularities: &[u64], least: &[u8], most: usize, limit: usize, blocks: usize) -> u64
-    requires { ⌜ Ranges (now popularities) (now least) most blocks ⌝ }
-    ensures { λ r. ⌜ ((p : Plan) → Fields p (now (popularities .entry)) (now (least .entry)) most limit blocks
-        → r ≡ largestShare p (λ i. blockOf p i .minReplicas)) × (r < 2 ^ 34) ⌝ }
+fn top_share(demands: &[u64], cluster: Cluster) -> u64
+    requires { ⌜ DemandsFit cluster (now demands) ⌝ }
+    ensures { λ r. ⌜ ((p : Plan) → DemandsOf p cluster (now (demands .entry)) → r ≡ largestShare p (λ i. blockOf p i .minReplicas))
+        × (r < shareBound) ⌝ }
 {
     let mut top: u64 = 0;
     let mut i: usize = 0;
-    while i < blocks {
-        let share = share_of(popularities[i], least[i] as usize);
+    while i < cluster.blocks {
+        let share = share_at(
+            cluster::popularity_of(demands[i]),
+            cluster::least_of(demands[i]),
+        );
         if top < share {
             top = share;
         }
@@ -80,16 +82,15 @@ fn top_share(popularities: &[u64], least: &[u8], most: usize, limit: usize, bloc
 }
 
 // The least figure that feasible counts reach, by bisection.
-fn best_figure(popularities: &[u64], least: &[u8], most: usize, limit: usize, blocks: usize) -> u64
-    requires { ⌜ Ranges (now popularities) (now least) most blocks ⌝ }
-    ensures { λ r. ⌜ ((p : Plan) → Fields p (now (popularities .entry)) (now (least .entry)) most limit blocks → r ≡ figure p)
-        × (r < 2 ^ 34) ⌝ }
+fn best_figure(demands: &[u64], limit: usize, cluster: Cluster) -> u64
+    requires { ⌜ DemandsFit cluster (now demands) ⌝ }
+    ensures { λ r. ⌜ ((p : Plan) → LimitedDemands p cluster (now (demands .entry)) limit → r ≡ figure p) × (r < shareBound) ⌝ }
 {
     let mut low: u64 = 0;
-    let mut high = top_share(popularities, least, most, limit, blocks);
+    let mut high = top_share(demands, cluster);
     while low < high {
         let middle = low + (high - low) / 2;
-        if reaches(popularities, least, most, limit, blocks, middle) {
+        if reaches(demands, limit, cluster, middle) {
             high = middle;
         } else {
             low = middle + 1;
@@ -98,56 +99,29 @@ fn best_figure(popularities: &[u64], least: &[u8], most: usize, limit: usize, bl
     high
 }
 
-// The counts within the plan's figure, and their shares.
-fn fill(
-    popularities: &[u64],
-    least: &[u8],
-    most: usize,
-    limit: usize,
-    blocks: usize,
-    wanted: u64,
-    counts: &mut [u8],
-    shares: &mut [u64],
-)
-    requires { ⌜ FillAsked (now popularities) (now least) most limit blocks wanted (now counts) (now shares) ⌝ }
-    ensures { λ r. ⌜ ((p : Plan) → Fields p (now (popularities .entry)) (now (least .entry)) most limit blocks → wanted ≡ figure p
-        → Laid p (now (counts .entry)) (now (shares .entry)) (now (counts .exit)) (now (shares .exit))) ⌝ }
+// The profiles of the blocks at the counts within the plan's figure.
+fn fill(demands: &[u64], cluster: Cluster, wanted: u64, profiles: &mut [u64])
+    requires { ⌜ FillAsked cluster (now demands) wanted (now profiles) ⌝ }
+    ensures { λ r. ⌜ ((p : Plan) → DemandsOf p cluster (now (demands .entry)) → wanted ≡ figure p
+        → ChosenProfiles p cluster (now (profiles .entry)) (now (profiles .exit))) ⌝ }
 {
     let mut i: usize = 0;
-    while i < blocks {
-        let popularity = popularities[i];
-        let count = needed(popularity, least[i] as usize, most, wanted);
-        counts[i] = count as u8;
-        shares[i] = share_of(popularity, count);
+    while i < cluster.blocks {
+        let demand = demands[i];
+        let count = needed(demand, wanted);
+        let share = share_at(cluster::popularity_of(demand), count);
+        profiles[i] = cluster::profile(share, count, cluster::spread_asked(demand));
         i += 1;
     }
 }
 
-// The chosen counts and their shares, and the largest share, from the blocks' numbers.
-pub fn choose(
-    popularities: &[u64],
-    least: &[u8],
-    most: usize,
-    limit: usize,
-    blocks: usize,
-    counts: &mut [u8],
-    shares: &mut [u64],
-) -> u64
-    requires { ⌜ ChooseAsked (now popularities) (now least) most limit blocks (now counts) (now shares) ⌝ }
-    ensures { λ r. ⌜ ((p : Plan) → Fields p (now (popularities .entry)) (now (least .entry)) most limit blocks
-        → Laid p (now (counts .entry)) (now (shares .entry)) (now (counts .exit)) (now (shares .exit))
-        × (r ≡ largestShare p (chosen p))) ⌝ }
+// The profiles of the blocks at the chosen counts, and the largest share.
+pub fn choose(demands: &[u64], limit: usize, cluster: Cluster, profiles: &mut [u64]) -> u64
+    requires { ⌜ ChooseAsked cluster (now demands) limit (now profiles) ⌝ }
+    ensures { λ r. ⌜ ((p : Plan) → LimitedDemands p cluster (now (demands .entry)) limit
+        → ChosenAs p cluster (now (profiles .entry)) (now (profiles .exit)) r) ⌝ }
 {
-    let figure = best_figure(popularities, least, most, limit, blocks);
-    fill(
-        popularities,
-        least,
-        most,
-        limit,
-        blocks,
-        figure,
-        counts,
-        shares,
-    );
+    let figure = best_figure(demands, limit, cluster);
+    fill(demands, cluster, figure, profiles);
     figure
 }

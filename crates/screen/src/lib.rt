@@ -1,51 +1,56 @@
 // Cheap tests that rule out a pair of machines: over the blocks by rising share, no move or no exchange can lower m's load and
 // keep n's below it. They never rule out a pair that has a step, whatever the spreads.
+use cluster::Cluster;
+use index::BY_RANK;
+use index::KEYS_AT;
+use index::Pair;
 ghost use mathlib.Core.Path.{_≡_};
-ghost use Rattle.screen.specs.Screen.{ScreenAsked, NoMove, NoExchange, BlockAsked, BlockScanned, WordAsked, WordScanned};
+ghost use mathlib.Core.Bool.{Bool};
+ghost use Rattle.screen.specs.Screen.{ScreenAsked, NoMove, NoExchange, RuledOut, BlockAsked, BlockSwept, WordAsked, WordSwept};
 
 // The blocks passed by rising share: whether one of m's can be exchanged; n's largest share, and below which share of m's it or
 // the next smaller one can be returned (0 where there is none).
-struct Scan {
+struct Sweep {
     found: bool,
     top: u64,
     reach: u64,
     under: u64,
 }
 
-// No block of m's that n lacks has a share above 0 and below the gap.
-pub fn no_move(by: &[u64], keys: &[u64], m: usize, n: usize, gap: u64, blocks: usize) -> bool
-    requires { ⌜ ScreenAsked (now by) (now keys) m n gap blocks ⌝ }
-    ensures { λ r. ⌜ NoMove (now (by .entry)) (now (keys .entry)) m n gap blocks r ⌝ }
+// No block of m's that n lacks has a share above 0 and below the margin.
+fn no_move(index: &[u64], cluster: Cluster, pair: Pair) -> bool
+    requires { ⌜ ScreenAsked cluster (now index) pair ⌝ }
+    ensures { λ r. ⌜ (r ≡ Bool.true → NoMove cluster (now (index .entry)) pair) ⌝ }
 {
-    let mut k = candidates::next(by, m, n, 0, blocks);
-    while k < blocks {
-        let share = keys[k] / 1024;
+    let mut k = index::next(index, BY_RANK, pair.m, pair.n, 0, cluster);
+    while k < cluster.blocks {
+        let share = ranking::share_of(index[KEYS_AT + k]);
         if share != 0 {
-            return gap <= share;
+            return pair.margin <= share;
         }
-        k = candidates::next(by, m, n, k + 1, blocks);
+        k = index::next(index, BY_RANK, pair.m, pair.n, k + 1, cluster);
     }
     true
 }
 
 // One block more: m's own, to be exchanged for one passed before, or n's own.
-fn scan_block(scan: Scan, own: bool, share: u64, gap: u64) -> Scan
-    requires { ⌜ BlockAsked share gap ⌝ }
-    ensures { λ r. ⌜ BlockScanned scan own share gap r ⌝ }
+fn sweep_block(sweep: Sweep, own: bool, share: u64, margin: u64) -> Sweep
+    requires { ⌜ BlockAsked share margin ⌝ }
+    ensures { λ r. ⌜ BlockSwept sweep own share margin r ⌝ }
 {
-    let top = scan.top;
-    let reach = scan.reach;
-    let under = scan.under;
+    let top = sweep.top;
+    let reach = sweep.reach;
+    let under = sweep.under;
     if own {
         if top < share {
-            return Scan {
+            return Sweep {
                 found: share < reach,
                 top,
                 reach,
                 under,
             };
         }
-        return Scan {
+        return Sweep {
             found: share < under,
             top,
             reach,
@@ -53,59 +58,84 @@ fn scan_block(scan: Scan, own: bool, share: u64, gap: u64) -> Scan
         };
     }
     if top < share {
-        return Scan {
+        return Sweep {
             found: false,
             top: share,
-            reach: gap + share,
+            reach: margin + share,
             under: reach,
         };
     }
-    Scan {
+    Sweep {
         found: false,
         top,
-        reach: gap + share,
+        reach: margin + share,
         under,
     }
 }
 
 // The 64 blocks from rank `base` on that one of the machines has and the other lacks; a and b are the machines' bits.
-fn scan_word(a: u64, b: u64, keys: &[u64], base: usize, gap: u64, start: Scan) -> Scan
-    requires { ⌜ WordAsked (now keys) base gap ⌝ }
-    ensures { λ r. ⌜ WordScanned a b (now (keys .entry)) base gap start r ⌝ }
+fn sweep_word(a: u64, b: u64, index: &[u64], base: usize, margin: u64, start: Sweep) -> Sweep
+    requires { ⌜ WordAsked (now index) base margin ⌝ }
+    ensures { λ r. ⌜ WordSwept a b (now (index .entry)) base margin start r ⌝ }
 {
-    let mut scan = start;
+    let mut sweep = start;
     let mut rest = bits::differing(a, b);
     while rest != 0 {
         let t = bits::lowest(rest);
         let own = bits::bit_at(a, t) == 1;
-        scan = scan_block(scan, own, keys[base + t] / 1024, gap);
-        if scan.found {
-            return scan;
+        sweep = sweep_block(
+            sweep,
+            own,
+            ranking::share_of(index[KEYS_AT + base + t]),
+            margin,
+        );
+        if sweep.found {
+            return sweep;
         }
         rest = bits::without_bit(rest, t);
     }
-    scan
+    sweep
 }
 
-// No block of m's that n lacks has a share above that of one of n's that m lacks by less than the gap.
-pub fn no_exchange(by: &[u64], keys: &[u64], m: usize, n: usize, gap: u64, blocks: usize) -> bool
-    requires { ⌜ ScreenAsked (now by) (now keys) m n gap blocks ⌝ }
-    ensures { λ r. ⌜ NoExchange (now (by .entry)) (now (keys .entry)) m n gap blocks r ⌝ }
+// No block of m's that n lacks has a share above that of one of n's that m lacks by less than the margin.
+fn no_exchange(index: &[u64], cluster: Cluster, pair: Pair) -> bool
+    requires { ⌜ ScreenAsked cluster (now index) pair ⌝ }
+    ensures { λ r. ⌜ (r ≡ Bool.true → NoExchange cluster (now (index .entry)) pair) ⌝ }
 {
-    let mut scan = Scan {
+    let m = pair.m;
+    let n = pair.n;
+    let mut sweep = Sweep {
         found: false,
         top: 0,
         reach: 0,
         under: 0,
     };
     let mut base: usize = 0;
-    while base < blocks {
-        let at = base / 64;
-        scan = scan_word(by[m * 16 + at], by[n * 16 + at], keys, base, gap, scan);
-        if scan.found {
+    while base < cluster.blocks {
+        let at = BY_RANK + base / 64;
+        sweep = sweep_word(
+            index[at + m * 16],
+            index[at + n * 16],
+            index,
+            base,
+            pair.margin,
+            sweep,
+        );
+        if sweep.found {
             return false;
         }
         base += 64;
     }
     true
+}
+
+// Whether the shares rule out every move from m to n, or every exchange between them.
+pub fn rules_out(index: &[u64], cluster: Cluster, pair: Pair, swapping: bool) -> bool
+    requires { ⌜ ScreenAsked cluster (now index) pair ⌝ }
+    ensures { λ r. ⌜ (r ≡ Bool.true → RuledOut cluster (now (index .entry)) pair swapping) ⌝ }
+{
+    if swapping {
+        return no_exchange(index, cluster, pair);
+    }
+    no_move(index, cluster, pair)
 }

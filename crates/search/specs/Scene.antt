@@ -2,21 +2,21 @@
 use mathlib.Core.Path.{_≡_}
 use mathlib.Core.Bool.{Bool, true, false, not, cond, Bool·beq}
 use mathlib.Core.List.{List}
-use Prim.Native.Nat.{ℕ, _*_, _/_, _%_, _<_, _≤_, _^_}
+use Prim.Native.Nat.{ℕ, _*_, _/_, _%_, _<_, _≤_}
 use lib.Dec.{eqb, leb}
-use lib.ListN.{length, getD}
-use Rattle.model.specs.Plan.{Plan, machines, blockCount, blockOf}
-use Rattle.model.specs.Refusal.{maxMachines, maxBlocks}
-use Rattle.model.specs.Placement.{used, Feasible, shareOf, load}
+use Rattle.model.specs.Plan.{Plan, machines}
+use Rattle.model.specs.Refusal.{maxMachines}
 use Rattle.model.specs.Steps.{Step as ModelStep, none, move, swap, acrossRacks, first, nextStep}
-use Rattle.theory.specs.Accepted.{Valid}
-use Rattle.ranking.specs.Ranks.{Ranked}
-use Rattle.candidates.specs.Index.{Indexed}
-use Rattle.screen.specs.Screen.{RankIndexed}
+use Rattle.cluster.specs.declared.Cluster.{Cluster}
+use Rattle.cluster.specs.Cluster.{machinesIn}
+use Rattle.cluster.specs.Blocks.{PlacementFits, PlacementOf}
+use Rattle.loads.specs.Loads.{LoadsOf}
+use Rattle.index.specs.Index.{Indexed}
 use Rattle.transfers.specs.declared.Hit.{Hit}
-use Rattle.transfers.specs.Pair.{hitOf, pairStep, Shift, HitFound, PairAsked}
+use Rattle.transfers.specs.Pair.{hitOf, pairStep, Shift, HitFound}
 use Rattle.search.specs.declared.Step.{Step}
 use Rattle.search.specs.declared.Step.the-variants.{Rest, Move, Swap, RackMove, RackSwap}
+use Rattle.search.specs.declared.Row.{Row}
 
 -- The answer as the model's step.
 unfoldable pub stepOf : Step → ModelStep
@@ -27,54 +27,28 @@ stepOf (RackMove m n i) = move true m n i
 stepOf (RackSwap m n i j) = swap true m n i j
 
 -- What an answer names can be carried out: block i from m to n, and of an exchange block j from n to m.
-abbrev pub Found : List ℕ → ℕ → ℕ → ℕ → Step → Type 0
-Found words racks size blocks Rest = Unit
-Found words racks size blocks (Move m n i) = Shift words (racks * size) blocks m n i
-Found words racks size blocks (Swap m n i j) = Shift words (racks * size) blocks m n i × Shift words (racks * size) blocks n m j
-Found words racks size blocks (RackMove m n i) = Shift words (racks * size) blocks m n i
-Found words racks size blocks (RackSwap m n i j) = Shift words (racks * size) blocks m n i × Shift words (racks * size) blocks n m j
-
--- Ranges that a search needs.
-pub record Ranges (words shares spreads loads : List ℕ) (racks size blocks : ℕ) : Type 0 where
-  pub racks-pos : 1 ≤ racks
-  pub size-pos : 1 ≤ size
-  pub machines-max : racks * size ≤ maxMachines
-  pub blocks-max : blocks ≤ maxBlocks
-  pub word-room : blocks ≤ length words
-  pub share-room : blocks ≤ length shares
-  pub spread-room : blocks ≤ length spreads
-  pub share-narrow : (i : ℕ) → i < blocks → getD shares i 0 < 2 ^ 34
-  pub load-narrow : (m : ℕ) → m < maxMachines → getD loads m 0 < 2 ^ 45
-
--- The plan and the placement that the numbers are of.
-pub record SceneOf (p : Plan) (words shares spreads loads copies : List ℕ) (racks size capacity blocks : ℕ) : Type 0 where
-  pub valid : Valid p
-  pub count : ℕ → ℕ
-  pub feasible : Feasible p count words
-  pub racks-is : racks ≡ p .racks
-  pub size-is : size ≡ p .rackSize
-  pub capacity-is : capacity ≡ p .capacity
-  pub blocks-is : blocks ≡ blockCount p
-  pub shares-are : (i : ℕ) → i < blocks → getD shares i 0 ≡ shareOf p words i
-  pub spreads-are : (i : ℕ) → i < blocks → getD spreads i 0 ≡ blockOf p i .minRacks
-  pub loads-are : (m : ℕ) → m < machines p → getD loads m 0 ≡ load p words m
-  pub used-are : (m : ℕ) → m < machines p → getD copies m 0 ≡ used p words m
+abbrev pub Found : Cluster → List ℕ → Step → Type 0
+Found c words Rest = Unit
+Found c words (Move m n i) = Shift c words m n i
+Found c words (Swap m n i j) = Shift c words m n i × Shift c words n m j
+Found c words (RackMove m n i) = Shift c words m n i
+Found c words (RackSwap m n i j) = Shift c words m n i × Shift c words n m j
 
 -- The next step of the definition, which can be carried out.
-pub record NextOfAll (words shares spreads loads copies : List ℕ) (racks size capacity blocks : ℕ) (r : Step) : Type 0 where
-  pub sound : Found words racks size blocks r
-  pub is : (p : Plan) → SceneOf p words shares spreads loads copies racks size capacity blocks → stepOf r ≡ nextStep p words
+pub record NextFound (c : Cluster) (words profiles : List ℕ) (r : Step) : Type 0 where
+  pub sound : Found c words r
+  pub is : (p : Plan) (count : ℕ → ℕ) → PlacementOf p count c words profiles → stepOf r ≡ nextStep p words
 
 -- A find as an answer.
 pub record AnswerOf (hit : Hit) (across : Bool) (r : Step) : Type 0 where
   pub is : stepOf r ≡ hitOf across hit
-  pub sound : (words : List ℕ) (racks size blocks : ℕ) → HitFound words (racks * size) blocks hit → Found words racks size blocks r
+  pub sound : (c : Cluster) (words : List ℕ) → HitFound c words hit → Found c words r
 
 -- Whether n is of the kind: `low` is the first machine of m's rack.
 pub record KindAsked (low size : ℕ) : Type 0 where
   pub size-pos : 1 ≤ size
-  pub low-small : low < maxMachines
-  pub size-small : size ≤ maxMachines
+  pub low-max : low < maxMachines
+  pub size-max : size ≤ maxMachines
 
 abbrev pub OfKind : ℕ → ℕ → ℕ → Bool → Bool → Type 0
 OfKind low size n across r =
@@ -94,37 +68,30 @@ pairOf p words swapping across m n = cond (Bool·beq across (acrossRacks p m n))
 unfoldable pub rowOf : Plan → List ℕ → Bool → Bool → ℕ → ModelStep
 rowOf p words swapping across m = first (machines p) (pairOf p words swapping across m)
 
-unfoldable pub kindOf : Plan → List ℕ → Bool → Bool → ModelStep
-kindOf p words swapping across = first (machines p) (rowOf p words swapping across)
+unfoldable pub kindStep : Plan → List ℕ → Bool → Bool → ModelStep
+kindStep p words swapping across = first (machines p) (rowOf p words swapping across)
 
--- What the loops are given besides the ranges.
-pub record LoopAsked (words shares spreads on by keys loads copies : List ℕ) (racks size blocks : ℕ) : Type 0 where
-  pub ranges : Ranges words shares spreads loads racks size blocks
-  pub loads-sized : length loads ≡ maxMachines
-  pub copies-sized : length copies ≡ maxMachines
-  pub indexed : Indexed words blocks on
-  pub ranked : Ranked shares blocks keys
-  pub rank-indexed : RankIndexed words shares keys blocks by
+-- A placement with its index, its loads and its copies.
+pub record SearchAsked (c : Cluster) (words profiles index loads copies : List ℕ) : Type 0 where
+  pub fits : PlacementFits c words profiles
+  pub indexed : Indexed c words profiles index
+  pub loads-of : LoadsOf c words profiles loads copies
 
-pub record RowAsked (words shares spreads on by keys loads copies : List ℕ) (racks size blocks low m : ℕ) : Type 0 where
-  pub all : LoopAsked words shares spreads on by keys loads copies racks size blocks
-  pub m-below : m < racks * size
-  pub low-is : low ≡ m / size * size
+-- A machine of the cluster, and where its rack starts.
+pub record RowIn (c : Cluster) (row : Row) : Type 0 where
+  pub m-below : row .m < machinesIn c
+  pub low-is : row .low ≡ row .m / c .«rack_size» * c .«rack_size»
 
-pub record PairAt (words shares spreads on by keys loads copies : List ℕ) (racks size blocks low m n : ℕ) : Type 0 where
-  pub all : LoopAsked words shares spreads on by keys loads copies racks size blocks
-  pub m-below : m < racks * size
-  pub n-below : n < racks * size
-  pub low-is : low ≡ m / size * size
+pub record RowAsked (c : Cluster) (words profiles index loads copies : List ℕ) (row : Row) : Type 0 where
+  pub all : SearchAsked c words profiles index loads copies
+  pub row-in : RowIn c row
 
--- What a search at one pair is asked with, and the blocks by rising share.
-pub record PairRanked (words shares spreads on by keys : List ℕ) (racks size blocks : ℕ) (across : Bool) (m n gap : ℕ) : Type 0 where
-  pub asked : PairAsked words shares spreads on racks size blocks across m n gap
-  pub ranked : Ranked shares blocks keys
-  pub rank-indexed : RankIndexed words shares keys blocks by
+pub record PairAt (c : Cluster) (words profiles index loads copies : List ℕ) (row : Row) (n : ℕ) : Type 0 where
+  pub all : SearchAsked c words profiles index loads copies
+  pub row-in : RowIn c row
+  pub n-below : n < machinesIn c
 
 -- What a loop finds is what the definition's search finds.
-pub record HitIs (words shares spreads loads copies : List ℕ) (racks size capacity blocks : ℕ) (across : Bool)
-    (wanted : Plan → ModelStep) (r : Hit) : Type 0 where
-  pub sound : HitFound words (racks * size) blocks r
-  pub is : (p : Plan) → SceneOf p words shares spreads loads copies racks size capacity blocks → hitOf across r ≡ wanted p
+pub record HitIs (c : Cluster) (words profiles : List ℕ) (across : Bool) (wanted : Plan → ModelStep) (r : Hit) : Type 0 where
+  pub sound : HitFound c words r
+  pub is : (p : Plan) (count : ℕ → ℕ) → PlacementOf p count c words profiles → hitOf across r ≡ wanted p

@@ -94,8 +94,7 @@ module _ (p : Plan) (count : ℕ → ℕ) (words : List ℕ) (feasible : Feasibl
             on = on;
             off = off;
             room = z .0 .1;
-            positive = omega arith;
-            lower = omega arith;
+            lowers = (omega arith, omega arith);
             spread = rw (move-word words m n i on) at (later .0 .0 .spread i il);
           }
 
@@ -103,8 +102,8 @@ module _ (p : Plan) (count : ℕ → ℕ) (words : List ℕ) (feasible : Feasibl
       back s =
           let source = move-load-source p words m n i (s .on) (s .off) ml nl il in
           let target = move-load-target p words m n i (s .on) (s .off) ml nl il in
-          let positive = s .positive in
-          let lower = s .lower in
+          let positive = s .lowers .0 in
+          let lower = s .lowers .1 in
           let later = feasible-own p count (afterMove words m n i) (move-feasible s) in
           move-iff p words m n i .1 (
             ((s .on, s .off), s .room),
@@ -147,8 +146,7 @@ module _ (p : Plan) (count : ℕ → ℕ) (words : List ℕ) (feasible : Feasibl
             i-off = i-off;
             j-on = j-on;
             j-off = j-off;
-            gain = omega arith;
-            lower = omega arith;
+            lowers = (omega arith, omega arith);
             i-spread = rw (swap-word-i p words m n i j i-on i-off j-on j-off) at (later .0 .0 .spread i il);
             j-spread = rw (swap-word-j p words m n i j i-on i-off j-on j-off) at (later .0 .0 .spread j jl);
           }
@@ -157,8 +155,8 @@ module _ (p : Plan) (count : ℕ → ℕ) (words : List ℕ) (feasible : Feasibl
       back s =
           let source = swap-load-source p words m n i j (s .i-on) (s .i-off) (s .j-on) (s .j-off) ml nl il jl in
           let target = swap-load-target p words m n i j (s .i-on) (s .i-off) (s .j-on) (s .j-off) ml nl il jl in
-          let gain = s .gain in
-          let lower = s .lower in
+          let gain = s .lowers .0 in
+          let lower = s .lowers .1 in
           let later = feasible-own p count (afterSwap words m n i j) (swap-feasible s) in
           swap-iff p words m n i j .1 (
             (((s .i-on, s .j-off), s .j-on), s .i-off),

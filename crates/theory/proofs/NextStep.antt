@@ -203,7 +203,7 @@ module _ (p : Plan) (count : ℕ → ℕ) (words : List ℕ) (feasible : Feasibl
             no-gap (load p words m) (load p words n + shareOf p words i) (λ lower.
             refuted (rest-none p words .0 rest .no-move m n i ml nl il)
             (move-local p count words feasible m n i ml nl il .1
-            (record { on = on; off = off; room = room; positive = positive; lower = lower; spread = spread })));
+            (record { on = on; off = off; room = room; lowers = (positive, omega arith); spread = spread })));
         no-swap = λ m n i j ml nl il jl i-on i-off j-on j-off gain i-spread j-spread.
             no-gap (load p words m + shareOf p words j) (load p words n + shareOf p words i) (λ lower.
             refuted (rest-none p words .0 rest .no-swap m n i j ml nl il jl)
@@ -213,8 +213,7 @@ module _ (p : Plan) (count : ℕ → ℕ) (words : List ℕ) (feasible : Feasibl
               i-off = i-off;
               j-on = j-on;
               j-off = j-off;
-              gain = gain;
-              lower = lower;
+              lowers = (gain, lower);
               i-spread = i-spread;
               j-spread = j-spread;
             })));
@@ -232,12 +231,13 @@ module _ (p : Plan) (count : ℕ → ℕ) (words : List ℕ) (feasible : Feasibl
       (record {
         no-move = λ m n i ml nl il. not-so (canMove p words m n i) (λ t.
             let s = move-local p count words feasible m n i ml nl il .0 t in
-            omega (arith, settled .no-move m n i ml nl il (s .on) (s .off) (s .room) (s .positive) (s .spread)));
+            omega (arith, settled .no-move m n i ml nl il (s .on) (s .off) (s .room) (s .lowers .0) (s .spread), s .lowers .1));
         no-swap = λ m n i j ml nl il jl. not-so (canSwap p words m n i j) (λ t.
             let s = swap-local p count words feasible m n i j ml nl il jl .0 t in
             omega (
               arith,
-              settled .no-swap m n i j ml nl il jl (s .i-on) (s .i-off) (s .j-on) (s .j-off) (s .gain) (s .i-spread) (s .j-spread),
+              settled .no-swap m n i j ml nl il jl (s .i-on) (s .i-off) (s .j-on) (s .j-off) (s .lowers .0) (s .i-spread) (s .j-spread),
+              s .lowers .1,
             ));
       })
 

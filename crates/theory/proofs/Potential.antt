@@ -22,10 +22,10 @@ module _ (p : Plan) (words : List ℕ) (m n i : ℕ) (ml : m < machines p) (nl :
   move-lowers s =
       let source = move-load-source p words m n i (s .on) (s .off) ml nl il in
       let target = move-load-target p words m n i (s .on) (s .off) ml nl il in
-      let lower = s .lower in
+      let lower = s .lowers .1 in
       squares-fall (machines p) m n (shareOf p words i) (load p words) (load p (afterMove words m n i)) ml nl
       (bit-apart (wordOf words i) m n (s .on) (s .off)) source target
-      (λ k l am an. move-load-else p words m n i (s .on) (s .off) ml nl il k am an) (s .positive) (omega arith)
+      (λ k l am an. move-load-else p words m n i (s .on) (s .off) ml nl il k am an) (s .lowers .0) (omega arith)
 
   pub swap-lowers : (j : ℕ) → j < blockCount p → LocalSwap p words m n i j
       → potential p (afterSwap words m n i j) + 2 ≤ potential p words
@@ -33,8 +33,8 @@ module _ (p : Plan) (words : List ℕ) (m n i : ℕ) (ml : m < machines p) (nl :
   swap-lowers j jl s =
       let source = swap-load-source p words m n i j (s .i-on) (s .i-off) (s .j-on) (s .j-off) ml nl il jl in
       let target = swap-load-target p words m n i j (s .i-on) (s .i-off) (s .j-on) (s .j-off) ml nl il jl in
-      let gain = s .gain in
-      let lower = s .lower in
+      let gain = s .lowers .0 in
+      let lower = s .lowers .1 in
       squares-fall (machines p) m n (shareOf p words i - shareOf p words j) (load p words) (load p (afterSwap words m n i j)) ml nl
       (bit-apart (wordOf words i) m n (s .i-on) (s .i-off)) (omega arith) (omega arith)
       (λ k l am an. swap-load-else p words m n i j (s .i-on) (s .i-off) (s .j-on) (s .j-off) ml nl il jl k am an)

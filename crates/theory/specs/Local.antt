@@ -7,13 +7,16 @@ use Rattle.model.specs.Plan.{Plan, machines, blockCount, blockOf}
 use Rattle.model.specs.Placement.{wordOf, held, domainsUsed, used, shareOf, load}
 use Rattle.model.specs.Steps.{Step, none, move, swap, shifted, after, canMove, canSwap, isStep, nextStep, AtRest, Run}
 
+-- With the share `given` passed from m to n and `back` returned, m has less load than before and n less than m had.
+abbrev pub Lowers : Plan → List ℕ → ℕ → ℕ → ℕ → ℕ → Type 0
+Lowers p words m n given back = (back < given) × (load p words n + given < load p words m + back)
+
 -- Move(m, i, n), told by loads, copies and the block's word before it.
 pub record LocalMove (p : Plan) (words : List ℕ) (m n i : ℕ) : Type 0 where
   pub on : held words m i ≡ 1
   pub off : held words n i ≡ 0
   pub room : used p words n < p .capacity
-  pub positive : 0 < shareOf p words i
-  pub lower : load p words n + shareOf p words i < load p words m
+  pub lowers : Lowers p words m n (shareOf p words i) 0
   pub spread : blockOf p i .minRacks ≤ domainsUsed p (shifted (wordOf words i) m n)
 
 -- Swap(m, i, n, j), likewise.
@@ -22,8 +25,7 @@ pub record LocalSwap (p : Plan) (words : List ℕ) (m n i j : ℕ) : Type 0 wher
   pub i-off : held words n i ≡ 0
   pub j-on : held words n j ≡ 1
   pub j-off : held words m j ≡ 0
-  pub gain : shareOf p words j < shareOf p words i
-  pub lower : load p words n + shareOf p words i < load p words m + shareOf p words j
+  pub lowers : Lowers p words m n (shareOf p words i) (shareOf p words j)
   pub i-spread : blockOf p i .minRacks ≤ domainsUsed p (shifted (wordOf words i) m n)
   pub j-spread : blockOf p j .minRacks ≤ domainsUsed p (shifted (wordOf words j) n m)
 

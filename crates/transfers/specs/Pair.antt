@@ -3,15 +3,19 @@ use mathlib.Core.Path.{_≡_}
 use mathlib.Core.Bool.{Bool, true, false, not, cond}
 use mathlib.Core.List.{List}
 use mathlib.Core.Logic.{_↔_}
-use Prim.Native.Nat.{ℕ, _+_, _*_, _/_, _<_, _≤_, _^_}
+use Prim.Native.Nat.{ℕ, _+_, _/_, _<_, _≤_}
 use lib.Dec.{eqb}
-use lib.ListN.{length, getD}
+use lib.ListN.{getD}
 use Rattle.model.specs.Plan.{Plan, blockCount, blockOf}
-use Rattle.model.specs.Refusal.{maxMachines, maxBlocks}
-use Rattle.model.specs.Placement.{bit, wordOf, held, domainsUsed, used, Feasible, shareOf, load}
+use Rattle.model.specs.Placement.{bit, wordOf, held, domainsUsed, used, shareOf}
 use Rattle.model.specs.Steps.{Step, none, move, swap, shifted, canMove, canSwap, first}
-use Rattle.theory.specs.Accepted.{Shaped, Valid}
-use Rattle.candidates.specs.Index.{Indexed}
+use Rattle.theory.specs.Widths.{shareBound, loadBound}
+use Rattle.theory.specs.Local.{Lowers}
+use Rattle.cluster.specs.declared.Cluster.{Cluster}
+use Rattle.cluster.specs.Cluster.{machinesIn, InRange, ClusterOf}
+use Rattle.cluster.specs.Blocks.{shareIn, spreadIn, PlacementFits, PlacementOf}
+use Rattle.index.specs.declared.Pair.{Pair}
+use Rattle.index.specs.Index.{Indexed}
 use Rattle.transfers.specs.declared.Hit.{Hit}
 use Rattle.transfers.specs.declared.Hit.the-variants.{Nothing, Move, Swap}
 
@@ -27,131 +31,117 @@ pairStep p words false across m n = first (blockCount p) (λ i. cond (canMove p 
 pairStep p words true across m n =
     first (blockCount p) (λ i. first (blockCount p) (λ j. cond (canSwap p words m n i j) (swap across m n i j) none))
 
+-- The same at block i alone.
+unfoldable pub blockStep : Plan → List ℕ → Bool → Bool → ℕ → ℕ → ℕ → Step
+blockStep p words false across m n i = cond (canMove p words m n i) (move across m n i) none
+blockStep p words true across m n i = first (blockCount p) (λ j. cond (canSwap p words m n i j) (swap across m n i j) none)
+
 -- A copy of the block that is on m and could be on n.
-pub record Shift (words : List ℕ) (machines blocks m n i : ℕ) : Type 0 where
-  pub m-below : m < machines
-  pub n-below : n < machines
-  pub i-below : i < blocks
+pub record Shift (c : Cluster) (words : List ℕ) (m n i : ℕ) : Type 0 where
+  pub m-below : m < machinesIn c
+  pub n-below : n < machinesIn c
+  pub i-below : i < c .blocks
   pub holds : held words m i ≡ 1
   pub lacks : held words n i ≡ 0
 
 -- What a find names can be carried out.
-abbrev pub HitFound : List ℕ → ℕ → ℕ → Hit → Type 0
-HitFound words machines blocks Nothing = Unit
-HitFound words machines blocks (Move m n i) = Shift words machines blocks m n i
-HitFound words machines blocks (Swap m n i j) = Shift words machines blocks m n i × Shift words machines blocks n m j
+abbrev pub HitFound : Cluster → List ℕ → Hit → Type 0
+HitFound c words Nothing = Unit
+HitFound c words (Move m n i) = Shift c words m n i
+HitFound c words (Swap m n i j) = Shift c words m n i × Shift c words n m j
 
--- What the spread of a block that could go from m to n is asked with.
-pub record KeepsAsked (word m n racks size : ℕ) (across : Bool) : Type 0 where
-  pub size-pos : 1 ≤ size
-  pub machines-max : racks * size ≤ maxMachines
-  pub m-below : m < racks * size
-  pub n-below : n < racks * size
-  pub holds : bit word m ≡ 1
-  pub lacks : bit word n ≡ 0
-  pub across-is : across ≡ not (eqb (m / size) (n / size))
+-- Two machines of the cluster, and whether they lie in different racks.
+pub record PairIn (c : Cluster) (pair : Pair) : Type 0 where
+  pub in-range : InRange c
+  pub m-below : pair .m < machinesIn c
+  pub n-below : pair .n < machinesIn c
+  pub across-is : pair .across ≡ not (eqb (pair .m / c .«rack_size») (pair .n / c .«rack_size»))
+  pub margin-narrow : pair .margin < loadBound
 
--- A plan with these racks, in which the block lies in as many as its spread.
-pub record Lies (p : Plan) (racks size word spread : ℕ) : Type 0 where
-  pub shaped : Shaped p
-  pub racks-is : racks ≡ p .racks
-  pub size-is : size ≡ p .rackSize
+-- What is asked about a block that is on m and not on n.
+pub record BlockAsked (c : Cluster) (pair : Pair) (word profile : ℕ) : Type 0 where
+  pub pair-in : PairIn c pair
+  pub holds : bit word (pair .m) ≡ 1
+  pub lacks : bit word (pair .n) ≡ 0
+  pub share-narrow : shareIn profile < shareBound
+
+-- A plan of this cluster, in which the block lies in as many domains as its spread.
+pub record Lies (p : Plan) (c : Cluster) (word spread : ℕ) : Type 0 where
+  pub cluster-of : ClusterOf p c
   pub enough : spread ≤ domainsUsed p word
 
-abbrev pub KeepsOf : ℕ → ℕ → ℕ → ℕ → ℕ → ℕ → Bool → Type 0
-KeepsOf word m n racks size spread r =
-    (p : Plan) → Lies p racks size word spread → (r ≡ true) ↔ (spread ≤ domainsUsed p (shifted word m n))
+-- Once its copy on m is on n it still does.
+abbrev pub KeepsOf : Cluster → Pair → ℕ → ℕ → Bool → Type 0
+KeepsOf c pair word spread r =
+    (p : Plan) → Lies p c word spread → (r ≡ true) ↔ (spread ≤ domainsUsed p (shifted word (pair .m) (pair .n)))
 
--- A move's test: `gap` is how much more load m has.
-pub record Movable (p : Plan) (word share spread m n gap : ℕ) : Type 0 where
-  pub positive : 0 < share
-  pub lower : share < gap
-  pub spread-kept : spread ≤ domainsUsed p (shifted word m n)
+-- What may be given for what comes back, told by the margin.
+pub record InMargin (margin given back : ℕ) : Type 0 where
+  pub gain : back < given
+  pub below : given < margin + back
 
-abbrev pub MovableOf : ℕ → ℕ → ℕ → ℕ → ℕ → ℕ → ℕ → ℕ → Bool → Type 0
-MovableOf word share spread m n racks size gap r =
-    (p : Plan) → Lies p racks size word spread → (r ≡ true) ↔ Movable p word share spread m n gap
+-- A block's test: its copy on m can go to n where the share `given` goes and the share `back` comes.
+pub record Passable (p : Plan) (pair : Pair) (word spread given back : ℕ) : Type 0 where
+  pub in-margin : InMargin (pair .margin) given back
+  pub spread-kept : spread ≤ domainsUsed p (shifted word (pair .m) (pair .n))
 
--- The test of the block that comes back from m to n, for one of the share `given`.
-pub record Returnable (p : Plan) (word share spread m n gap given : ℕ) : Type 0 where
-  pub gain : share < given
-  pub lower : given < gap + share
-  pub spread-kept : spread ≤ domainsUsed p (shifted word m n)
+abbrev pub PassableOf : Cluster → Pair → ℕ → ℕ → ℕ → ℕ → Bool → Type 0
+PassableOf c pair word spread given back r =
+    (p : Plan) → Lies p c word spread → (r ≡ true) ↔ Passable p pair word spread given back
 
-pub record ReturnAsked (word share m n racks size : ℕ) (across : Bool) (gap : ℕ) : Type 0 where
-  pub keeps : KeepsAsked word m n racks size across
-  pub share-narrow : share < 2 ^ 34
-  pub gap-narrow : gap < 2 ^ 45
+-- What a search at a pair is asked with.
+pub record PairAsked (c : Cluster) (words profiles index : List ℕ) (pair : Pair) : Type 0 where
+  pub fits : PlacementFits c words profiles
+  pub indexed : Indexed c words profiles index
+  pub pair-in : PairIn c pair
 
-abbrev pub ReturnableOf : ℕ → ℕ → ℕ → ℕ → ℕ → ℕ → ℕ → ℕ → ℕ → Bool → Type 0
-ReturnableOf word share spread m n racks size gap given r =
-    (p : Plan) → Lies p racks size word spread → (r ≡ true) ↔ Returnable p word share spread m n gap given
+-- The pair's margin says which transfers lower m's load and keep n's below it.
+abbrev pub MarginOf : Plan → List ℕ → Pair → Type 0
+MarginOf p words pair =
+    (given back : ℕ) → Lowers p words (pair .m) (pair .n) given back ↔ InMargin (pair .margin) given back
 
--- What a search at the pair (m, n) is asked with.
-pub record PairAsked (words shares spreads on : List ℕ) (racks size blocks : ℕ) (across : Bool) (m n gap : ℕ) : Type 0 where
-  pub size-pos : 1 ≤ size
-  pub machines-max : racks * size ≤ maxMachines
-  pub m-below : m < racks * size
-  pub n-below : n < racks * size
-  pub blocks-max : blocks ≤ maxBlocks
-  pub word-room : blocks ≤ length words
-  pub share-room : blocks ≤ length shares
-  pub spread-room : blocks ≤ length spreads
-  pub share-narrow : (i : ℕ) → i < blocks → getD shares i 0 < 2 ^ 34
-  pub gap-narrow : gap < 2 ^ 45
-  pub across-is : across ≡ not (eqb (m / size) (n / size))
-  pub indexed : Indexed words blocks on
-
--- The plan and placement that the numbers are of.
-pub record PairScene (p : Plan) (words shares spreads : List ℕ) (racks size blocks m n gap : ℕ) : Type 0 where
-  pub valid : Valid p
-  pub count : ℕ → ℕ
-  pub feasible : Feasible p count words
-  pub racks-is : racks ≡ p .racks
-  pub size-is : size ≡ p .rackSize
-  pub blocks-is : blocks ≡ blockCount p
-  pub shares-are : (i : ℕ) → i < blocks → getD shares i 0 ≡ shareOf p words i
-  pub spreads-are : (i : ℕ) → i < blocks → getD spreads i 0 ≡ blockOf p i .minRacks
-  pub gap-is : load p words n + gap ≡ load p words m
-
--- The definition's first move between m and n, where n has room.
-pub record MoveFound (words shares spreads : List ℕ) (racks size blocks : ℕ) (across : Bool) (m n gap : ℕ) (r : Hit) : Type 0 where
-  pub sound : HitFound words (racks * size) blocks r
-  pub is : (p : Plan) → PairScene p words shares spreads racks size blocks m n gap → used p words n < p .capacity
-      → hitOf across r ≡ pairStep p words false across m n
+-- The plan and placement that the numbers are of, with the pair's margin.
+pub record PairScene (p : Plan) (count : ℕ → ℕ) (c : Cluster) (words profiles : List ℕ) (pair : Pair) : Type 0 where
+  pub placement : PlacementOf p count c words profiles
+  pub margin-is : MarginOf p words pair
 
 -- The block j that comes back for one of the share `given`.
-pub record Partner (p : Plan) (words : List ℕ) (m n gap given j : ℕ) : Type 0 where
-  pub holds : held words n j ≡ 1
-  pub lacks : held words m j ≡ 0
-  pub test : Returnable p (wordOf words j) (shareOf p words j) (blockOf p j .minRacks) n m gap given
+pub record Partner (p : Plan) (words profiles : List ℕ) (pair : Pair) (given j : ℕ) : Type 0 where
+  pub holds : held words (pair .m) j ≡ 1
+  pub lacks : held words (pair .n) j ≡ 0
+  pub test : Passable p pair (wordOf words j) (spreadIn (getD profiles j 0)) given (shareIn (getD profiles j 0))
 
--- The first such block; past the last where there is none.
-pub record PartnerFound (words shares spreads : List ℕ) (racks size blocks m n gap given r : ℕ) : Type 0 where
-  pub holds : r < blocks → held words n r ≡ 1
-  pub lacks : r < blocks → held words m r ≡ 0
-  pub passed : (k : ℕ) → k < r → k < blocks
-      → (p : Plan) → PairScene p words shares spreads racks size blocks m n gap → Partner p words m n gap given k → ⊥
-  pub found : r < blocks
-      → (p : Plan) → PairScene p words shares spreads racks size blocks m n gap → Partner p words m n gap given r
+-- The first such block, seen from the pair the other way round; past the last where there is none.
+pub record PartnerFound (c : Cluster) (words profiles : List ℕ) (pair : Pair) (given r : ℕ) : Type 0 where
+  pub holds : r < c .blocks → held words (pair .m) r ≡ 1
+  pub lacks : r < c .blocks → held words (pair .n) r ≡ 0
+  pub passed : (k : ℕ) → k < r → k < c .blocks
+      → (p : Plan) (count : ℕ → ℕ) → PlacementOf p count c words profiles → Partner p words profiles pair given k → ⊥
+  pub found : r < c .blocks
+      → (p : Plan) (count : ℕ → ℕ) → PlacementOf p count c words profiles → Partner p words profiles pair given r
 
-pub record ExchangeAsked (words shares spreads on : List ℕ) (racks size blocks : ℕ) (across : Bool) (m n gap i : ℕ) : Type 0 where
-  pub pair : PairAsked words shares spreads on racks size blocks across m n gap
-  pub i-below : i < blocks
-  pub holds : held words m i ≡ 1
-  pub lacks : held words n i ≡ 0
+-- A block that is on m and not on n.
+pub record CandidateAsked (c : Cluster) (words profiles index : List ℕ) (pair : Pair) (i : ℕ) : Type 0 where
+  pub asked : PairAsked c words profiles index pair
+  pub i-below : i < c .blocks
+  pub holds : held words (pair .m) i ≡ 1
+  pub lacks : held words (pair .n) i ≡ 0
 
 -- The first block that block i can be exchanged for; past the last where there is none.
-pub record ExchangeFound (words shares spreads : List ℕ) (racks size blocks m n gap i r : ℕ) : Type 0 where
-  pub holds : r < blocks → held words n r ≡ 1
-  pub lacks : r < blocks → held words m r ≡ 0
-  pub passed : (k : ℕ) → k < r → k < blocks
-      → (p : Plan) → PairScene p words shares spreads racks size blocks m n gap → canSwap p words m n i k ≡ false
-  pub found : r < blocks
-      → (p : Plan) → PairScene p words shares spreads racks size blocks m n gap → canSwap p words m n i r ≡ true
+pub record ExchangeFound (c : Cluster) (words profiles : List ℕ) (pair : Pair) (i r : ℕ) : Type 0 where
+  pub holds : r < c .blocks → held words (pair .n) r ≡ 1
+  pub lacks : r < c .blocks → held words (pair .m) r ≡ 0
+  pub passed : (k : ℕ) → k < r → k < c .blocks → (p : Plan) (count : ℕ → ℕ) → PairScene p count c words profiles pair
+      → canSwap p words (pair .m) (pair .n) i k ≡ false
+  pub found : r < c .blocks → (p : Plan) (count : ℕ → ℕ) → PairScene p count c words profiles pair
+      → canSwap p words (pair .m) (pair .n) i r ≡ true
 
--- The definition's first exchange between m and n.
-pub record SwapFound (words shares spreads : List ℕ) (racks size blocks : ℕ) (across : Bool) (m n gap : ℕ) (r : Hit) : Type 0 where
-  pub sound : HitFound words (racks * size) blocks r
-  pub is : (p : Plan) → PairScene p words shares spreads racks size blocks m n gap
-      → hitOf across r ≡ pairStep p words true across m n
+-- Where the kind is a move, n has room.
+abbrev pub HasRoom : Plan → List ℕ → Bool → ℕ → Type 0
+HasRoom p words swapping n = swapping ≡ false → used p words n < p .capacity
+
+-- What is found is what the definition's search finds.
+pub record HitOf (c : Cluster) (words profiles : List ℕ) (pair : Pair) (swapping : Bool) (wanted : Plan → Step) (r : Hit) : Type 0 where
+  pub sound : HitFound c words r
+  pub is : (p : Plan) (count : ℕ → ℕ) → PairScene p count c words profiles pair → HasRoom p words swapping (pair .n)
+      → hitOf (pair .across) r ≡ wanted p

@@ -1,0 +1,22 @@
+-- The format of a version's file, in the code's struct and in its ranges.
+use Prim.Native.Nat.{ℕ, _≤_}
+use Rattle.model.specs.Plan.{Format as ModelFormat}
+use Rattle.theory.specs.Widths.{widestPopularity}
+use Rattle.header.specs.declared.Format.{Format}
+
+-- The struct as the model's format.
+abbrev pub asFormat : Format → ModelFormat
+asFormat f =
+    record {
+      headerLength = f .«header_length»;
+      popularityWidth = f .«popularity_width»;
+      minReplicasWidth = f .«min_replicas_width»;
+      minRacksWidth = f .«min_racks_width»;
+    }
+
+-- No version's header or field is wider.
+pub record FormatFits (f : ModelFormat) : Type 0 where
+  pub header-max : f .headerLength ≤ 64
+  pub popularity-max : f .popularityWidth ≤ widestPopularity
+  pub replicas-max : f .minReplicasWidth ≤ 1
+  pub racks-max : f .minRacksWidth ≤ 1

@@ -1,0 +1,113 @@
+// The index of a placement: each machine's blocks as bit sets, by number and by rank, and the blocks in order of their shares.
+use cluster::Cluster;
+use cluster::MAX_BLOCKS;
+ghost use mathlib.Core.List.{List};
+ghost use Prim.Native.Nat.{ℕ};
+ghost use mathlib.Core.Path.{_≡_};
+ghost use lib.ListN.{length};
+ghost use Rattle.cluster.specs.Blocks.{ProfilesFit};
+ghost use Rattle.index.specs.Index.{indexLength, Ordered, Indexed, CopyAsked, CopiedTo, ClearedTo, EnterAsked, Entered, FillAsked, NextAsked, NextOf};
+
+// The index's length, and where its parts begin: the blocks by number and by rank, the keys and the ranks.
+pub const INDEX_LENGTH: usize = 4096;
+
+pub const BY_NUMBER: usize = 0;
+
+pub const BY_RANK: usize = 1024;
+
+pub const KEYS_AT: usize = 2048;
+
+pub const RANKS_AT: usize = 3072;
+
+// A pair of machines m and n: what m's load may fall by stays below `margin`, and whether they lie in different racks.
+pub struct Pair {
+    pub across: bool,
+    pub m: usize,
+    pub n: usize,
+    pub margin: u64,
+}
+
+// The 1,024 items as a part of the index.
+fn copy_part(index: &mut [u64], part: usize, from: &[u64])
+    requires { ⌜ CopyAsked (now index) part (now from) ⌝ }
+    ensures { λ r. ⌜ CopiedTo (now (index .entry)) part (now (from .entry)) (now (index .exit)) ⌝ }
+{
+    let mut k: usize = 0;
+    while k < MAX_BLOCKS {
+        index[part + k] = from[k];
+        k += 1;
+    }
+}
+
+// An index with the blocks in order of their shares, and no placement yet.
+pub fn start(profiles: &[u64], cluster: Cluster) -> [u64; INDEX_LENGTH]
+    requires { ⌜ ProfilesFit cluster (now profiles) ⌝ }
+    ensures { λ r. ⌜ Ordered cluster (now (profiles .entry)) r ⌝ }
+{
+    let keys = ranking::rank(profiles, cluster);
+    let ranks = ranking::ranks(&keys[..], cluster);
+    let mut index = [0u64; INDEX_LENGTH];
+    copy_part(&mut index[..], KEYS_AT, &keys[..]);
+    copy_part(&mut index[..], RANKS_AT, &ranks[..]);
+    index
+}
+
+// The bit sets emptied.
+fn clear(index: &mut [u64])
+    requires { ⌜ length (now index) ≡ indexLength ⌝ }
+    ensures { λ r. ⌜ ClearedTo (now (index .entry)) (now (index .exit)) ⌝ }
+{
+    let mut k: usize = 0;
+    while k < KEYS_AT {
+        index[k] = 0;
+        k += 1;
+    }
+}
+
+// Block i entered at the machines that its word names, by number and by rank.
+fn enter(index: &mut [u64], word: u64, i: usize)
+    requires { ⌜ EnterAsked (now index) i ⌝ }
+    ensures { λ s. ⌜ Entered (now (index .entry)) word i (now (index .exit)) ⌝ }
+{
+    let r = index[RANKS_AT + i] as usize;
+    let mut rest = word;
+    while rest != 0 {
+        let m = bits::lowest(rest);
+        let number = m * 16 + i / 64;
+        index[number] = bits::with_bit(index[number], i % 64);
+        let rank = BY_RANK + m * 16 + r / 64;
+        index[rank] = bits::with_bit(index[rank], r % 64);
+        rest = bits::without_bit(rest, m);
+    }
+}
+
+// The bit sets of a placement; the order stays.
+pub fn fill(index: &mut [u64], words: &[u64], cluster: Cluster)
+    requires { ⌜ FillAsked cluster (now words) (now index) ⌝ }
+    ensures { λ r. ⌜ ((profiles : List ℕ) → Ordered cluster profiles (now (index .entry))
+        → Indexed cluster (now (words .entry)) profiles (now (index .exit))) ⌝ }
+{
+    clear(index);
+    let mut i: usize = 0;
+    while i < cluster.blocks {
+        enter(index, words[i], i);
+        i += 1;
+    }
+}
+
+// The first place from `from` on, by number or by rank, of a block that m holds and n does not; past the last block where there is none.
+pub fn next(index: &[u64], part: usize, m: usize, n: usize, from: usize, cluster: Cluster) -> usize
+    requires { ⌜ NextAsked (now index) part m n from cluster ⌝ }
+    ensures { λ r. ⌜ NextOf (now (index .entry)) part m n from cluster r ⌝ }
+{
+    let mut k = from;
+    while k < cluster.blocks {
+        let free = bits::and_not(index[part + m * 16 + k / 64], index[part + n * 16 + k / 64])
+            >> (k % 64);
+        if free != 0 {
+            return k + bits::lowest(free);
+        }
+        k = (k / 64 + 1) * 64;
+    }
+    k
+}
