@@ -1,87 +1,83 @@
--- From the plan's numbers and the tally of the words to what the calls on a placement work with.
+-- From an accepted plan's demands and the loads of the words to what the calls work with.
 -- Assumes nothing.
-use mathlib.Core.Path.{_≡_, refl, ap, sym, _∙_}
+use mathlib.Core.Path.{_≡_, ap, sym, _∙_}
 use mathlib.Core.List.{List}
-use Prim.Native.Nat.{ℕ, _*_, _<_, _≤_, _^_}
+use Prim.Native.Nat.{ℕ, zero, suc, _<_, _≤_, _*_, min}
+use native.Mathlib.Decide.{decLt}
 use native.Mathlib.Omega.{arith}
 use lib.ListN.{length, getD}
-use Rattle.order.specs.Sum.{sum}
 use Rattle.order.proofs.Tables.{getD-filled}
-use Rattle.model.specs.Plan.{Plan, machines, blockCount, blockOf}
-use Rattle.model.specs.Replication.{share, chosen}
-use Rattle.model.specs.Placement.{held, used, shareOf}
-use Rattle.model.specs.Calls.{placementRefusal}
-use Rattle.theory.proofs.Held.{share-held, top-held, load-held}
-use Rattle.theory.proofs.Handed.{placement-feasible}
+use Rattle.model.specs.Plan.{Plan, blockCount, planIn}
+use Rattle.model.specs.Refusal.{check12, Verdict, refused, accepted, refusal, verdict, judge}
+use Rattle.model.specs.Replication.{limit as limitOf, chosen}
+use Rattle.model.specs.Calls.{callRefusal}
+use Rattle.theory.proofs.Outcomes.{check12-short, check12-enough}
+use Rattle.cluster.specs.declared.Cluster.{Cluster}
+use Rattle.cluster.specs.Cluster.{machinesIn, ClusterOf}
+use Rattle.cluster.specs.Blocks.{PlacementFits}
+use Rattle.cluster.proofs.Laws.{cluster-blocks}
 use Rattle.header.specs.declared.Header.{Header}
-use Rattle.plan.specs.Reading.{planOf, AcceptedHeader}
-use Rattle.counts.specs.Entry.{Prepared}
-use Rattle.tally.specs.declared.Tally.{Tally}
-use Rattle.tally.specs.Tallies.{Tallied}
-use Rattle.review.specs.Handed.{Reviewed}
-use Rattle.survey.specs.Ready.{Ready}
+use Rattle.plan.specs.Reading.{planOf, Decoded, AcceptedHeader}
+use Rattle.replication.specs.Choice.{LimitedDemands, ChosenAs}
+use Rattle.admission.specs.declared.Intake.{Intake}
+use Rattle.admission.specs.Admission.{Prepared, PlanReady}
 
-module _ (bytes : List ℕ) (h : Header) (laws : AcceptedHeader bytes h)
-    (words factors₀ shares₀ spreads₀ factors shares spreads : List ℕ) (top : ℕ)
-    (prepared : Prepared (planOf bytes h) factors₀ shares₀ spreads₀ factors shares spreads top) where
-  factor-at : (i : ℕ) → i < blockCount (planOf bytes h) → getD factors i 0 ≡ chosen (planOf bytes h) i
-  factor-at i l = ap (λ (s : List ℕ). getD s i 0) (prepared .laid .counts-are) ∙ getD-filled _ _ factors₀ i 0 l
+-- the demands of an accepted plan, and the copies that it allows
+pub limited-of : (bytes : List ℕ) (h : Header) → AcceptedHeader bytes h → (demands₀ demands : List ℕ) → Decoded bytes h demands₀ demands
+    → (limit : ℕ) → limit ≡ min (h .budget) (machinesIn (h .cluster) * h .cluster .capacity)
+    → LimitedDemands (planOf bytes h) (h .cluster) demands limit
+unfolding limitOf planOf
+limited-of bytes h laws demands₀ demands decoded limit e =
+    record {
+      demands-of =
+          record {
+            cluster = laws .cluster-of;
+            are = λ i l. ap (λ (s : List ℕ). getD s i 0) (decoded .are) ∙ getD-filled (h .cluster .blocks) _ demands₀ i 0 l;
+          };
+      limit-is = e;
+    }
 
-  share-at : (i : ℕ) → i < blockCount (planOf bytes h)
-      → getD shares i 0 ≡ share (blockOf (planOf bytes h) i .popularity) (chosen (planOf bytes h) i)
-  share-at i l = ap (λ (s : List ℕ). getD s i 0) (prepared .laid .shares-are) ∙ getD-filled _ _ shares₀ i 0 l
+-- what was chosen from them
+pub prepared-of : (p : Plan) (c : Cluster) → ClusterOf p c → (profiles₀ profiles : List ℕ) (top : ℕ) → ChosenAs p c profiles₀ profiles top
+    → Prepared p c profiles top
+prepared-of p c cluster profiles₀ profiles top made =
+    record {
+      profiles-of =
+          record {
+            cluster = cluster;
+            are =
+                λ i l.
+                ap (λ (s : List ℕ). getD s i 0) (made .profiles-are .are)
+                ∙ getD-filled (blockCount p) _ profiles₀ i 0 (rw (cluster-blocks p c cluster) at l);
+          };
+      fit = made .profiles-are .fit;
+      top-is = made .top-is;
+    }
 
-  spread-at : (i : ℕ) → i < blockCount (planOf bytes h) → getD spreads i 0 ≡ blockOf (planOf bytes h) i .minRacks
-  spread-at i l = ap (λ (s : List ℕ). getD s i 0) (prepared .spreads-are) ∙ getD-filled _ _ spreads₀ i 0 l
+-- where row 12 or an earlier one refuses, the later rows are not asked
+pub callRefusal-short : (v : Verdict) (lent code : ℕ) (later : Plan → ℕ) → callRefusal v (λ p. check12 lent (blockCount p) 0) ≡ code
+    → 1 ≤ code → callRefusal v (λ p. check12 lent (blockCount p) (later p)) ≡ code
+unfolding callRefusal
+callRefusal-short (refused n) lent code later e some = e
+callRefusal-short (accepted p) lent code later e some = elim (decLt lent (blockCount p)) [
+  | yes l ↦ check12-short lent (blockCount p) (later p) l ∙ sym (check12-short lent (blockCount p) 0 l) ∙ e
+  | no l ↦ absurd (let z = check12-enough lent (blockCount p) 0 (omega arith) in omega arith)
+]
 
-  -- the pass over the words is given shares that fit
-  pub share-small : (i : ℕ) → i < h .blocks → getD shares i 0 < 2 ^ 34
-  share-small i l =
-      let m : i < blockCount (planOf bytes h) = rw (laws .blocks-is) l in
-      rw (share-at i m) (prepared .shares-narrow i m)
+-- a refusal has a number
+pub judge-some : (bytes : List ℕ) (code : ℕ) → judge bytes ≡ refused code → 1 ≤ code
+unfolding judge
+judge-some bytes code e = go (refusal bytes) e
+  where
+    go : (n : ℕ) → verdict n (planIn bytes) ≡ refused code → 1 ≤ code
+    go zero e = absurd (let z : _≡_ {A = ℕ} 0 1 = cc in omega arith)
+    go (suc n) e = let same : suc n ≡ code = cc in omega arith
 
-  module _ (t : Tally) (tallied : Tallied words shares (h .blocks) t) where
-    machine-below : (m : ℕ) → m < machines (planOf bytes h) → m < 64
-    machine-below m l = let few = laws .valid .shaped .machines-max in omega arith
-
-    used-at : (m : ℕ) → m < machines (planOf bytes h) → getD (t .used) m 0 ≡ used (planOf bytes h) words m
-    unfolding used
-    used-at m l = tallied .used-is m (machine-below m l) ∙ ap (λ (n : ℕ). sum n (held words m)) (sym (laws .blocks-is))
-
-    -- what the checks are given
-    pub reviewed-of : Reviewed (planOf bytes h) words factors spreads t (h .racks) (h .«rack_size») (h .capacity) (h .blocks)
-    unfolding planOf
-    reviewed-of =
-        record {
-          sizes = record { valid = laws .valid; machines-is = refl; blocks-is = sym (laws .blocks-is) };
-          counts-are = λ i l. factor-at i (rw (laws .blocks-is) l);
-          spreads-are =
-              record { racks-is = refl; size-is = refl; spread-is = λ i l. spread-at i (rw (laws .blocks-is) l) };
-          uses = record { machines-is = refl; capacity-is = refl; used-is = used-at };
-        }
-
-    -- what the calls work with where they pass
-    pub ready-of : h .blocks ≤ length words → placementRefusal (planOf bytes h) words ≡ 0
-        → Ready (planOf bytes h) words shares spreads t top
-    ready-of room none =
-        let p = planOf bytes h in
-        let feasible = placement-feasible p (laws .valid) words none in
-        let shares-are : (i : ℕ) → i < blockCount p → getD shares i 0 ≡ shareOf p words i =
-        λ i l. share-at i l ∙ share-held p (chosen p) words feasible i l
-        in
-        record {
-          room = rw (laws .blocks-is) room;
-          feasible = feasible;
-          shares-are = shares-are;
-          shares-narrow = λ i l. rw (share-at i l) (prepared .shares-narrow i l);
-          spreads-are = spread-at;
-          loads-are =
-              λ m l.
-              tallied .load-is m (machine-below m l)
-              ∙ ap (λ (n : ℕ). sum n (λ i. held words m i * getD shares i 0)) (sym (laws .blocks-is))
-              ∙ load-held p words shares m shares-are;
-          used-are = used-at;
-          loads-narrow = tallied .load-narrow;
-          used-narrow = tallied .used-narrow;
-          top-is = prepared .largest-is ∙ top-held p (chosen p) words feasible;
-        }
+-- the words lent to an admitted plan, with its profiles
+pub fits-of : (bytes words profiles : List ℕ) (r : Intake) → PlanReady bytes (length words) profiles r
+    → PlacementFits (r .cluster) words profiles
+fits-of bytes words profiles r ready =
+    record {
+      profiles-fit = ready .prepared .fit;
+      word-room = rw (cluster-blocks _ _ (ready .prepared .profiles-of .cluster)) (ready .enough);
+    }
