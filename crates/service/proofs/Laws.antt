@@ -1,43 +1,92 @@
--- A placement that passed its checks stands as the steps are given it.
+-- How an entry's outcome follows from what the way in says: refused with its code, or the call's own work on the plan.
 -- Assumes nothing.
-use mathlib.Core.Path.{_≡_, refl, sym}
+use mathlib.Core.Path.{_≡_, refl, ap, sym, _∙_}
+use mathlib.Core.Bool.{Bool}
 use mathlib.Core.List.{List}
-use Prim.Native.Nat.{ℕ, _≤_}
-use lib.ListN.{length}
-use Rattle.model.specs.Replication.{chosen}
-use Rattle.header.specs.declared.Header.{Header}
-use Rattle.plan.specs.Reading.{planOf, AcceptedHeader}
-use Rattle.tally.specs.declared.Tally.{Tally}
-use Rattle.survey.specs.Ready.{Ready}
-use Rattle.balance.specs.Standing.{StandAsked, Standing}
+use Prim.Native.Nat.{ℕ, _<_}
+use native.Mathlib.Nat.{pos-of-ne-zero, mul-pos}
+use lib.ListN.{length, getD}
+use Rattle.order.specs.Table.{filled}
+use Rattle.order.proofs.Tables.{filled-cong}
+use Rattle.order.proofs.Sums.{sum-cong}
+use Rattle.order.proofs.Extremes.{largest-cong, smallest-cong}
+use Rattle.model.specs.Plan.{Plan, machines, blockCount}
+use Rattle.model.specs.Refusal.{judge}
+use Rattle.model.specs.Replication.{largestShare, chosen}
+use Rattle.model.specs.Placement.{load, maxLoad, minLoad, totalLoad}
+use Rattle.model.specs.Steps.{Run}
+use Rattle.model.specs.Calls.{Outcome, answered, refuse, onPlan, bufferRefusal, placementRefusal, onPlacement, Report, reportOf, RunReply}
+use Rattle.theory.proofs.Outcomes.{onPlan-refused, onPlan-made, check12-enough}
+use Rattle.theory.proofs.Counts.{chosen-laws}
+use Rattle.theory.proofs.Held.{top-held}
+use Rattle.cluster.specs.Blocks.{countIn}
+use Rattle.cluster.proofs.Laws.{cluster-blocks, cluster-machines, profiles-count}
+use Rattle.loads.specs.declared.LoadReport.{LoadReport}
+use Rattle.loads.specs.Loads.{ReportOf}
+use Rattle.loads.proofs.Laws.{loads-load}
+use Rattle.admission.specs.declared.Intake.{Intake}
+use Rattle.admission.specs.declared.Placement.{Placement}
+use Rattle.admission.specs.Admission.{PlanReady, Admitted, PlacementReady, PlacementAdmitted}
+use Rattle.service.specs.Entries.{reportIn}
 
-module _ (bytes : List ℕ) (h : Header) (laws : AcceptedHeader bytes h) (words shares spreads : List ℕ) (t : Tally) (top : ℕ)
-    (ready : Ready (planOf bytes h) words shares spreads t top) where
-  pub asked-of : h .blocks ≤ length shares → h .blocks ≤ length spreads
-      → StandAsked words shares spreads (h .racks) (h .«rack_size») (h .blocks)
-  asked-of share-room spread-room =
-      record {
-        racks-pos = laws .racks-pos;
-        size-pos = laws .size-pos;
-        few = laws .machines-max;
-        blocks-max = laws .blocks-max;
-        word-room = rw (laws .blocks-is) at (ready .room);
-        share-room = share-room;
-        spread-room = spread-room;
-        share-narrow = λ i l. ready .shares-narrow i (rw (laws .blocks-is) l);
-      }
+-- a call on a plan with a lent buffer
+module _ {A : Type 0} (bytes items profiles : List ℕ) (r : Intake) (admitted : Admitted bytes (length items) profiles r)
+    (call : Plan → Outcome A) where
+  pub plan-refused : (r .code ≡ 0 → ⊥) → refuse (r .code) items ≡ onPlan (judge bytes) items (bufferRefusal items) call
+  plan-refused some =
+      sym (onPlan-refused items (bufferRefusal items) call (judge bytes) (r .code) (sym (admitted .code-is)) (pos-of-ne-zero some))
 
-  pub standing-of : Standing (planOf bytes h) words shares spreads (h .racks) (h .«rack_size») (h .capacity) (h .blocks)
-  unfolding planOf
-  standing-of =
-      record {
-        valid = laws .valid;
-        count = chosen (planOf bytes h);
-        feasible = ready .feasible;
-        racks-is = refl;
-        size-is = refl;
-        capacity-is = refl;
-        blocks-is = sym (laws .blocks-is);
-        shares-are = λ i l. ready .shares-are i (rw (laws .blocks-is) l);
-        spreads-are = λ i l. ready .spreads-are i (rw (laws .blocks-is) l);
-      }
+  pub plan-made : (e : r .code ≡ 0) → call (admitted .ready e .plan) ≡ onPlan (judge bytes) items (bufferRefusal items) call
+  plan-made e =
+      let ready = admitted .ready e in
+      sym (onPlan-made items (bufferRefusal items) call (judge bytes) (ready .plan) (ready .reads) (check12-enough _ _ 0 (ready .enough)))
+
+-- a call on a placement
+module _ {A : Type 0} (bytes words profiles : List ℕ) (r : Placement) (admitted : PlacementAdmitted bytes words profiles r)
+    (call : Plan → Outcome A) where
+  pub placement-refused : (r .code ≡ 0 → ⊥) → refuse (r .code) words ≡ onPlacement bytes words call
+  unfolding onPlacement
+  placement-refused some =
+      sym (onPlan-refused words (placementRefusal words) call (judge bytes) (r .code) (sym (admitted .code-is)) (pos-of-ne-zero some))
+
+  pub placement-made : (e : r .code ≡ 0) → call (admitted .ready e .plan) ≡ onPlacement bytes words call
+  unfolding onPlacement
+  placement-made e =
+      let ready = admitted .ready e in
+      sym (onPlan-made words (placementRefusal words) call (judge bytes) (ready .plan) (ready .reads) (ready .passes))
+
+-- the counts that were written are the chosen ones
+pub counts-are : (bytes items profiles : List ℕ) (lent : ℕ) (r : Intake) (ready : PlanReady bytes lent profiles r)
+    → filled (r .cluster .blocks) (λ i. countIn (getD profiles i 0)) items ≡ filled (blockCount (ready .plan)) (chosen (ready .plan)) items
+counts-are bytes items profiles lent r ready =
+    let p = ready .plan in
+    let of = ready .prepared .profiles-of in
+    filled-cong (r .cluster .blocks) _ _ items
+    (profiles-count p (chosen p) (r .cluster) profiles of (chosen-laws p (of .cluster .valid) .feasible))
+    ∙ ap (λ (n : ℕ). filled n (chosen p) items) (cluster-blocks p (r .cluster) (of .cluster))
+
+-- the loads that were summed make the report
+pub report-is : (bytes words profiles : List ℕ) (r : Placement) (ready : PlacementReady bytes words profiles r) (report : LoadReport)
+    → ReportOf (r .loads) (r .cluster) report → reportIn report (r .top) ≡ reportOf (ready .plan) words
+unfolding reportOf maxLoad minLoad totalLoad
+report-is bytes words profiles r ready report of =
+    let p = ready .plan in
+    let c = r .cluster in
+    let cluster = ready .prepared .profiles-of .cluster in
+    let s = cluster .valid .shaped in
+    let all = cluster-machines p c cluster in
+    let same : (m : ℕ) → m < machines p → getD (r .loads .load) m 0 ≡ load p words m =
+    λ m l. loads-load c words profiles _ _ (ready .loads-of) p (chosen p) (ready .placement) m (rw all l)
+    in
+    let e1 = (rw all at (of .max-is)) ∙ largest-cong (machines p) _ _ same in
+    let e2 = (rw all at (of .min-is)) ∙ smallest-cong (machines p) _ _ (same 0 (mul-pos (s .racks-pos) (s .size-pos))) same in
+    let e3 = (rw all at (of .total-is)) ∙ sum-cong (machines p) _ _ same in
+    let e4 = ready .prepared .top-is ∙ top-held p (chosen p) words (ready .placement .feasible) in
+    λ i. record { maximum = e1 i; minimum = e2 i; total = e3 i; top = e4 i }
+
+-- a run's answer, from how it ended and from the model's run
+abbrev pub ranAnswer : ℕ → List ℕ → Bool → Outcome RunReply
+ranAnswer steps words rested = record { answer = answered (record { rested = rested; steps = steps }); items = words }
+
+abbrev pub runAnswer : Run → Outcome RunReply
+runAnswer r = ranAnswer (r .steps) (r .words) (r .rested)

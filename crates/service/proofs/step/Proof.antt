@@ -1,47 +1,58 @@
--- `service::step` meets its contract: a refused plan keeps its number, and with an accepted one the words are judged.
+-- `service::step` meets its contract: refused by the way in, or the next step taken.
 -- Assumes nothing.
 use borrow.Author.Needs.{needs}
-use mathlib.Core.Path.{_≡_, ap, sym, _∙_}
-use Rattle.model.specs.Calls.{stepCall}
-use Rattle.theory.proofs.Outcomes.{handed-refused}
-use Rattle.plan.specs.Reading.{verdictOf}
+use mathlib.Core.Path.{_≡_, refl, ap, ap₂, sym, _∙_}
+use mathlib.Core.List.{List}
+use Rattle.model.specs.Steps.{Step}
+use Rattle.model.specs.Calls.{stepCall, answered}
 use Rattle.service.specs.Entries.{stepOutcome}
+use Rattle.service.proofs.Laws.{placement-refused, placement-made}
+use Prim.Native.Nat.{ℕ}
 use Rattle.service.proofs.step.Statement.{statement}
 use Rattle.service.proofs.step.Tie as tie
 
-read-requires : tie.Need-read-requires
-read-requires c κs = search needs
+slice-aggregate-admit-placement : tie.Need-slice-aggregate-admit-placement
+slice-aggregate-admit-placement c = search needs
 
-enum-known-reading : tie.Need-enum-known-reading
-enum-known-reading c = search needs
-
-enum-known-reading-2 : tie.Need-enum-known-reading-2
-enum-known-reading-2 c = search needs
-
-step-accepted-requires : tie.Need-step-accepted-requires
-unfolding verdictOf
-step-accepted-requires c κs = sym (rw (c .before .before .reading2 .given .1) at (c .before .before .before .before .read .ensures))
-
-returns : tie.Need-returns
-unfolding stepOutcome stepCall verdictOf
-returns c =
-    let refuses = rw (c .before .reading .given .1) at (c .before .before .before .read .ensures) in
-    sym (handed-refused _ _ _ _ (sym refuses))
+admit-placement-requires : tie.Need-admit-placement-requires
+admit-placement-requires c κs = search needs
 
 same-length : tie.Need-same-length
 same-length c = search needs
 
+returns : tie.Need-returns
+unfolding stepOutcome stepCall
+returns c = placement-refused _ _ _ _ (c .before .before .before .admit-placement .ensures) _ (c .if1 .taken)
+
+slice-aggregate-step : tie.Need-slice-aggregate-step
+slice-aggregate-step c = search needs
+
+step-requires : tie.Need-step-requires
+step-requires c κs =
+    let ready = c .before .before .before .before .before .before .before .admit-placement .ensures .ready (c .before .before .before .before .if1 .left) in
+    record { fits = ready .fits; loads-of = ready .loads-of }
+
+same-length-2 : tie.Need-same-length-2
+same-length-2 c = search needs
+
 returns-2 : tie.Need-returns-2
-returns-2 c = search needs
+unfolding stepOutcome stepCall
+returns-2 c =
+    let admitted = c .before .before .before .before .before .before .before .before .before .before .admit-placement .ensures in
+    let passed = c .before .before .before .before .before .before .before .if1 .left in
+    let stepped = c .before .before .step .ensures _ _ (admitted .ready passed .placement) in
+    ap₂ (λ (s : Step) (w : List ℕ). record { answer = answered s; items = w }) (stepped .step-is) (stepped .words-are)
+    ∙ placement-made _ _ _ _ admitted _ passed
 
 pub step-spec : {M : Type 1} → statement M
 step-spec =
     tie.close
     (tie.spec
-    read-requires
-    enum-known-reading
-    enum-known-reading-2
-    step-accepted-requires
-    returns
+    slice-aggregate-admit-placement
+    admit-placement-requires
     same-length
+    returns
+    slice-aggregate-step
+    step-requires
+    same-length-2
     returns-2)
