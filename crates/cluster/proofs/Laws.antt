@@ -14,7 +14,7 @@ use Rattle.theory.proofs.Shares.{upper-max, count-range}
 use Rattle.theory.proofs.Held.{share-held}
 use Rattle.cluster.specs.declared.Cluster.{Cluster}
 use Rattle.cluster.specs.Cluster.{machinesIn, InRange, clusterOf, ClusterOf}
-use Rattle.cluster.specs.Blocks.{popularityIn, leastIn, spreadAsked, mostIn, shareIn, countIn, spreadIn, demandOf, profileOf, ProfilesOf, PlacementOf}
+use Rattle.cluster.specs.Blocks.{popularityIn, leastIn, spreadAsked, mostIn, shareIn, countIn, spreadIn, demandOf, DemandsOf, profileOf, ProfilesOf, PlacementOf}
 
 -- ── ClusterOf ──────────────────────────────────────────────────────────────────────────────────────────────────────────
 
@@ -82,6 +82,21 @@ module _ (p : Plan) (i : ℕ) (b : ValidBlock p i) where
   pub demandOf-most : mostIn (demandOf p i) ≡ upper p i
   unfolding demandOf
   demandOf-most = let m = most-narrow in omega arith
+
+-- ── DemandsOf ──────────────────────────────────────────────────────────────────────────────────────────────────────────
+
+module _ (p : Plan) (c : Cluster) (demands : List ℕ) (of : DemandsOf p c demands) (i : ℕ) (l : i < c .blocks) where
+  pub demands-popularity : popularityIn (getD demands i 0) ≡ blockOf p i .popularity
+  demands-popularity = rw (of .are i l) (demandOf-popularity p i (cluster-block p c (of .cluster) i l))
+
+  pub demands-least : leastIn (getD demands i 0) ≡ blockOf p i .minReplicas
+  demands-least = rw (of .are i l) (demandOf-least p i (cluster-block p c (of .cluster) i l))
+
+  pub demands-spread : spreadAsked (getD demands i 0) ≡ blockOf p i .minRacks
+  demands-spread = rw (of .are i l) (demandOf-spread p i (cluster-block p c (of .cluster) i l))
+
+  pub demands-most : mostIn (getD demands i 0) ≡ upper p i
+  demands-most = rw (of .are i l) (demandOf-most p i (cluster-block p c (of .cluster) i l))
 
 -- ── profileOf ──────────────────────────────────────────────────────────────────────────────────────────────────────────
 

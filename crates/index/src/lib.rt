@@ -73,7 +73,7 @@ fn enter(index: &mut [u64], word: u64, i: usize)
     let mut rest = word;
     while rest != 0 {
         let m = bits::lowest(rest);
-        let number = m * 16 + i / 64;
+        let number = BY_NUMBER + m * 16 + i / 64;
         index[number] = bits::with_bit(index[number], i % 64);
         let rank = BY_RANK + m * 16 + r / 64;
         index[rank] = bits::with_bit(index[rank], r % 64);

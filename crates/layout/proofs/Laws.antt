@@ -2,220 +2,226 @@
 -- Assumes nothing.
 use mathlib.Core.Path.{_≡_, refl, ap, ap₂, sym, _∙_}
 use mathlib.Core.List.{[]}
-use Prim.Native.Nat.{ℕ, _+_, _*_, _/_, _%_, _^_, _<_, _≤_}
-use native.Mathlib.Nat.{mul-comm, add-assoc, add-zero, le-trans, min-le-right, lt-of-lt-of-le, mod-lt, mod-eq-of-lt, mod-self, mod-add-mod, div-add-mod', div-lt-iff-lt-mul, zero-mod, zero-div}
+use Prim.Native.Nat.{ℕ, _+_, _*_, _/_, _%_, _^_, _<_}
+use native.Mathlib.Nat.{mul-comm, add-assoc, add-zero, le-trans, min-le-right, lt-of-lt-of-le, mod-lt, mod-eq-of-lt, mod-self, mod-add-mod, one-le-mul, div-add-mod', div-lt-iff-lt-mul, zero-mod, zero-div}
 use native.Mathlib.Omega.{arith}
 use lib.Arith.{digits-lt, digits-div, digits-mod}
 use lib.Dec.{lit≤}
 use Rattle.order.specs.Sum.{sum}
-use Rattle.order.proofs.Sums.{sum-zero, sum-step}
-use Rattle.order.proofs.Arithmetic.{factors-pos}
-use Rattle.model.specs.Plan.{Plan, machines, blockCount, upper, maxReplicas}
+use Rattle.order.proofs.Sums.{sum-zero, sum-step, sum-cong}
+use Rattle.model.specs.Plan.{Plan, machines, upper, maxReplicas}
 use Rattle.model.specs.Refusal.{maxMachines}
 use Rattle.model.specs.Replication.{chosen}
 use Rattle.model.specs.Placement.{bit, position, laidWord, firstWord}
-use Rattle.theory.specs.Accepted.{Shaped, Valid}
+use Rattle.theory.specs.Accepted.{Shaped}
 use Rattle.theory.proofs.Counts.{chosen-laws}
-use Rattle.theory.proofs.FirstPlacement.{machineOf, machines-pos, machineOf-below, laid-step, laid-fresh}
-use Rattle.layout.specs.Circle.{OnCircle, cursorAt, placedAt, LayAsked, LaidAs}
+use Rattle.theory.proofs.FirstPlacement.{machineOf, machineOf-below, laid-step, laid-fresh}
+use Rattle.cluster.specs.declared.Cluster.{Cluster}
+use Rattle.cluster.specs.Cluster.{machinesIn, InRange, ClusterOf}
+use Rattle.cluster.proofs.Laws.{cluster-range, cluster-blocks, cluster-machines}
+use Rattle.layout.specs.Circle.{OnCircle, cursorAt, visitAt, LayAsked, LaidAs}
 use Rattle.layout.specs.declared.Cursor.{Cursor}
-use Rattle.layout.specs.declared.Placed.{Placed}
-use Rattle.layout.specs.declared.Laid.{Laid}
+use Rattle.layout.specs.declared.Visit.{Visit}
+use Rattle.layout.specs.declared.LaidBlock.{LaidBlock}
 
--- The number of positions of a cursor's circle, the cursor of that circle at position t, and a cursor by its fields.
+-- ── cursorAt ───────────────────────────────────────────────────────────────────────────────────────────────────────────
+
+-- A cursor by its fields, its position, and the number of positions of its circle.
+abbrev cursorWith : Cluster → ℕ → ℕ → Cursor
+cursorWith c rack level = record { cluster = c; rack = rack; level = level }
+
+abbrev placeOf : Cursor → ℕ
+placeOf c = c .level * c .cluster .racks + c .rack
+
 abbrev around : Cursor → ℕ
-around c = c .racks * c .«rack_size»
+around c = machinesIn (c .cluster)
 
-abbrev turned : Cursor → ℕ → Cursor
-turned c t = cursorAt (c .racks) (c .«rack_size») t
-
-abbrev cursorWith : ℕ → ℕ → ℕ → ℕ → Cursor
-cursorWith racks size rack level = record { racks = racks; «rack_size» = size; rack = rack; level = level }
-
--- position 0
-pub at-start : (racks size : ℕ) → cursorAt racks size 0 ≡ cursorWith racks size 0 0
+pub cursorAt-start : (c : Cluster) → cursorAt c 0 ≡ cursorWith c 0 0
 unfolding cursorAt
-at-start racks size = rw (zero-mod racks, zero-div racks)
+cursorAt-start c = rw (zero-mod (c .racks), zero-div (c .racks))
 
--- the position at a rack and a level
-at-digits : (racks size rack level : ℕ) → rack < racks → level < size
-    → cursorAt racks size ((level * racks + rack) % (racks * size)) ≡ cursorWith racks size rack level
+-- a cursor's position has its rack and level
+cursorAt-place : (c : Cursor) → c .rack < c .cluster .racks → c .level < c .cluster .«rack_size»
+    → cursorAt (c .cluster) (placeOf c % around c) ≡ c
 unfolding cursorAt
-at-digits racks size rack level r l =
-    let below : level * racks + rack < racks * size = rw (mul-comm racks size) (digits-lt l r) in
-    rw (mod-eq-of-lt below, digits-mod level r, digits-div level r)
+cursorAt-place c r l =
+    let below : placeOf c < around c = rw (mul-comm (c .cluster .racks) (c .cluster .«rack_size»)) (digits-lt l r) in
+    rw (mod-eq-of-lt below, digits-mod (c .level) r, digits-div (c .level) r)
+
+-- a cursor at a position is on the circle
+cursorAt-circle : (c : Cluster) (t : ℕ) → InRange c → t < machinesIn c → OnCircle (cursorAt c t)
+unfolding cursorAt
+cursorAt-circle c t in-range l =
+    record {
+      in-range = in-range;
+      rack-below = mod-lt t (in-range .racks-pos);
+      level-below = div-lt-iff-lt-mul (in-range .racks-pos) .1 (rw (mul-comm (c .«rack_size») (c .racks)) l);
+    }
+
+-- ── visitAt ────────────────────────────────────────────────────────────────────────────────────────────────────────────
 
 -- The three ways on from a cursor at position t.
-module _ (c : Cursor) (circle : OnCircle c) (t : ℕ) (at : c ≡ turned c t) where
-  rack-is : c .rack ≡ t % c .racks
+module _ (c : Cursor) (circle : OnCircle c) (t : ℕ) (at : c ≡ cursorAt (c .cluster) t) where
+  rack-is : c .rack ≡ t % c .cluster .racks
   unfolding cursorAt
   rack-is = ap (λ (x : Cursor). x .rack) at
 
-  level-is : c .level ≡ t / c .racks
+  level-is : c .level ≡ t / c .cluster .racks
   unfolding cursorAt
   level-is = ap (λ (x : Cursor). x .level) at
 
-  place : c .level * c .racks + c .rack ≡ t
-  place = ap₂ (λ (level rack : ℕ). level * c .racks + rack) level-is rack-is ∙ div-add-mod' t (c .racks)
+  place-is : placeOf c ≡ t
+  place-is = ap₂ (λ (level rack : ℕ). level * c .cluster .racks + rack) level-is rack-is ∙ div-add-mod' t (c .cluster .racks)
 
   -- the machine, and the rack and level of the next position
   abbrev On : ℕ → ℕ → Type 0
   On rack level =
-      record { machine = c .rack * c .«rack_size» + c .level; cursor = cursorWith (c .racks) (c .«rack_size») rack level }
-      ≡ placedAt (c .racks) (c .«rack_size») t
+      record { machine = c .rack * c .cluster .«rack_size» + c .level; cursor = cursorWith (c .cluster) rack level }
+      ≡ visitAt (c .cluster) t
 
-  on : (rack level : ℕ) → turned c ((t + 1) % around c) ≡ cursorWith (c .racks) (c .«rack_size») rack level → On rack level
-  unfolding placedAt
+  on : (rack level : ℕ) → cursorAt (c .cluster) ((t + 1) % around c) ≡ cursorWith (c .cluster) rack level → On rack level
+  unfolding visitAt
   on rack level e = rw (rack-is, level-is, ← e)
 
-  on-digits : (rack level : ℕ) → rack < c .racks → level < c .«rack_size» → level * c .racks + rack ≡ t + 1 → On rack level
-  on-digits rack level r l e =
+  on-place : (rack level : ℕ) → rack < c .cluster .racks → level < c .cluster .«rack_size» → level * c .cluster .racks + rack ≡ t + 1
+      → On rack level
+  on-place rack level r l e =
       on rack level
-      (ap (λ (x : ℕ). turned c (x % around c)) (sym e) ∙ at-digits (c .racks) (c .«rack_size») rack level r l)
+      (ap (λ (x : ℕ). cursorAt (c .cluster) (x % around c)) (sym e) ∙ cursorAt-place (cursorWith (c .cluster) rack level) r l)
 
   -- the next rack, the first rack of the next level, or position 0
-  pub on-rack : c .rack + 1 < c .racks → On (c .rack + 1) (c .level)
-  on-rack l = on-digits (c .rack + 1) (c .level) l (circle .level-below) (omega (arith, place))
+  pub on-rack : c .rack + 1 < c .cluster .racks → On (c .rack + 1) (c .level)
+  on-rack l = on-place (c .rack + 1) (c .level) l (circle .level-below) (omega (arith, place-is))
 
-  pub on-level : c .rack + 1 ≡ c .racks → c .level + 1 < c .«rack_size» → On 0 (c .level + 1)
-  on-level e l = on-digits 0 (c .level + 1) (omega arith) l (omega (arith, place))
+  pub on-level : c .rack + 1 ≡ c .cluster .racks → c .level + 1 < c .cluster .«rack_size» → On 0 (c .level + 1)
+  on-level e l = on-place 0 (c .level + 1) (omega arith) l (omega (arith, place-is))
 
-  pub on-round : c .rack + 1 ≡ c .racks → c .level + 1 ≡ c .«rack_size» → On 0 0
+  pub on-round : c .rack + 1 ≡ c .cluster .racks → c .level + 1 ≡ c .cluster .«rack_size» → On 0 0
   on-round e l =
-      let all : t + 1 ≡ around c = rw (← l) (omega (arith, place)) in
+      let all : t + 1 ≡ around c = rw (← l) (omega (arith, place-is)) in
       on 0 0
-      (ap (turned c) (ap (λ (x : ℕ). x % around c) all ∙ mod-self (around c)) ∙ at-start (c .racks) (c .«rack_size»))
+      (ap (cursorAt (c .cluster)) (ap (λ (x : ℕ). x % around c) all ∙ mod-self (around c)) ∙ cursorAt-start (c .cluster))
 
--- a cursor at a position is on the circle
-circle-at : (racks size t : ℕ) → t < racks * size → racks * size ≤ maxMachines → OnCircle (cursorAt racks size t)
-unfolding cursorAt
-circle-at racks size t l most =
-    let pos = factors-pos racks size (omega arith) in
-    record {
-      rack-below = mod-lt t (pos .0);
-      level-below = div-lt-iff-lt-mul (pos .0) .1 (rw (mul-comm size racks) l);
-      machines-max = most;
-    }
+-- ── LaidAs ─────────────────────────────────────────────────────────────────────────────────────────────────────────────
 
--- What `next` says of the position that it hands back.
-abbrev NextOf : Cursor → Placed → Type 0
-NextOf c r = (t : ℕ) → t < around c → c ≡ turned c t → r ≡ placedAt (c .racks) (c .«rack_size») t
-
-next-at : (racks size s : ℕ) (c : Cursor) (r : Placed) → NextOf c r → s < racks * size → c ≡ cursorAt racks size s
-    → r ≡ placedAt racks size s
-unfolding cursorAt
-next-at racks size s c r next l e = (rw e at next) s l refl
-
--- the machine at a position is the model's
-machine-is : (p : Plan) (c : Cursor) → p .racks ≡ c .racks → p .rackSize ≡ c .«rack_size»
-    → (q : ℕ) → placedAt (c .racks) (c .«rack_size») (q % around c) .machine ≡ machineOf p q
-unfolding placedAt position
-machine-is p c racks size q = rw (racks, size)
-
-pub lay-none : (c : Cursor) → LaidAs c 0 (record { word = 0; cursor = c })
-unfolding laidWord sum
-lay-none c =
-    record {
-      word-is = λ p start shaped racks size at. refl;
-      cursor-is = λ t l at. rw (add-zero t, mod-eq-of-lt l) at;
-    }
-
--- A plan that has the cursor's racks: the model's laws are about plans.
-abbrev bare : Cursor → Plan
+-- A plan that has the cluster's racks: the model's laws are about plans, and a word is laid by their racks alone.
+abbrev bare : Cluster → Plan
 bare c = record { racks = c .racks; rackSize = c .«rack_size»; capacity = 1; budget = 0; blocks = [] }
 
-bare-shaped : (c : Cursor) → OnCircle c → Shaped (bare c)
-bare-shaped c circle =
+bare-shaped : (c : Cluster) → InRange c → Shaped (bare c)
+bare-shaped c in-range =
     record {
-      racks-pos = omega arith;
-      size-pos = omega arith;
-      machines-max = circle .machines-max;
+      racks-pos = in-range .racks-pos;
+      size-pos = in-range .size-pos;
+      machines-max = in-range .machines-max;
       capacity-pos = lit≤ tt;
       capacity-max = lit≤ tt;
       blocks-max = lit≤ tt;
       block = λ i l. absurd (omega arith);
     }
 
--- One copy more, from a cursor that has laid k of them.
-module _ (c : Cursor) (count : ℕ) (asked : LayAsked c count) (k : ℕ) (few : k < count) (laid : Laid) (so-far : LaidAs c k laid) where
+bare-laid : (p : Plan) (c : Cluster) → ClusterOf p c → (start k : ℕ) → laidWord (bare c) (start % machinesIn c) k ≡ laidWord p start k
+unfolding laidWord position
+bare-laid p c of start k =
+    rw (of .is)
+    (sum-cong k _ _ (λ j l. ap (λ (q : ℕ). 2 ^ position p q) (mod-add-mod start (machines p) j)))
+
+-- k copies are laid from cursor c on: their word, and the cursor past them.
+pub record Laying (c : Cursor) (k word : ℕ) (at : Cursor) : Type 0 where
+  pub word-is : word ≡ laidWord (bare (c .cluster)) (placeOf c) k
+  pub at-is : at ≡ cursorAt (c .cluster) ((placeOf c + k) % around c)
+
+module _ (c : Cursor) (circle : OnCircle c) where
   within : (q : ℕ) → q % around c < around c
-  within q = mod-lt q (omega (arith, asked .at-below))
+  within q = mod-lt q (one-le-mul (circle .in-range .racks-pos) (circle .in-range .size-pos))
 
-  pub lay-circle : OnCircle (laid .cursor)
-  lay-circle =
-      rw (so-far .cursor-is (asked .at) (asked .at-below) (asked .at-is))
-      (circle-at (c .racks) (c .«rack_size») ((asked .at + k) % around c) (within (asked .at + k)) (asked .circle .machines-max))
+  pub laying-none : Laying c 0 0 c
+  unfolding laidWord sum
+  laying-none =
+      record { word-is = refl; at-is = rw (add-zero (placeOf c)) (sym (cursorAt-place c (circle .rack-below) (circle .level-below))) }
 
-  module _ (placed : Placed) (next : NextOf (laid .cursor) placed) where
-    placed-is : (t : ℕ) → t < around c → c ≡ turned c t → placed ≡ placedAt (c .racks) (c .«rack_size») ((t + k) % around c)
-    placed-is t l at =
-        next-at (c .racks) (c .«rack_size») ((t + k) % around c) (laid .cursor) placed next (within (t + k)) (so-far .cursor-is t l at)
-
-    on-machine : (p : Plan) (start : ℕ) → p .racks ≡ c .racks → p .rackSize ≡ c .«rack_size» → c ≡ turned c (start % around c)
-        → placed .machine ≡ machineOf p (start + k)
-    on-machine p start racks size at =
-        ap (λ (x : Placed). x .machine) (placed-is (start % around c) (within start) at)
-        ∙ ap (λ (s : ℕ). placedAt (c .racks) (c .«rack_size») s .machine) (mod-add-mod start (around c) k)
-        ∙ machine-is p c racks size (start + k)
-
-    pub lay-more : LaidAs c (k + 1) (record { word = laid .word + 2 ^ placed .machine; cursor = placed .cursor })
-    unfolding placedAt
-    lay-more =
-        record {
-          word-is = λ p start shaped racks size at.
-              ap₂ (λ (word m : ℕ). word + 2 ^ m) (so-far .word-is p start shaped racks size at) (on-machine p start racks size at)
-              ∙ sym (laid-step p shaped start k);
-          cursor-is = λ t l at.
-              ap (λ (x : Placed). x .cursor) (placed-is t l at)
-              ∙ ap (turned c) (mod-add-mod (t + k) (around c) 1 ∙ ap (λ (q : ℕ). q % around c) (add-assoc t k 1));
-        }
-
-    -- the machine holds none of the k copies
-    pub lay-fresh : (placed .machine < maxMachines) × (bit (laid .word) (placed .machine) ≡ 0)
-    lay-fresh =
-        let at : c ≡ turned c (asked .at % around c) = rw (mod-eq-of-lt (asked .at-below)) (asked .at-is) in
-        let shaped = bare-shaped c (asked .circle) in
-        rw (on-machine (bare c) (asked .at) refl refl at, so-far .word-is (bare c) (asked .at) shaped refl refl at) (
-          lt-of-lt-of-le (machineOf-below (bare c) shaped (asked .at + k)) (asked .circle .machines-max),
-          laid-fresh (bare c) shaped (asked .at) k (omega (arith, asked .few)),
-        )
-
--- Where the copies of block i begin: past those of the blocks before it.
-abbrev pub cursorFor : Plan → ℕ → Cursor
-cursorFor p i = cursorAt (p .racks) (p .rackSize) (sum i (chosen p) % machines p)
-
-pub cursor-first : (p : Plan) → cursorFor p 0 ≡ cursorAt (p .racks) (p .rackSize) 0
-cursor-first p = rw (sum-zero (chosen p), zero-mod (machines p))
-
-module _ (p : Plan) (valid : Valid p) (i : ℕ) where
-  begin-below : sum i (chosen p) % machines p < machines p
-  begin-below = mod-lt (sum i (chosen p)) (machines-pos p (valid .shaped))
-
-  asked-at : i < blockCount p → LayAsked (cursorFor p i) (chosen p i)
-  unfolding cursorAt upper
-  asked-at l =
+  -- once all are laid
+  pub laying-all : (count word : ℕ) (at : Cursor) → Laying c count word at → LaidAs c count (record { word = word; cursor = at })
+  laying-all count word at laid =
       record {
-        circle = circle-at (p .racks) (p .rackSize) (sum i (chosen p) % machines p) begin-below (valid .shaped .machines-max);
-        at = sum i (chosen p) % machines p;
-        at-below = begin-below;
-        at-is = refl;
-        few = le-trans (chosen-laws p valid .feasible .at-most i l) (min-le-right maxReplicas (machines p));
+        word-is = λ p start of here.
+            laid .word-is
+            ∙ ap (λ (q : ℕ). laidWord (bare (c .cluster)) q count) (place-is c circle _ here)
+            ∙ bare-laid p (c .cluster) of start count;
+        cursor-is = λ t l here. laid .at-is ∙ ap (λ (q : ℕ). cursorAt (c .cluster) ((q + count) % around c)) (place-is c circle t here);
       }
 
-  laid-at : (laid : Laid) → LaidAs (cursorFor p i) (chosen p i) laid
-      → (laid .word ≡ firstWord p i) × (laid .cursor ≡ cursorFor p (i + 1))
+  -- one copy more
+  module _ (k word : ℕ) (at : Cursor) (so-far : Laying c k word at) where
+    pub laying-circle : OnCircle at
+    laying-circle = rw (so-far .at-is) (cursorAt-circle (c .cluster) _ (circle .in-range) (within (placeOf c + k)))
+
+    module _ (visit : Visit) (next : (t : ℕ) → t < around at → at ≡ cursorAt (at .cluster) t → visit ≡ visitAt (at .cluster) t) where
+      visit-is : visit ≡ visitAt (c .cluster) ((placeOf c + k) % around c)
+      unfolding cursorAt
+      visit-is = (rw (so-far .at-is) at next) ((placeOf c + k) % around c) (within (placeOf c + k)) refl
+
+      machine-is : visit .machine ≡ machineOf (bare (c .cluster)) (placeOf c + k)
+      unfolding visitAt position
+      machine-is = ap (λ (x : Visit). x .machine) visit-is
+
+      pub laying-more : Laying c (k + 1) (word + 2 ^ visit .machine) (visit .cursor)
+      unfolding visitAt
+      laying-more =
+          record {
+            word-is = ap₂ (λ (w m : ℕ). w + 2 ^ m) (so-far .word-is) machine-is
+                ∙ sym (laid-step (bare (c .cluster)) (bare-shaped (c .cluster) (circle .in-range)) (placeOf c) k);
+            at-is = ap (λ (x : Visit). x .cursor) visit-is
+                ∙ ap (cursorAt (c .cluster))
+                (mod-add-mod (placeOf c + k) (around c) 1 ∙ ap (λ (q : ℕ). q % around c) (add-assoc (placeOf c) k 1));
+          }
+
+      -- the machine holds none of the k copies
+      pub laying-fresh : k < around c → (visit .machine < maxMachines) × (bit word (visit .machine) ≡ 0)
+      laying-fresh few =
+          let shaped = bare-shaped (c .cluster) (circle .in-range) in
+          rw (machine-is, so-far .word-is) (
+            lt-of-lt-of-le (machineOf-below (bare (c .cluster)) shaped (placeOf c + k)) (circle .in-range .machines-max),
+            laid-fresh (bare (c .cluster)) shaped (placeOf c) k few,
+          )
+
+-- ── The first placement ────────────────────────────────────────────────────────────────────────────────────────────────
+
+-- Where the copies of block i begin: past those of the blocks before it.
+abbrev pub cursorFor : Plan → Cluster → ℕ → Cursor
+cursorFor p c i = cursorAt c (sum i (chosen p) % machinesIn c)
+
+pub cursorFor-first : (p : Plan) (c : Cluster) → cursorAt c 0 ≡ cursorFor p c 0
+cursorFor-first p c = rw (sum-zero (chosen p), zero-mod (machinesIn c))
+
+-- Laying its chosen count from there makes its word of the first placement, and ends where the next block begins.
+module _ (p : Plan) (c : Cluster) (of : ClusterOf p c) (i : ℕ) where
+  begin-below : sum i (chosen p) % machinesIn c < machinesIn c
+  begin-below = let r = cluster-range p c of in mod-lt (sum i (chosen p)) (one-le-mul (r .racks-pos) (r .size-pos))
+
+  cursorFor-asked : i < c .blocks → LayAsked (cursorFor p c i) (chosen p i)
+  unfolding cursorAt upper
+  cursorFor-asked l =
+      record {
+        circle = cursorAt-circle c (sum i (chosen p) % machinesIn c) (cluster-range p c of) begin-below;
+        count-max =
+            rw (cluster-machines p c of)
+            (le-trans (chosen-laws p (of .valid) .feasible .at-most i (rw (cluster-blocks p c of) at l)) (min-le-right maxReplicas (machines p)));
+      }
+
+  cursorFor-laid : (laid : LaidBlock) → LaidAs (cursorFor p c i) (chosen p i) laid
+      → (laid .word ≡ firstWord p i) × (laid .cursor ≡ cursorFor p c (i + 1))
   unfolding cursorAt firstWord
-  laid-at laid says = (
-    says .word-is p (sum i (chosen p)) (valid .shaped) refl refl refl,
-    says .cursor-is (sum i (chosen p) % machines p) begin-below refl
-        ∙ ap (cursorAt (p .racks) (p .rackSize))
-        (mod-add-mod (sum i (chosen p)) (machines p) (chosen p i) ∙ ap (λ (q : ℕ). q % machines p) (sym (sum-step i (chosen p)))),
+  cursorFor-laid laid says = (
+    says .word-is p (sum i (chosen p)) of refl,
+    says .cursor-is (sum i (chosen p) % machinesIn c) begin-below refl
+        ∙ ap (cursorAt c)
+        (mod-add-mod (sum i (chosen p)) (machinesIn c) (chosen p i) ∙ ap (λ (q : ℕ). q % machinesIn c) (sym (sum-step i (chosen p)))),
   )
 
-  -- laying its chosen count from there makes its word of the first placement, and ends where the next block begins
-  module _ (c : Cursor) (at : c ≡ cursorFor p i) where
-    pub block-asked : i < blockCount p → LayAsked c (chosen p i)
-    block-asked l = rw at (asked-at l)
+  module _ (cursor : Cursor) (at : cursor ≡ cursorFor p c i) where
+    pub block-asked : i < c .blocks → LayAsked cursor (chosen p i)
+    block-asked l = rw at (cursorFor-asked l)
 
-    pub block-laid : (laid : Laid) → LaidAs c (chosen p i) laid → (laid .word ≡ firstWord p i) × (laid .cursor ≡ cursorFor p (i + 1))
-    block-laid laid says = laid-at laid (rw at at says)
+    pub block-laid : (laid : LaidBlock) → LaidAs cursor (chosen p i) laid → (laid .word ≡ firstWord p i) × (laid .cursor ≡ cursorFor p c (i + 1))
+    block-laid laid says = cursorFor-laid laid (rw at at says)

@@ -27,12 +27,9 @@ pub record OnCircle (c : Cursor) : Type 0 where
   pub rack-below : c .rack < c .cluster .racks
   pub level-below : c .level < c .cluster .«rack_size»
 
--- A cursor at some position, and no more copies than machines.
+-- A cursor on it, and no more copies than machines.
 pub record LayAsked (c : Cursor) (count : ℕ) : Type 0 where
   pub circle : OnCircle c
-  pub at : ℕ
-  pub at-below : at < machinesIn (c .cluster)
-  pub at-is : c ≡ cursorAt (c .cluster) at
   pub count-max : count ≤ machinesIn (c .cluster)
 
 -- The word that the model lays from the cursor's position on, and the cursor past it.

@@ -1,58 +1,75 @@
 -- What the lines and the run before them are given and say, in the model's terms.
 use mathlib.Core.Path.{_≡_}
-use mathlib.Core.List.{List, [], _∷_}
-use Prim.Native.Nat.{ℕ, _<_, _≤_, _^_}
+use mathlib.Core.List.{List, [], _∷_, _++_}
+use Prim.Native.Nat.{ℕ, _≤_}
 use lib.ListN.{length, getD}
-use Rattle.model.specs.Plan.{Plan, blockCount, blockOf}
-use Rattle.model.specs.Refusal.{judge, accepted, maxBlocks}
-use Rattle.model.specs.Replication.{share, largestShare, chosen}
-use Rattle.model.specs.Placement.{firstPlacement}
+use Rattle.model.specs.Plan.{Plan}
+use Rattle.model.specs.Refusal.{maxMachines, judge, accepted}
+use Rattle.model.specs.Replication.{chosen}
+use Rattle.model.specs.Placement.{firstPlacement, maxLoad, minLoad, totalLoad, maxShare}
 use Rattle.model.specs.Steps.{run}
-use Rattle.model.specs.Listing.{line, blockWord, holders, lines, endWord, listingRoom}
+use Rattle.model.specs.Listing.{line, planWord, blockWord, holders, lines, endWord, listingRoom}
+use Rattle.cluster.specs.declared.Cluster.{Cluster}
+use Rattle.cluster.specs.Blocks.{shareIn, countIn, ProfilesOf, PlacementFits}
 use Rattle.header.specs.declared.Header.{Header}
 use Rattle.plan.specs.declared.Reading.{Reading}
 use Rattle.plan.specs.declared.Reading.the-variants.{Refused, Accepted}
 use Rattle.plan.specs.Reading.{planOf}
-use Rattle.balance.specs.declared.Ran.{Ran}
 use Rattle.balance.specs.Standing.{ranOf}
 use Rattle.text.specs.Pasted.{Room}
 use Rattle.listing.specs.declared.FirstRun.{FirstRun}
 
--- A block line from the block's number, count, share and word.
-unfoldable pub blockRow : ℕ → ℕ → ℕ → ℕ → List ℕ
-blockRow i count share word = line blockWord (i ∷ count ∷ share ∷ holders word 64)
+-- A block line from the block's numbers and word, and from its profile.
+unfoldable pub numberRow : ℕ → ℕ → ℕ → ℕ → List ℕ
+numberRow i count share word = line blockWord (i ∷ count ∷ share ∷ holders word maxMachines)
+
+abbrev pub blockRow : ℕ → ℕ → ℕ → List ℕ
+blockRow i profile word = numberRow i (countIn profile) (shareIn profile) word
 
 -- The line of block i, from the lists of all blocks.
-unfoldable pub rowAt : List ℕ → List ℕ → List ℕ → ℕ → List ℕ
-rowAt counts shares words i = blockRow i (getD counts i 0) (getD shares i 0) (getD words i 0)
+unfoldable pub rowAt : List ℕ → List ℕ → ℕ → List ℕ
+rowAt profiles words i = blockRow i (getD profiles i 0) (getD words i 0)
 
--- Lists of B items, and room for their lines.
-pub record RowsAsked (at : ℕ) (counts shares words : List ℕ) (blocks : ℕ) (text : List ℕ) : Type 0 where
-  pub room : Room at (lines blocks (rowAt counts shares words)) text
-  pub few : blocks ≤ maxBlocks
-  pub count-room : blocks ≤ length counts
-  pub share-room : blocks ≤ length shares
-  pub word-room : blocks ≤ length words
+-- The first line, the block lines and the last line, from their numbers.
+abbrev pub firstRow : Cluster → List ℕ
+firstRow c = line planWord (c .racks ∷ c .«rack_size» ∷ c .blocks ∷ [])
 
--- The last line from its numbers.
-unfoldable pub endRow : Ran → ℕ → ℕ → ℕ → ℕ → List ℕ
-endRow ran maximum minimum total top =
-    line (endWord (ran .rested)) (ran .steps ∷ maximum ∷ minimum ∷ total ∷ top ∷ [])
+abbrev pub rows : Cluster → List ℕ → List ℕ → List ℕ
+rows c profiles words = lines (c .blocks) (rowAt profiles words)
 
--- An accepted plan's bytes with its header, room for its numbers, and as many words as it has blocks.
-pub record FirstRunAsked (bytes : List ℕ) (h : Header) (counts shares words : List ℕ) : Type 0 where
+unfoldable pub endRow : FirstRun → List ℕ
+endRow r =
+    line (endWord (r .ran .rested))
+    (r .ran .steps ∷ r .report .«max_load» ∷ r .report .«min_load» ∷ r .report .«total_load» ∷ r .top ∷ [])
+
+abbrev pub allRows : Cluster → List ℕ → List ℕ → FirstRun → List ℕ
+allRows c profiles words r = (firstRow c ++ rows c profiles words) ++ endRow r
+
+-- A placement with its profiles, and room for its block lines.
+pub record RowsAsked (at : ℕ) (c : Cluster) (profiles words text : List ℕ) : Type 0 where
+  pub fits : PlacementFits c words profiles
+  pub room : Room at (rows c profiles words) text
+
+-- Room for every line.
+pub record LinesAsked (c : Cluster) (profiles words : List ℕ) (r : FirstRun) (text : List ℕ) : Type 0 where
+  pub fits : PlacementFits c words profiles
+  pub room : Room 0 (allRows c profiles words r) text
+
+-- An accepted plan's bytes with its header, room for its profiles, and as many words as it has blocks.
+pub record FirstRunAsked (bytes : List ℕ) (h : Header) (profiles words : List ℕ) : Type 0 where
   pub accepts : judge bytes ≡ accepted (planOf bytes h)
-  pub count-room : h .blocks ≤ length counts
-  pub share-room : h .blocks ≤ length shares
-  pub words-are : length words ≡ h .blocks
+  pub profile-room : h .cluster .blocks ≤ length profiles
+  pub words-are : length words ≡ h .cluster .blocks
 
--- The chosen counts, their shares, and the run from the first placement.
-pub record FirstRunAs (p : Plan) (limit : ℕ) (counts shares words : List ℕ) (r : FirstRun) : Type 0 where
-  pub counts-are : (i : ℕ) → i < blockCount p → getD counts i 0 ≡ chosen p i
-  pub shares-are : (i : ℕ) → i < blockCount p → getD shares i 0 ≡ share (blockOf p i .popularity) (chosen p i)
-  pub shares-narrow : (i : ℕ) → i < blockCount p → getD shares i 0 < 2 ^ 34
+-- The run from the first placement, the profiles at the chosen counts, and the report on the placement after it.
+pub record FirstRunAs (p : Plan) (c : Cluster) (limit : ℕ) (profiles words : List ℕ) (r : FirstRun) : Type 0 where
+  pub fits : PlacementFits c words profiles
+  pub profiles-of : ProfilesOf p (chosen p) c profiles
   pub run-is : ranOf (r .ran) words ≡ run p limit (firstPlacement p)
-  pub top-is : r .top ≡ largestShare p (chosen p)
+  pub max-is : r .report .«max_load» ≡ maxLoad p words
+  pub min-is : r .report .«min_load» ≡ minLoad p words
+  pub total-is : r .report .«total_load» ≡ totalLoad p words
+  pub top-is : r .top ≡ maxShare p words
 
 -- An accepted plan's bytes with its header, and a text with room for every listing; also with as many words as it has blocks.
 pub record ListAsked (bytes : List ℕ) (h : Header) (text : List ℕ) : Type 0 where
@@ -61,9 +78,9 @@ pub record ListAsked (bytes : List ℕ) (h : Header) (text : List ℕ) : Type 0 
 
 pub record WordsAsked (bytes : List ℕ) (h : Header) (words text : List ℕ) : Type 0 where
   pub asked : ListAsked bytes h text
-  pub words-are : length words ≡ h .blocks
+  pub words-are : length words ≡ h .cluster .blocks
 
 -- The number of a refused plan, 0 for an accepted one.
-unfoldable pub codeOf : Reading → ℕ
-codeOf (Refused code) = code
-codeOf (Accepted h) = 0
+unfoldable pub readingCode : Reading → ℕ
+readingCode (Refused code) = code
+readingCode (Accepted h) = 0

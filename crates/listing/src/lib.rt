@@ -1,12 +1,16 @@
 // The listing that the program prints: its lines, and the public entries that write it into a lent text.
 use balance::Ran;
+use cluster::Cluster;
+use cluster::MAX_BLOCKS;
 use header::Header;
+use loads::LoadReport;
 use plan::Reading;
 ghost use mathlib.Core.Path.{_≡_};
-ghost use Rattle.model.specs.Listing.{fields, holders, lines, listingOf, listingCall, printCall};
+ghost use Rattle.model.specs.Refusal.{maxMachines};
+ghost use Rattle.model.specs.Listing.{fields, holders, listingOf, listingCall, printCall};
 ghost use Rattle.plan.specs.Reading.{planOf};
 ghost use Rattle.text.specs.Pasted.{Room, Put};
-ghost use Rattle.listing.specs.Rows.{blockRow, rowAt, RowsAsked, endRow, FirstRunAsked, FirstRunAs, ListAsked, WordsAsked, codeOf};
+ghost use Rattle.listing.specs.Rows.{blockRow, rows, endRow, allRows, RowsAsked, LinesAsked, FirstRunAsked, FirstRunAs, ListAsked, WordsAsked, readingCode};
 ghost use Rattle.listing.specs.Entries.{listingOutcome};
 
 // Bytes that every listing fits in, and the code for a shorter text, above all refusal numbers.
@@ -20,16 +24,17 @@ pub enum ListingAnswer {
     Listed(usize),
 }
 
-// How the run ended, and the largest share.
+// How the run from the first placement ended, the report on the placement after it, and the largest share.
 struct FirstRun {
     ran: Ran,
+    report: LoadReport,
     top: u64,
 }
 
 // Puts the machines that the word names, rising, from set bit to set bit.
 fn put_holders(text: &mut [u8], at: usize, word: u64) -> usize
-    requires { ⌜ Room at (fields (holders word 64)) (now text) ⌝ }
-    ensures { λ r. ⌜ Put at (fields (holders word 64)) (now (text .entry)) (now (text .exit)) r ⌝ }
+    requires { ⌜ Room at (fields (holders word maxMachines)) (now text) ⌝ }
+    ensures { λ r. ⌜ Put at (fields (holders word maxMachines)) (now (text .entry)) (now (text .exit)) r ⌝ }
 {
     let mut next = at;
     let mut rest = word;
@@ -42,11 +47,11 @@ fn put_holders(text: &mut [u8], at: usize, word: u64) -> usize
 }
 
 // Puts a block line: number, count, share, machines rising.
-fn put_block(text: &mut [u8], at: usize, i: usize, count: u8, share: u64, word: u64) -> usize
-    requires { ⌜ Room at (blockRow i count share word) (now text) ⌝ }
-    ensures { λ r. ⌜ Put at (blockRow i count share word) (now (text .entry)) (now (text .exit)) r ⌝ }
+fn put_block(text: &mut [u8], at: usize, i: usize, profile: u64, word: u64) -> usize
+    requires { ⌜ Room at (blockRow i profile word) (now text) ⌝ }
+    ensures { λ r. ⌜ Put at (blockRow i profile word) (now (text .entry)) (now (text .exit)) r ⌝ }
 {
-    let numbers = [i as u64, count as u64, share];
+    let numbers = [i as u64, cluster::count_of(profile) as u64, cluster::share_of(profile)];
     let named = text::put_word(text, at, b"block");
     let listed = text::put_fields(text, named, &numbers);
     let held = put_holders(text, listed, word);
@@ -54,75 +59,71 @@ fn put_block(text: &mut [u8], at: usize, i: usize, count: u8, share: u64, word: 
 }
 
 // Puts the block lines in file order.
-fn put_blocks(
-    text: &mut [u8],
-    at: usize,
-    counts: &[u8],
-    shares: &[u64],
-    words: &[u64],
-    blocks: usize,
-) -> usize
-    requires { ⌜ RowsAsked at (now counts) (now shares) (now words) blocks (now text) ⌝ }
-    ensures { λ r. ⌜ Put at (lines blocks (rowAt (now (counts .entry)) (now (shares .entry)) (now (words .entry))))
-        (now (text .entry)) (now (text .exit)) r ⌝ }
+fn put_blocks(text: &mut [u8], at: usize, profiles: &[u64], words: &[u64], cluster: Cluster) -> usize
+    requires { ⌜ RowsAsked at cluster (now profiles) (now words) (now text) ⌝ }
+    ensures { λ r. ⌜ Put at (rows cluster (now (profiles .entry)) (now (words .entry))) (now (text .entry)) (now (text .exit)) r ⌝ }
 {
     let mut next = at;
     let mut i: usize = 0;
-    while i < blocks {
-        next = put_block(text, next, i, counts[i], shares[i], words[i]);
+    while i < cluster.blocks {
+        next = put_block(text, next, i, profiles[i], words[i]);
         i += 1;
     }
     next
 }
 
 // Puts the last line: how the run ended, steps, hottest load, coolest load, sum of loads, largest share.
-fn put_last(
-    text: &mut [u8],
-    at: usize,
-    ran: Ran,
-    max_load: u64,
-    min_load: u64,
-    total_load: u64,
-    max_share: u64,
-) -> usize
-    requires { ⌜ Room at (endRow ran «max_load» «min_load» «total_load» «max_share») (now text) ⌝ }
-    ensures { λ r. ⌜ Put at (endRow ran «max_load» «min_load» «total_load» «max_share») (now (text .entry)) (now (text .exit)) r ⌝ }
+fn put_last(text: &mut [u8], at: usize, made: FirstRun) -> usize
+    requires { ⌜ Room at (endRow made) (now text) ⌝ }
+    ensures { λ r. ⌜ Put at (endRow made) (now (text .entry)) (now (text .exit)) r ⌝ }
 {
-    let numbers = [ran.steps as u64, max_load, min_load, total_load, max_share];
+    let ran = made.ran;
+    let report = made.report;
+    let numbers = [
+        ran.steps as u64,
+        report.max_load,
+        report.min_load,
+        report.total_load,
+        made.top,
+    ];
     if ran.rested {
         return text::put_line(text, at, b"rest", &numbers);
     }
     text::put_line(text, at, b"spent", &numbers)
 }
 
-// The chosen counts and their shares in the lent lists, and in the words the placement after a run from the first placement.
-fn run_first(
-    bytes: &[u8],
-    h: Header,
-    limit: u32,
-    counts: &mut [u8],
-    shares: &mut [u64],
-    words: &mut [u64],
-) -> FirstRun
-    requires { ⌜ FirstRunAsked (now bytes) h (now counts) (now shares) (now words) ⌝ }
-    ensures { λ r. ⌜ FirstRunAs (planOf (now (bytes .entry)) h) limit (now (counts .exit)) (now (shares .exit)) (now (words .exit)) r ⌝ }
+// Puts all lines.
+fn put_lines(text: &mut [u8], cluster: Cluster, profiles: &[u64], words: &[u64], made: FirstRun) -> usize
+    requires { ⌜ LinesAsked cluster (now profiles) (now words) made (now text) ⌝ }
+    ensures { λ r. ⌜ Put 0 (allRows cluster (now (profiles .entry)) (now (words .entry)) made) (now (text .entry)) (now (text .exit)) r ⌝ }
 {
-    let mut spreads = [0u8; 1024];
-    let top = counts::prepare(bytes, h, counts, shares, &mut spreads);
-    let blocks = h.blocks;
-    layout::lay_all(h.racks, h.rack_size, counts, blocks, words);
-    let capacity = h.capacity as u64;
-    let ran = balance::run_words(
-        words,
-        shares,
-        &spreads,
-        h.racks,
-        h.rack_size,
-        capacity,
-        blocks,
-        limit,
-    );
-    FirstRun { ran, top }
+    let numbers = [
+        cluster.racks as u64,
+        cluster.rack_size as u64,
+        cluster.blocks as u64,
+    ];
+    let first = text::put_line(text, 0, b"plan", &numbers);
+    let next = put_blocks(text, first, profiles, words, cluster);
+    put_last(text, next, made)
+}
+
+// The profiles at the chosen counts in the lent list, and in the words the placement after a run from the first placement.
+fn run_first(bytes: &[u8], h: Header, limit: u32, profiles: &mut [u64], words: &mut [u64]) -> FirstRun
+    requires { ⌜ FirstRunAsked (now bytes) h (now profiles) (now words) ⌝ }
+    ensures { λ r. ⌜ FirstRunAs (planOf (now (bytes .entry)) h) (h .cluster) limit (now (profiles .exit)) (now (words .exit)) r ⌝ }
+{
+    let cluster = h.cluster;
+    let top = admission::prepare(bytes, h, profiles);
+    layout::lay_all(cluster, profiles, words);
+    let first = loads::sum_words(words, profiles, cluster);
+    let ran = balance::run(words, profiles, first, cluster, limit);
+    let last = loads::sum_words(words, profiles, cluster);
+    let report = loads::report(last, cluster);
+    FirstRun {
+        ran,
+        report,
+        top,
+    }
 }
 
 // Puts the listing of an accepted plan, with room for its words.
@@ -130,21 +131,10 @@ fn put_listing(bytes: &[u8], h: Header, limit: u32, words: &mut [u64], text: &mu
     requires { ⌜ WordsAsked (now bytes) h (now words) (now text) ⌝ }
     ensures { λ r. ⌜ Put 0 (listingOf (planOf (now (bytes .entry)) h) limit) (now (text .entry)) (now (text .exit)) r ⌝ }
 {
-    let mut counts = [0u8; 1024];
-    let mut shares = [0u64; 1024];
-    let made = run_first(bytes, h, limit, &mut counts, &mut shares, words);
-    let blocks = h.blocks;
-    let machines = h.racks * h.rack_size;
-    let tally = tally::tally_words(words, &shares, blocks);
-    let loads = tally.loads;
-    let max_load = tally::max_load(loads, machines);
-    let min_load = tally::min_load(loads, machines);
-    let total_load = tally::total_load(loads, machines);
-    let numbers = [h.racks as u64, h.rack_size as u64, blocks as u64];
-    let first = text::put_line(text, 0, b"plan", &numbers);
-    let next = put_blocks(text, first, &counts, &shares, words, blocks);
-    let ran = made.ran;
-    put_last(text, next, ran, max_load, min_load, total_load, made.top)
+    let cluster = h.cluster;
+    let mut profiles = [0u64; MAX_BLOCKS];
+    let made = run_first(bytes, h, limit, &mut profiles, words);
+    put_lines(text, cluster, &profiles, words, made)
 }
 
 // Puts the listing of an accepted plan.
@@ -152,14 +142,15 @@ fn list_accepted(bytes: &[u8], h: Header, limit: u32, text: &mut [u8]) -> usize
     requires { ⌜ ListAsked (now bytes) h (now text) ⌝ }
     ensures { λ r. ⌜ Put 0 (listingOf (planOf (now (bytes .entry)) h) limit) (now (text .entry)) (now (text .exit)) r ⌝ }
 {
-    let mut words = [0u64; 1024];
-    let blocks = h.blocks;
+    let cluster = h.cluster;
+    let mut words = [0u64; MAX_BLOCKS];
+    let blocks = cluster.blocks;
     put_listing(bytes, h, limit, &mut words[..blocks], text)
 }
 
 // The number of a refused plan, 0 for an accepted one.
 fn refusal_code(reading: Reading) -> u8
-    ensures { λ r. ⌜ r ≡ codeOf reading ⌝ }
+    ensures { λ r. ⌜ r ≡ readingCode reading ⌝ }
 {
     match reading {
         Reading::Refused(code) => code,

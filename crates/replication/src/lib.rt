@@ -47,8 +47,9 @@ fn reaches(demands: &[u64], limit: usize, cluster: Cluster, wanted: u64) -> bool
     let mut total: usize = 0;
     let mut i: usize = 0;
     while i < cluster.blocks {
-        let count = needed(demands[i], wanted);
-        if count > cluster::most_of(demands[i]) {
+        let demand = demands[i];
+        let count = needed(demand, wanted);
+        if count > cluster::most_of(demand) {
             return false;
         }
         total += count;
@@ -69,10 +70,8 @@ fn top_share(demands: &[u64], cluster: Cluster) -> u64
     let mut top: u64 = 0;
     let mut i: usize = 0;
     while i < cluster.blocks {
-        let share = share_at(
-            cluster::popularity_of(demands[i]),
-            cluster::least_of(demands[i]),
-        );
+        let demand = demands[i];
+        let share = share_at(cluster::popularity_of(demand), cluster::least_of(demand));
         if top < share {
             top = share;
         }

@@ -1,7 +1,7 @@
 -- A call on the words lent, as the model's call on all of them; and the calls of a script, one after the other.
 -- Assumes nothing.
 use mathlib.Core.Path.{_≡_, refl, ap, sym, _∙_}
-use mathlib.Core.List.{List, _++_, append-nil}
+use mathlib.Core.List.{List, _++_}
 use Prim.Native.Nat.{ℕ, zero, suc, _+_, _<_, _≤_, min}
 use native.Mathlib.Decide.{decLe}
 use native.Mathlib.Nat.{min-eq-left, min-eq-right}
@@ -11,11 +11,11 @@ use lib.ListN.{length, getD, take, drop, drop-of-length-le}
 use lib.Seq.{take-length, drop-length, take-all, drop-cons}
 use Rattle.model.specs.Steps.{Step}
 use Rattle.model.specs.Calls.{Outcome, RunReply, checkCall, stepCall, runCall}
-use Rattle.model.specs.Claims.{checkWith, stepWith, runWith, Reply, checked, stepped, ran, replyOf, Played, played, does, play}
+use Rattle.model.specs.Claims.{askCheck, askStep, askRun, checked, stepped, ran, Played, played, respond, does, play}
 use Rattle.theory.proofs.Claim.{claim}
 use Rattle.script.specs.declared.LastReply.{LastReply}
 use Rattle.script.specs.declared.LastReply.the-variants.{Checked}
-use Rattle.script.specs.Script.{kindOf, limitOf, sourceOf, lentOf, byKind, bytesOf, callOf, callsOf, replyIs, playedBy}
+use Rattle.script.specs.Script.{sourceOf, lentOf, requestOf, requestIn, bytesOf, callWith, callOf, callsOf, replyIs, playedBy}
 use Rattle.script.specs.Promise.{ScriptPlayed}
 
 -- taking and dropping so many, or as many as there are
@@ -33,53 +33,29 @@ drop-fewer lent words =
       | no l ↦ let more : length words ≤ lent = omega arith in rw (min-eq-right more, drop-length words, drop-of-length-le words more)
     ]
 
-module _ {A : Type 0} (reply : A → Reply) (call : List ℕ → Outcome A) where
-  -- a call that is lent every word
-  all-lent : (words : List ℕ) (out : Outcome A) → out ≡ call words
-      → record { reply = replyOf reply (out .answer); words = out .items }
-      ≡ played reply (call (take (length words) words)) (drop (length words) words)
-  all-lent words out e = rw (take-length words, drop-length words, append-nil (call words .items), e)
-
-  -- a call that is lent a part leaves the words past it
-  part-lent : (lent : ℕ) (words : List ℕ) (out : Played)
-      → let part = take (min lent (length words)) words in
-      out ≡ played reply (call (take (length part) part)) (drop (length part) part)
-      → record { reply = out .reply; words = out .words ++ drop (min lent (length words)) words }
-      ≡ played reply (call (take lent words)) (drop lent words)
-  part-lent lent words out e =
-      ap past (e ∙ sym (all-lent (take (min lent (length words)) words) _ refl)) ∙ rw (take-fewer lent words, drop-fewer lent words)
-    where
-      past : Played → Played
-      past o = record { reply = o .reply; words = o .words ++ drop (min lent (length words)) words }
-
--- an entry's outcome on all of the words, as the model's call
+-- an entry's outcome, as the reply to its request
 module _ (bytes words : List ℕ) where
-  pub check-does : (out : Outcome ℕ) → out ≡ checkCall bytes words
-      → record { reply = replyOf (λ n. checked) (out .answer); words = out .items } ≡ does (checkWith bytes (length words)) words
-  unfolding does
-  check-does = all-lent (λ n. checked) (checkCall bytes) words
+  pub respond-check : (out : Outcome ℕ) → out ≡ checkCall bytes words
+      → played (λ n. checked) out ≡ respond askCheck bytes words
+  unfolding respond
+  respond-check out e = ap (played (λ n. checked)) e
 
-  pub step-does : (out : Outcome Step) → out ≡ stepCall bytes words
-      → record { reply = replyOf stepped (out .answer); words = out .items } ≡ does (stepWith bytes (length words)) words
-  unfolding does
-  step-does = all-lent stepped (stepCall bytes) words
+  pub respond-step : (out : Outcome Step) → out ≡ stepCall bytes words → played stepped out ≡ respond askStep bytes words
+  unfolding respond
+  respond-step out e = ap (played stepped) e
 
-  pub run-does : (limit : ℕ) (out : Outcome RunReply) → out ≡ runCall bytes words limit
-      → record { reply = replyOf ran (out .answer); words = out .items } ≡ does (runWith bytes (length words) limit) words
-  unfolding does
-  run-does limit = all-lent ran (λ s. runCall bytes s limit) words
+  pub respond-run : (limit : ℕ) (out : Outcome RunReply) → out ≡ runCall bytes words limit
+      → played ran out ≡ respond (askRun limit) bytes words
+  unfolding respond
+  respond-run limit out e = ap (played ran) e
 
--- a call of any kind on a part of the words
-pub part-does : (kind : ℕ) (bytes : List ℕ) (lent limit : ℕ) (words : List ℕ) (n : ℕ) (out : Played) → n ≡ min lent (length words)
-    → out ≡ does (byKind kind bytes (length (take n words)) limit) (take n words)
-    → record { reply = out .reply; words = out .words ++ drop n words } ≡ does (byKind kind bytes lent limit) words
-unfolding does byKind
-part-does zero bytes lent limit words n out fewer e =
-    rw fewer (part-lent (λ m. checked) (checkCall bytes) lent words out (rw fewer at e))
-part-does (suc zero) bytes lent limit words n out fewer e =
-    rw fewer (part-lent stepped (stepCall bytes) lent words out (rw fewer at e))
-part-does (suc (suc kind)) bytes lent limit words n out fewer e =
-    rw fewer (part-lent ran (λ s. runCall bytes s limit) lent words out (rw fewer at e))
+-- a call on a part of the words, which leaves those past it
+pub does-part : (bytes : List ℕ) (item : ℕ) (words : List ℕ) (n : ℕ) (out : Played) → n ≡ min (lentOf item) (length words)
+    → out ≡ respond (requestIn item) bytes (take n words)
+    → record { reply = out .reply; words = out .words ++ drop n words } ≡ does (callWith bytes item) words
+unfolding does
+does-part bytes item words n out fewer e =
+    rw (e, fewer, take-fewer (lentOf item) words, drop-fewer (lentOf item) words)
 
 -- the calls from item i on, played from the reply and the words there, end as the whole script does
 module _ (bytes other script before : List ℕ) where
@@ -114,19 +90,19 @@ module _ (bytes other script before : List ℕ) where
             rw same (claim bytes p reads before feasible (callsOf bytes other script) allowed);
       }
 
--- the call of a kind that a test found
-module _ (bytes words : List ℕ) (lent limit : ℕ) {out : Played} where
-  pub kind-zero : (kind : ℕ) → kind ≡ 0 → out ≡ does (checkWith bytes lent) words → out ≡ does (byKind kind bytes lent limit) words
-  unfolding byKind
+-- the request of a kind that a test found
+module _ (bytes words : List ℕ) (limit : ℕ) {out : Played} where
+  pub kind-zero : (kind : ℕ) → kind ≡ 0 → out ≡ respond askCheck bytes words → out ≡ respond (requestOf kind limit) bytes words
+  unfolding requestOf
   kind-zero kind e same = rw e same
 
-  pub kind-one : (kind : ℕ) → kind ≡ 1 → out ≡ does (stepWith bytes lent) words → out ≡ does (byKind kind bytes lent limit) words
-  unfolding byKind
+  pub kind-one : (kind : ℕ) → kind ≡ 1 → out ≡ respond askStep bytes words → out ≡ respond (requestOf kind limit) bytes words
+  unfolding requestOf
   kind-one kind e same = rw e same
 
-  pub kind-more : (kind : ℕ) → (kind ≡ 0 → ⊥) → (kind ≡ 1 → ⊥) → out ≡ does (runWith bytes lent limit) words
-      → out ≡ does (byKind kind bytes lent limit) words
-  unfolding byKind
+  pub kind-more : (kind : ℕ) → (kind ≡ 0 → ⊥) → (kind ≡ 1 → ⊥) → out ≡ respond (askRun limit) bytes words
+      → out ≡ respond (requestOf kind limit) bytes words
+  unfolding requestOf
   kind-more zero a b same = absurd (a refl)
   kind-more (suc zero) a b same = absurd (b refl)
   kind-more (suc (suc kind)) a b same = same
@@ -138,12 +114,12 @@ source-zero zero bytes other l d = refl
 source-zero (suc source) bytes other l d = absurd (d (omega arith))
 
 module _ (bytes other words : List ℕ) (item : ℕ) {out : Played} where
-  pub from-other : sourceOf item ≡ 1 → out ≡ does (byKind (kindOf item) other (lentOf item) (limitOf item)) words
+  pub from-other : sourceOf item ≡ 1 → out ≡ does (callWith other item) words
       → out ≡ does (callOf bytes other item) words
   unfolding callOf bytesOf
   from-other e same = rw e same
 
-  pub from-plan : (sourceOf item ≡ 1 → ⊥) → out ≡ does (byKind (kindOf item) bytes (lentOf item) (limitOf item)) words
+  pub from-plan : (sourceOf item ≡ 1 → ⊥) → out ≡ does (callWith bytes item) words
       → out ≡ does (callOf bytes other item) words
   unfolding callOf
   from-plan d same = rw (source-zero (sourceOf item) bytes other (omega arith) d) same

@@ -2,41 +2,50 @@
 use mathlib.Core.Bool.{true, false}
 use mathlib.Core.List.{List, [], _∷_}
 use Prim.Native.Nat.{ℕ, zero, suc, _/_, _%_, _^_}
-use Rattle.model.specs.Claims.{Call, checkWith, stepWith, runWith, Reply, refusedBy, checked, stepped, ran, Played}
+use Rattle.model.specs.Claims.{Request, askCheck, askStep, askRun, Call, Reply, refusedBy, checked, stepped, ran, Played}
 use Rattle.search.specs.Scene.{stepOf}
 use Rattle.script.specs.declared.LastReply.{LastReply}
 use Rattle.script.specs.declared.LastReply.the-variants.{Refused, Checked, Stepped, Rested, Spent}
 
 -- Bits 0 to 31 of an item: the step limit of a run.
+abbrev pub limitSpan : ℕ
+limitSpan = 2 ^ 32
+
 abbrev pub limitOf : ℕ → ℕ
-limitOf item = item % 2 ^ 32
+limitOf item = item % limitSpan
 
 -- Bits 32 and 33: the kind of call, 0 a check, 1 one step, 2 and 3 a run.
 abbrev pub kindOf : ℕ → ℕ
-kindOf item = item / 2 ^ 32 % 4
+kindOf item = item / limitSpan % 4
 
 -- Bit 34: 1 where the call gets the other bytes in place of the plan's.
 abbrev pub sourceOf : ℕ → ℕ
-sourceOf item = item / 2 ^ 34 % 2
+sourceOf item = item / limitSpan / 4 % 2
 
 -- Bits 35 on: how many of the words the call is lent, all where there are fewer.
 abbrev pub lentOf : ℕ → ℕ
-lentOf item = item / 2 ^ 35
+lentOf item = item / limitSpan / 8
 
--- The call of a kind.
-unfoldable pub byKind : ℕ → List ℕ → ℕ → ℕ → Call
-byKind zero bytes lent limit = checkWith bytes lent
-byKind (suc zero) bytes lent limit = stepWith bytes lent
-byKind (suc (suc kind)) bytes lent limit = runWith bytes lent limit
+-- The request of a kind.
+unfoldable pub requestOf : ℕ → ℕ → Request
+requestOf zero limit = askCheck
+requestOf (suc zero) limit = askStep
+requestOf (suc (suc kind)) limit = askRun limit
+
+abbrev pub requestIn : ℕ → Request
+requestIn item = requestOf (kindOf item) (limitOf item)
 
 -- The bytes of a source.
 unfoldable pub bytesOf : ℕ → List ℕ → List ℕ → List ℕ
 bytesOf zero bytes other = bytes
 bytesOf (suc source) bytes other = other
 
--- The call of an item.
+-- The call of an item, with the bytes that it gets.
+abbrev pub callWith : List ℕ → ℕ → Call
+callWith bytes item = record { bytes = bytes; lent = lentOf item; request = requestIn item }
+
 unfoldable pub callOf : List ℕ → List ℕ → ℕ → Call
-callOf bytes other item = byKind (kindOf item) (bytesOf (sourceOf item) bytes other) (lentOf item) (limitOf item)
+callOf bytes other item = callWith (bytesOf (sourceOf item) bytes other) item
 
 -- The calls of a script.
 unfoldable pub callsOf : List ℕ → List ℕ → List ℕ → List Call

@@ -1,14 +1,16 @@
 // A script of calls, played over one plan and its words: checks, steps and runs, one after the other.
-use inspection::CheckAnswer;
 use search::Step;
+use service::CheckAnswer;
 use service::RunAnswer;
 use service::StepAnswer;
 ghost use mathlib.Core.Path.{_≡_};
 ghost use Prim.Native.Nat.{min};
-ghost use lib.ListN.{length};
-ghost use Rattle.model.specs.Claims.{checkWith, stepWith, runWith, does};
-ghost use Rattle.script.specs.Script.{kindOf, limitOf, lentOf, byKind, callOf, playedBy};
+ghost use Rattle.model.specs.Claims.{askCheck, askStep, askRun, respond, does};
+ghost use Rattle.script.specs.Script.{requestIn, callWith, callOf, playedBy};
 ghost use Rattle.script.specs.Promise.{ScriptPlayed};
+
+// An item's lowest 32 bits are a step limit.
+const LIMIT_SPAN: u64 = 4294967296;
 
 // What a call answered: refused with its number, that the check passed, the step taken (`Rest` where there is none), or
 // how a run ended with the number of steps taken.
@@ -23,9 +25,9 @@ pub enum LastReply {
 // A check of the words lent.
 fn check_lent(bytes: &[u8], words: &[u64]) -> LastReply
     ensures { λ r. ⌜ playedBy r (now (words .entry))
-        ≡ does (checkWith (now (bytes .entry)) (length (now (words .entry)))) (now (words .entry)) ⌝ }
+        ≡ respond askCheck (now (bytes .entry)) (now (words .entry)) ⌝ }
 {
-    let answer = inspection::check(bytes, words);
+    let answer = service::check(bytes, words);
     match answer {
         CheckAnswer::Refused(code) => LastReply::Refused(code),
         CheckAnswer::Feasible(_blocks) => LastReply::Checked,
@@ -35,7 +37,7 @@ fn check_lent(bytes: &[u8], words: &[u64]) -> LastReply
 // One step on the words lent.
 fn step_lent(bytes: &[u8], words: &mut [u64]) -> LastReply
     ensures { λ r. ⌜ playedBy r (now (words .exit))
-        ≡ does (stepWith (now (bytes .entry)) (length (now (words .entry)))) (now (words .entry)) ⌝ }
+        ≡ respond askStep (now (bytes .entry)) (now (words .entry)) ⌝ }
 {
     let answer = service::step(bytes, words);
     match answer {
@@ -47,7 +49,7 @@ fn step_lent(bytes: &[u8], words: &mut [u64]) -> LastReply
 // A run on the words lent.
 fn run_lent(bytes: &[u8], words: &mut [u64], limit: u32) -> LastReply
     ensures { λ r. ⌜ playedBy r (now (words .exit))
-        ≡ does (runWith (now (bytes .entry)) (length (now (words .entry))) limit) (now (words .entry)) ⌝ }
+        ≡ respond (askRun limit) (now (bytes .entry)) (now (words .entry)) ⌝ }
 {
     let answer = service::run(bytes, words, limit);
     match answer {
@@ -60,16 +62,16 @@ fn run_lent(bytes: &[u8], words: &mut [u64], limit: u32) -> LastReply
 // The call of an item's kind, on the words lent.
 fn call_lent(bytes: &[u8], words: &mut [u64], item: u64) -> LastReply
     ensures { λ r. ⌜ playedBy r (now (words .exit))
-        ≡ does (byKind (kindOf item) (now (bytes .entry)) (length (now (words .entry))) (limitOf item)) (now (words .entry)) ⌝ }
+        ≡ respond (requestIn item) (now (bytes .entry)) (now (words .entry)) ⌝ }
 {
-    let kind = item / 4294967296 % 4;
+    let kind = item / LIMIT_SPAN % 4;
     if kind == 0 {
         return check_lent(bytes, words);
     }
     if kind == 1 {
         return step_lent(bytes, words);
     }
-    run_lent(bytes, words, (item % 4294967296) as u32)
+    run_lent(bytes, words, (item % LIMIT_SPAN) as u32)
 }
 
 // The smaller of two numbers.
@@ -85,9 +87,9 @@ fn fewer(asked: usize, held: usize) -> usize
 // The call of an item, on the first so many of the words as it asks for.
 fn call_part(bytes: &[u8], words: &mut [u64], item: u64) -> LastReply
     ensures { λ r. ⌜ playedBy r (now (words .exit))
-        ≡ does (byKind (kindOf item) (now (bytes .entry)) (lentOf item) (limitOf item)) (now (words .entry)) ⌝ }
+        ≡ does (callWith (now (bytes .entry)) item) (now (words .entry)) ⌝ }
 {
-    let asked = (item / 34359738368) as usize;
+    let asked = (item / LIMIT_SPAN / 8) as usize;
     let lent = fewer(asked, words.len());
     call_lent(bytes, &mut words[..lent], item)
 }
@@ -97,7 +99,7 @@ fn call_item(bytes: &[u8], other: &[u8], words: &mut [u64], item: u64) -> LastRe
     ensures { λ r. ⌜ playedBy r (now (words .exit))
         ≡ does (callOf (now (bytes .entry)) (now (other .entry)) item) (now (words .entry)) ⌝ }
 {
-    let source = item / 17179869184 % 2;
+    let source = item / LIMIT_SPAN / 4 % 2;
     if source == 1 {
         return call_part(other, words, item);
     }

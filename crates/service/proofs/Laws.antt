@@ -3,27 +3,24 @@
 use mathlib.Core.Path.{_≡_, refl, ap, sym, _∙_}
 use mathlib.Core.Bool.{Bool}
 use mathlib.Core.List.{List}
-use Prim.Native.Nat.{ℕ, _<_}
-use native.Mathlib.Nat.{pos-of-ne-zero, mul-pos}
+use Prim.Native.Nat.{ℕ}
+use native.Mathlib.Nat.{pos-of-ne-zero}
 use lib.ListN.{length, getD}
 use Rattle.order.specs.Table.{filled}
 use Rattle.order.proofs.Tables.{filled-cong}
-use Rattle.order.proofs.Sums.{sum-cong}
-use Rattle.order.proofs.Extremes.{largest-cong, smallest-cong}
-use Rattle.model.specs.Plan.{Plan, machines, blockCount}
+use Rattle.model.specs.Plan.{Plan, blockCount}
 use Rattle.model.specs.Refusal.{judge}
 use Rattle.model.specs.Replication.{largestShare, chosen}
-use Rattle.model.specs.Placement.{load, maxLoad, minLoad, totalLoad}
 use Rattle.model.specs.Steps.{Run}
 use Rattle.model.specs.Calls.{Outcome, answered, refuse, onPlan, bufferRefusal, placementRefusal, onPlacement, Report, reportOf, RunReply}
 use Rattle.theory.proofs.Outcomes.{onPlan-refused, onPlan-made, check12-enough}
 use Rattle.theory.proofs.Counts.{chosen-laws}
 use Rattle.theory.proofs.Held.{top-held}
 use Rattle.cluster.specs.Blocks.{countIn}
-use Rattle.cluster.proofs.Laws.{cluster-blocks, cluster-machines, profiles-count}
+use Rattle.cluster.proofs.Laws.{cluster-blocks, profiles-count}
 use Rattle.loads.specs.declared.LoadReport.{LoadReport}
 use Rattle.loads.specs.Loads.{ReportOf}
-use Rattle.loads.proofs.Laws.{loads-load}
+use Rattle.loads.proofs.PlanLoads.{report-max, report-min, report-total}
 use Rattle.admission.specs.declared.Intake.{Intake}
 use Rattle.admission.specs.declared.Placement.{Placement}
 use Rattle.admission.specs.Admission.{PlanReady, Admitted, PlacementReady, PlacementAdmitted}
@@ -68,19 +65,13 @@ counts-are bytes items profiles lent r ready =
 -- the loads that were summed make the report
 pub report-is : (bytes words profiles : List ℕ) (r : Placement) (ready : PlacementReady bytes words profiles r) (report : LoadReport)
     → ReportOf (r .loads) (r .cluster) report → reportIn report (r .top) ≡ reportOf (ready .plan) words
-unfolding reportOf maxLoad minLoad totalLoad
+unfolding reportOf
 report-is bytes words profiles r ready report of =
     let p = ready .plan in
     let c = r .cluster in
-    let cluster = ready .prepared .profiles-of .cluster in
-    let s = cluster .valid .shaped in
-    let all = cluster-machines p c cluster in
-    let same : (m : ℕ) → m < machines p → getD (r .loads .load) m 0 ≡ load p words m =
-    λ m l. loads-load c words profiles _ _ (ready .loads-of) p (chosen p) (ready .placement) m (rw all l)
-    in
-    let e1 = (rw all at (of .max-is)) ∙ largest-cong (machines p) _ _ same in
-    let e2 = (rw all at (of .min-is)) ∙ smallest-cong (machines p) _ _ (same 0 (mul-pos (s .racks-pos) (s .size-pos))) same in
-    let e3 = (rw all at (of .total-is)) ∙ sum-cong (machines p) _ _ same in
+    let e1 = report-max p (chosen p) c words profiles (r .loads) report (ready .placement) (ready .loads-of) of in
+    let e2 = report-min p (chosen p) c words profiles (r .loads) report (ready .placement) (ready .loads-of) of in
+    let e3 = report-total p (chosen p) c words profiles (r .loads) report (ready .placement) (ready .loads-of) of in
     let e4 = ready .prepared .top-is ∙ top-held p (chosen p) words (ready .placement .feasible) in
     λ i. record { maximum = e1 i; minimum = e2 i; total = e3 i; top = e4 i }
 

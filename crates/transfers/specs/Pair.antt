@@ -6,8 +6,8 @@ use mathlib.Core.Logic.{_↔_}
 use Prim.Native.Nat.{ℕ, _+_, _/_, _<_, _≤_}
 use lib.Dec.{eqb}
 use lib.ListN.{getD}
-use Rattle.model.specs.Plan.{Plan, blockCount, blockOf}
-use Rattle.model.specs.Placement.{bit, wordOf, held, domainsUsed, used, shareOf}
+use Rattle.model.specs.Plan.{Plan, blockCount}
+use Rattle.model.specs.Placement.{bit, wordOf, held, domainsUsed, used}
 use Rattle.model.specs.Steps.{Step, none, move, swap, shifted, canMove, canSwap, first}
 use Rattle.theory.specs.Widths.{shareBound, loadBound}
 use Rattle.theory.specs.Local.{Lowers}

@@ -1,68 +1,102 @@
--- `census::take` meets its contract. The loop's invariant: the tables are those of the words passed.
+-- `index::fill` meets its contract. The loop's invariant: the blocks passed are entered in both parts, and the order is as it was.
 -- Assumes nothing.
-use mathlib.Core.Path.{_≡_}
+use mathlib.Core.Path.{_≡_, refl, sym, _∙_}
 use mathlib.Core.List.{List}
 use Prim.Native.Nat.{ℕ, _+_, _-_, _<_, _≤_}
+use native.Mathlib.Nat.{le-trans}
 use native.Mathlib.Omega.{arith}
-use lib.ListN.{getD}
-use Rattle.tally.proofs.Laws.{Passed, passed-none, passed-step, passed-asked}
-use Rattle.candidates.proofs.Laws.{Filed, filed-none, filed-asked, filed-step}
-use Rattle.census.specs.Census.{TakeAsked}
-use Rattle.census.proofs.take.Statement.{statement}
-use Rattle.census.proofs.take.Tie as tie
+use denote.Ref.{now}
+use lib.ListN.{length, getD}
+use Rattle.model.specs.Refusal.{maxBlocks}
+use Rattle.cluster.specs.declared.Cluster.{Cluster}
+use Rattle.index.specs.Index.{indexLength, byNumber, byRank, keysAt, ranksAt, rankAt, Ordered, Indexed, EnterAsked, Entered}
+use Rattle.index.proofs.Laws.{Filed, filed-none, filed-clear, filed-step, ordered-kept}
+use Rattle.index.proofs.fill.Statement.{statement}
+use Rattle.index.proofs.fill.Tie as tie
 
--- the numbers and the ranks of the blocks up to block i: each has room, and none but block i's own is block i's
-module _ {words shares places : List ℕ} {blocks i : ℕ} (asked : TakeAsked words shares places blocks) (here : i < blocks) where
-  number-below : (k : ℕ) → k < i + 1 → k < 1024
-  number-below k l = omega (arith, asked .few)
+-- the first i blocks are entered
+record Filling (entry words index : List ℕ) (i : ℕ) : Type 0 where
+  sized : length index ≡ indexLength
+  number : Filed words index byNumber (λ k. k) i
+  rank : Filed words index byRank (rankAt entry) i
+  kept : (k : ℕ) → keysAt ≤ k → getD index k 0 ≡ getD entry k 0
+
+-- one block more: its number and its rank have room and are no other block's
+module _ {c : Cluster} {profiles entry words index : List ℕ} {i : ℕ} (few : c .blocks ≤ maxBlocks) (order : Ordered c profiles entry)
+    (past : Filling entry words index i) (here : i < c .blocks) where
+  number-below : (k : ℕ) → k < i + 1 → k < maxBlocks
+  number-below k l = omega arith
 
   number-apart : (k : ℕ) → k < i → k ≡ i → ⊥
   number-apart k l e = omega arith
 
-  rank-below : (k : ℕ) → k < i + 1 → getD places k 0 < 1024
-  rank-below k l = omega (arith, asked .few, asked .place-below k (omega arith))
+  rank-below : (k : ℕ) → k < i + 1 → rankAt entry k < maxBlocks
+  rank-below k l = le-trans (order .rank-below k (omega arith)) few
 
-  rank-apart : (k : ℕ) → k < i → getD places k 0 ≡ getD places i 0 → ⊥
-  rank-apart k l e = number-apart k l (asked .apart k i (omega arith) here e)
+  rank-apart : (k : ℕ) → k < i → rankAt entry k ≡ rankAt entry i → ⊥
+  rank-apart k l e = number-apart k l (order .rank-apart k i (omega arith) here e)
+
+  same-rank : rankAt index i ≡ rankAt entry i
+  same-rank = past .kept (ranksAt + i) (omega arith)
+
+  enter-asked : EnterAsked index i
+  enter-asked =
+      record {
+        sized = past .sized;
+        below = le-trans here few;
+        rank-below = rw same-rank (rank-below i (omega arith));
+        clear-number = filed-clear (past .number) number-below number-apart;
+        clear-rank = rw same-rank (filed-clear (past .rank) rank-below rank-apart);
+      }
+
+  filling-step : {later : List ℕ} → Entered index (getD words i 0) i later → Filling entry words later (i + 1)
+  filling-step entered =
+      record {
+        sized = entered .sized;
+        number = filed-step (past .number) number-below number-apart (entered .numbered);
+        rank = filed-step (past .rank) rank-below rank-apart (rw same-rank at (entered .ranked));
+        kept = λ k l. entered .kept k l ∙ past .kept k l;
+      }
+
+-- with every block passed
+filling-done : {c : Cluster} {profiles entry words index : List ℕ} → Filling entry words index (c .blocks) → Ordered c profiles entry
+    → Indexed c words profiles index
+filling-done past order =
+    record {
+      ordered = ordered-kept (past .sized) (past .kept) order;
+      by-number = past .number .is;
+      by-rank = λ m i ml l. rw (past .kept (ranksAt + i) (omega arith)) (past .rank .is m i ml l);
+    }
 
 abbrev Inv-loop : tie.InvT-loop
-Inv-loop words shares places blocks loads₀ used₀ on₀ by₀ i₀ loads used on by i =
-    (i ≤ blocks)
-    × Passed words shares i loads used
-    × Filed words (λ k. k) i on
-    × Filed words (λ k. getD places k 0) i by
+Inv-loop index₀ words cluster i₀ index i = Filling index₀ words index i × (i ≤ cluster .blocks)
 
 abbrev μ-loop : tie.MeasureT-loop
-μ-loop words shares places blocks loads₀ used₀ on₀ by₀ i₀ loads used on by i = blocks - i
+μ-loop index₀ words cluster i₀ index i = cluster .blocks - i
 
 -- the call's arguments
 abbrev start : tie.At-loop Inv-loop μ-loop → tie.Start Inv-loop μ-loop
-start at = at .before .before .before .before
+start at = at .before .before .before .before .before .before .before
 
--- a pass of the loop, before its call
-abbrev within : tie.After-shared-slice-known6 Inv-loop μ-loop → tie.In-loop Inv-loop μ-loop
-within c = c .before .before .before .before .before .before .before
+-- the order that was there is there when the loop begins
+order : (at : tie.At-loop Inv-loop μ-loop) {profiles : List ℕ} → Ordered (start at .args .cluster) profiles (now (start at .args .index))
+    → Ordered (start at .args .cluster) profiles (at .before .before .before .clear .last .0)
+order at = let cleared = at .before .before .before .clear .ensures in ordered-kept (cleared .sized) (cleared .kept)
+
+clear-requires : tie.Need-clear-requires Inv-loop μ-loop
+clear-requires c κs = c .before .before .before .pre .ordered .sized
 
 loop-holds : tie.Need-loop-holds Inv-loop μ-loop
-loop-holds c = (omega arith, passed-none _ _, filed-none _ _, filed-none _ _)
-
-mul-r : tie.Need-mul-r Inv-loop μ-loop
-mul-r c = omega arith
-
-shared-slice-read-r : tie.Need-shared-slice-read-r Inv-loop μ-loop
-shared-slice-read-r c = omega arith
-
-slice-aggregate-enter : tie.Need-slice-aggregate-enter Inv-loop μ-loop
-slice-aggregate-enter c = omega arith
-
-slice-aggregate-enter-2 : tie.Need-slice-aggregate-enter-2 Inv-loop μ-loop
-slice-aggregate-enter-2 c = omega arith
-
-slice-aggregate-enter-3 : tie.Need-slice-aggregate-enter-3 Inv-loop μ-loop
-slice-aggregate-enter-3 c = omega arith
-
-slice-aggregate-enter-4 : tie.Need-slice-aggregate-enter-4 Inv-loop μ-loop
-slice-aggregate-enter-4 c = omega arith
+loop-holds c =
+    let cleared = c .before .before .clear .ensures in (
+      record {
+        sized = cleared .sized;
+        number = filed-none _ _ byNumber _ (omega arith) (cleared .clear);
+        rank = filed-none _ _ byRank _ (omega arith) (cleared .clear);
+        kept = λ k l. refl;
+      },
+      omega arith,
+    )
 
 mul-enter : tie.Need-mul-enter Inv-loop μ-loop
 mul-enter c = omega arith
@@ -70,23 +104,12 @@ mul-enter c = omega arith
 shared-slice-read-enter : tie.Need-shared-slice-read-enter Inv-loop μ-loop
 shared-slice-read-enter c = omega arith
 
-mul-enter-2 : tie.Need-mul-enter-2 Inv-loop μ-loop
-mul-enter-2 c = omega arith
-
-shared-slice-read-enter-2 : tie.Need-shared-slice-read-enter-2 Inv-loop μ-loop
-shared-slice-read-enter-2 c = omega arith
-
 enter-requires : tie.Need-enter-requires Inv-loop μ-loop
 enter-requires c κs =
-    let now = within c in
-    let asked = start (now .before) .pre in
-    let inv = now .before .loop .inv in
-    let l = now .loop-test .taken in
-    record {
-      adding = passed-asked (inv .1) (number-below asked l _ (omega arith)) (asked .share-narrow _ l);
-      numbering = filed-asked (inv .2) (number-below asked l) (number-apart asked l);
-      ranking = filed-asked (inv .3) (rank-below asked l) (rank-apart asked l);
-    }
+    let turn = c .before .before in
+    let at = turn .before .before in
+    let asked = start at .pre in
+    enter-asked (asked .in-range .blocks-max) (order at (asked .ordered)) (at .loop .inv .0) (turn .if1 .taken)
 
 add-i : tie.Need-add-i Inv-loop μ-loop
 add-i c = omega arith
@@ -96,56 +119,36 @@ loop-less c = omega arith
 
 loop-again : tie.Need-loop-again Inv-loop μ-loop
 loop-again c =
-    let call = c .before .before .before .before in
-    let now = within (call .before) in
-    let asked = start (now .before) .pre in
-    let inv = now .before .loop .inv in
-    let l = now .loop-test .taken in
-    let entered = call .enter .ensures in (
+    let call = c .before .before in
+    let turn = call .before .before .before in
+    let at = turn .before .before in
+    let asked = start at .pre in (
+      filling-step (asked .in-range .blocks-max) (order at (asked .ordered)) (at .loop .inv .0) (turn .if1 .taken) (call .enter .ensures),
       omega arith,
-      passed-step (inv .1) (asked .share-narrow _ l) (entered .added),
-      filed-step (inv .2) (number-below asked l) (number-apart asked l) (entered .numbered),
-      filed-step (inv .3) (rank-below asked l) (rank-apart asked l) (entered .ranked),
     )
+
+same-length : tie.Need-same-length Inv-loop μ-loop
+same-length c = let at = c .before .before in at .loop .inv .0 .sized ∙ sym (start at .pre .ordered .sized)
 
 returns : tie.Need-returns Inv-loop μ-loop
 returns c =
-    let at = c .before in
-    let done : at .loop .i ≡ start at .args .blocks = omega arith in
-    let few = start at .pre .few in
-    let passed = rw done at (at .loop .inv .1) in
-    let on = rw done at (at .loop .inv .2) in
-    let by = rw done at (at .loop .inv .3) in
-    record {
-      loads-sized = passed .loads-sized;
-      used-sized = passed .used-sized;
-      load-is = passed .load-is;
-      used-is = passed .used-is;
-      load-narrow = λ m l. omega (arith, passed .load-max m l);
-      indexed = record { sized = on .sized; is = on .is };
-      by-sized = by .sized;
-      by-is = by .is;
-    }
+    let at = c .before .before in
+    let done : at .loop .i ≡ start at .args .cluster .blocks = omega arith in
+    λ profiles ordered. filling-done (rw done at (at .loop .inv .0)) (order at ordered)
 
-pub take-spec : {M : Type 1} → statement M
-take-spec =
+pub fill-spec : {M : Type 1} → statement M
+fill-spec =
     tie.close
     (tie.spec
     Inv-loop
     μ-loop
+    clear-requires
     loop-holds
-    mul-r
-    shared-slice-read-r
-    slice-aggregate-enter
-    slice-aggregate-enter-2
-    slice-aggregate-enter-3
-    slice-aggregate-enter-4
     mul-enter
     shared-slice-read-enter
-    mul-enter-2
-    shared-slice-read-enter-2
     enter-requires
     add-i
     loop-less
     loop-again
+    same-length
     returns)

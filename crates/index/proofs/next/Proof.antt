@@ -1,4 +1,4 @@
--- `candidates::next` meets its contract. The loop's invariant: no block passed is held by m and not by n; a turn passes the rest of
+-- `index::next` meets its contract. The loop's invariant: no block passed is held by m and not by n; a turn passes the rest of
 -- one word of the index.
 -- Assumes nothing.
 use mathlib.Core.Path.{_≡_, ap, _∙_}
@@ -9,26 +9,29 @@ use borrow.Author.Needs.{needs}
 use denote.Ref.{now}
 use Rattle.model.specs.Placement.{bit}
 use Rattle.theory.proofs.Bits.{bit-zero}
-use Rattle.candidates.specs.Index.{spot}
-use Rattle.candidates.proofs.Laws.{none-free, found-free, word-end}
-use Rattle.candidates.proofs.next.Statement.{statement}
-use Rattle.candidates.proofs.next.Tie as tie
+use Rattle.index.specs.Index.{spot}
+use Rattle.index.proofs.Laws.{next-passed, next-found, next-within}
+use Rattle.index.proofs.next.Statement.{statement}
+use Rattle.index.proofs.next.Tie as tie
 
 abbrev Inv-loop : tie.InvT-loop
-Inv-loop on m n from blocks k₀ k =
-    (from ≤ k) × (k ≤ 1024) × ((j : ℕ) → from ≤ j → j < k → spot on m j ≡ 1 → spot on n j ≡ 0 → ⊥)
+Inv-loop index part m n from cluster k₀ k =
+    (from ≤ k) × ((j : ℕ) → from ≤ j → j < k → spot index part m j ≡ 1 → spot index part n j ≡ 0 → ⊥)
 
 abbrev μ-loop : tie.MeasureT-loop
-μ-loop on m n from blocks k₀ k = blocks - k
+μ-loop index part m n from cluster k₀ k = cluster .blocks - k
 
 loop-holds : tie.Need-loop-holds Inv-loop μ-loop
-loop-holds c = (omega arith, omega arith, λ j l h. absurd (omega arith))
+loop-holds c = (omega arith, λ j l h. absurd (omega arith))
 
 mul-and-not : tie.Need-mul-and-not Inv-loop μ-loop
 mul-and-not c = omega arith
 
 add-and-not : tie.Need-add-and-not Inv-loop μ-loop
 add-and-not c = omega arith
+
+add-and-not-2 : tie.Need-add-and-not-2 Inv-loop μ-loop
+add-and-not-2 c = omega arith
 
 mul-and-not-2 : tie.Need-mul-and-not-2 Inv-loop μ-loop
 mul-and-not-2 c = omega arith
@@ -39,8 +42,11 @@ shared-slice-read-and-not c = omega arith
 mul-and-not-3 : tie.Need-mul-and-not-3 Inv-loop μ-loop
 mul-and-not-3 c = omega arith
 
-add-and-not-2 : tie.Need-add-and-not-2 Inv-loop μ-loop
-add-and-not-2 c = omega arith
+add-and-not-3 : tie.Need-add-and-not-3 Inv-loop μ-loop
+add-and-not-3 c = omega arith
+
+add-and-not-4 : tie.Need-add-and-not-4 Inv-loop μ-loop
+add-and-not-4 c = omega arith
 
 mul-and-not-4 : tie.Need-mul-and-not-4 Inv-loop μ-loop
 mul-and-not-4 c = omega arith
@@ -62,22 +68,22 @@ add-result c = omega (arith, c .lowest .ensures .below)
 
 returns : tie.Need-returns Inv-loop μ-loop
 returns c =
-    let at = c .before .before .before .before .before .before in
-    let a = at .before .before .args in
-    let on = now (a .on) in
-    let k = at .loop .k in
     let found = c .before .before .and-not in
+    let at = c .before .before .before .before .before .before .before in
+    let a = at .before .before .args in
+    let k = at .loop .k in
+    let index = now (a .index) in
     let low = c .lowest .ensures in
     let t = c .lowest .result in
     let d = found .result in
-    let within = word-end d (k % 64) t (found .ok) (low .on) in
+    let within = next-within d (k % 64) t (found .ok) (low .on) in
     let back : k + t - k ≡ t = omega arith in
-    let free = found-free on (a .m) (a .n) k d (found .ensures) (k + t) (omega arith) (omega arith) (rw back (low .on)) in
+    let free = next-found index (a .part) (a .m) (a .n) k d (found .ensures) (k + t) (omega arith) (omega arith) (rw back (low .on)) in
     record {
       at-least = omega arith;
       passed = λ j h l b. elim (decLt j k) [
-        | yes before ↦ at .loop .inv .2 j h before
-        | no after ↦ none-free on (a .m) (a .n) k d (found .ensures) j (omega arith) (omega arith) (low .first (j - k) (omega arith))
+        | yes before ↦ at .loop .inv .1 j h before
+        | no after ↦ next-passed index (a .part) (a .m) (a .n) k d (found .ensures) j (omega arith) (omega arith) (low .first (j - k) (omega arith))
       ];
       holds = λ l. free .0;
       lacks = λ l. free .1;
@@ -94,19 +100,18 @@ loop-less c = omega arith
 
 loop-again : tie.Need-loop-again Inv-loop μ-loop
 loop-again c =
-    let at = c .before .before .before .before .before in
-    let a = at .before .before .args in
-    let on = now (a .on) in
-    let k = at .loop .k in
     let found = c .before .and-not in
+    let at = c .before .before .before .before .before .before in
+    let a = at .before .before .args in
+    let k = at .loop .k in
+    let index = now (a .index) in
     let d = found .result in (
       omega arith,
-      omega arith,
       λ j h l. elim (decLt j k) [
-        | yes before ↦ at .loop .inv .2 j h before
+        | yes before ↦ at .loop .inv .1 j h before
         | no after ↦
-            none-free on (a .m) (a .n) k d (found .ensures) j (omega arith) (omega arith)
-            (ap (λ (w : ℕ). bit w (j - k)) (c .if1 .left) ∙ bit-zero (j - k))
+            next-passed index (a .part) (a .m) (a .n) k d (found .ensures) j (omega arith) (omega arith)
+            (ap (λ (w : ℕ). bit w (j - k)) (c .if2 .left) ∙ bit-zero (j - k))
       ],
     )
 
@@ -114,7 +119,7 @@ returns-2 : tie.Need-returns-2 Inv-loop μ-loop
 returns-2 c =
     record {
       at-least = omega arith;
-      passed = λ j h l b. c .before .loop .inv .2 j h l;
+      passed = λ j h l b. c .before .before .loop .inv .1 j h l;
       holds = λ l. absurd (omega arith);
       lacks = λ l. absurd (omega arith);
     }
@@ -128,10 +133,12 @@ next-spec =
     loop-holds
     mul-and-not
     add-and-not
+    add-and-not-2
     mul-and-not-2
     shared-slice-read-and-not
     mul-and-not-3
-    add-and-not-2
+    add-and-not-3
+    add-and-not-4
     mul-and-not-4
     shared-slice-read-and-not-2
     and-not-requires

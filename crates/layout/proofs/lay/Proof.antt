@@ -3,29 +3,28 @@
 use mathlib.Core.Path.{_≡_}
 use Prim.Native.Nat.{_-_, _≤_}
 use native.Mathlib.Omega.{arith}
-use Rattle.layout.specs.Circle.{LaidAs}
-use Rattle.layout.proofs.Laws.{lay-none, lay-circle, lay-fresh, lay-more}
+use Rattle.layout.proofs.Laws.{Laying, laying-none, laying-circle, laying-fresh, laying-more, laying-all}
 use Rattle.layout.proofs.lay.Statement.{statement}
 use Rattle.layout.proofs.lay.Tie as tie
 
 abbrev Inv-loop : tie.InvT-loop
-Inv-loop count at₀ word₀ k₀ at word k = (k ≤ count) × LaidAs at₀ k (record { word = word; cursor = at })
+Inv-loop count at₀ word₀ k₀ at word k = (k ≤ count) × Laying at₀ k word at
 
 abbrev μ-loop : tie.MeasureT-loop
 μ-loop count at₀ word₀ k₀ at word k = count - k
 
 loop-holds : tie.Need-loop-holds Inv-loop μ-loop
-loop-holds c = (omega arith, lay-none _)
+loop-holds c = (omega arith, laying-none _ (c .pre .circle))
 
 next-requires : tie.Need-next-requires Inv-loop μ-loop
 next-requires c κs =
     let at = c .before in
-    lay-circle _ _ (at .before .pre) (at .loop .k) (omega arith) _ (at .loop .inv .1)
+    laying-circle _ (at .before .pre .circle) _ _ _ (at .loop .inv .1)
 
 with-bit-requires : tie.Need-with-bit-requires Inv-loop μ-loop
 with-bit-requires c κs =
     let at = c .before .before in
-    lay-fresh _ _ (at .before .pre) (at .loop .k) (omega arith) _ (at .loop .inv .1) _ (c .next .ensures)
+    laying-fresh _ (at .before .pre .circle) _ _ _ (at .loop .inv .1) _ (c .next .ensures) (omega arith)
 
 add-k : tie.Need-add-k Inv-loop μ-loop
 add-k c = omega arith
@@ -38,14 +37,14 @@ loop-again c =
     let at = c .before .before .before .before in (
       omega arith,
       rw (c .before .with-bit .ensures)
-          (lay-more _ _ (at .before .pre) (at .loop .k) (omega arith) _ (at .loop .inv .1) _ (c .before .before .next .ensures)),
+          (laying-more _ (at .before .pre .circle) _ _ _ (at .loop .inv .1) _ (c .before .before .next .ensures)),
     )
 
 returns : tie.Need-returns Inv-loop μ-loop
 returns c =
     let at = c .before in
     let all : at .loop .k ≡ at .before .args .count = omega arith in
-    rw all at (at .loop .inv .1)
+    laying-all _ (at .before .pre .circle) _ _ _ (rw all at (at .loop .inv .1))
 
 pub lay-spec : {M : Type 1} → statement M
 lay-spec =

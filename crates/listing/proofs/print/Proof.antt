@@ -8,7 +8,7 @@ use native.Mathlib.Omega.{arith}
 use Rattle.model.specs.Listing.{refusedLine, wrote}
 use Rattle.theory.proofs.Listing.{refused-length, printed-refused, printed-accepted, print-short, print-made}
 use Rattle.plan.specs.Reading.{verdictOf}
-use Rattle.listing.specs.Rows.{codeOf}
+use Rattle.listing.specs.Rows.{readingCode}
 use Rattle.listing.specs.Entries.{listingOutcome}
 use Rattle.listing.proofs.Laws.{listed-is}
 use Rattle.listing.proofs.print.Statement.{statement}
@@ -51,16 +51,16 @@ same-length : tie.Need-same-length
 same-length c = search needs
 
 returns-2 : tie.Need-returns-2
-unfolding refusedLine verdictOf codeOf
+unfolding refusedLine verdictOf readingCode
 returns-2 c =
     let put = c .before .before in
     let code = put .before .before .before .before in
     let told = code .before .enum-told .given in
     let read = code .before .before .before in
     let refuses = sym (rw (told .1) at (read .read .ensures)) in
-    let same : code .refusal-code .result ≡ codeOf (read .read .result) = code .refusal-code .ensures in
+    let same : code .refusal-code .result ≡ readingCode (read .read .result) = code .refusal-code .ensures in
     listed-is _ _ _ _ (put .put-line .ensures)
-    ∙ ap (λ (n : ℕ). wrote (refusedLine n) (read .before .before .before .before .args .text .now)) (same ∙ ap codeOf (told .1))
+    ∙ ap (λ (n : ℕ). wrote (refusedLine n) (read .before .before .before .before .args .text .now)) (same ∙ ap readingCode (told .1))
     ∙ ap (λ (out : List ℕ). wrote out (read .before .before .before .before .args .text .now)) (sym (printed-refused _ _ _ refuses))
     ∙ sym (print-made _ _ _ (read .before .if1 .left))
 

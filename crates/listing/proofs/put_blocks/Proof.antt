@@ -1,6 +1,6 @@
 -- `listing::put_blocks` meets its contract. The loop's invariant: the lines of the blocks passed stand in the text.
 -- Assumes nothing.
-use mathlib.Core.Path.{_≡_, refl, _∙_}
+use mathlib.Core.Path.{_≡_, refl, ap, ap₂, sym, _∙_}
 use Prim.Native.Nat.{_-_, _≤_}
 use native.Mathlib.Omega.{arith}
 use lib.ListN.{length}
@@ -14,36 +14,30 @@ use Rattle.listing.proofs.put_blocks.Statement.{statement}
 use Rattle.listing.proofs.put_blocks.Tie as tie
 
 abbrev Inv-loop : tie.InvT-loop
-Inv-loop text₀ at counts shares words blocks next₀ i₀ text next i =
-    (i ≤ blocks) × (length text ≡ length text₀) × Put at (lines i (rowAt counts shares words)) text₀ text next
+Inv-loop text₀ at profiles words cluster next₀ i₀ text next i =
+    (i ≤ cluster .blocks) × (length text ≡ length text₀) × Put at (lines i (rowAt profiles words)) text₀ text next
 
 abbrev μ-loop : tie.MeasureT-loop
-μ-loop text₀ at counts shares words blocks next₀ i₀ text next i = blocks - i
+μ-loop text₀ at profiles words cluster next₀ i₀ text next i = cluster .blocks - i
 
 loop-holds : tie.Need-loop-holds Inv-loop μ-loop
 loop-holds c = (omega arith, refl, rw (lines-zero _) (put-none _ _))
 
-shared-slice-read-put-block : tie.Need-shared-slice-read-put-block Inv-loop μ-loop
-shared-slice-read-put-block c = omega (arith, c .before .before .before .before .before .before .before .before .pre .count-room)
-
 mul-put-block : tie.Need-mul-put-block Inv-loop μ-loop
-mul-put-block c = omega (arith, c .before .before .before .before .before .before .before .before .pre .few)
+mul-put-block c = omega (arith, c .before .before .before .before .before .before .before .pre .fits .profiles-fit .in-range .blocks-max)
 
-shared-slice-read-put-block-2 : tie.Need-shared-slice-read-put-block-2 Inv-loop μ-loop
-shared-slice-read-put-block-2 c = omega (arith, c .before .before .before .before .before .before .before .before .before .pre .share-room)
+shared-slice-read-put-block : tie.Need-shared-slice-read-put-block Inv-loop μ-loop
+shared-slice-read-put-block c = omega (arith, c .before .before .before .before .before .before .before .before .pre .fits .profiles-fit .room)
 
 mul-put-block-2 : tie.Need-mul-put-block-2 Inv-loop μ-loop
-mul-put-block-2 c = omega (arith, c .before .before .before .before .before .before .before .before .before .pre .few)
+mul-put-block-2 c = omega (arith, c .before .before .before .before .before .before .before .before .pre .fits .profiles-fit .in-range .blocks-max)
 
-shared-slice-read-put-block-3 : tie.Need-shared-slice-read-put-block-3 Inv-loop μ-loop
-shared-slice-read-put-block-3 c = omega (arith, c .before .before .before .before .before .before .before .before .before .before .pre .word-room)
+shared-slice-read-put-block-2 : tie.Need-shared-slice-read-put-block-2 Inv-loop μ-loop
+shared-slice-read-put-block-2 c = omega (arith, c .before .before .before .before .before .before .before .before .before .pre .fits .word-room)
 
 put-block-requires : tie.Need-put-block-requires Inv-loop μ-loop
 unfolding rowAt
-put-block-requires c κs =
-    let turn = c .before .before .before .before in
-    let at = turn .before in
-    row-room _ _ _ _ _ (at .before .before .before .before .before .pre .room) (turn .loop-test .taken) (at .loop .inv .2)
+put-block-requires c κs = row-room _ _ _ _ _ (c .before .before .before .before .before .before .before .before .before .pre .room) (c .before .before .before .if1 .taken) (c .before .before .before .before .before .loop .inv .2)
 
 add-i : tie.Need-add-i Inv-loop μ-loop
 add-i c = omega arith
@@ -54,21 +48,20 @@ loop-less c = omega arith
 loop-again : tie.Need-loop-again Inv-loop μ-loop
 unfolding rowAt
 loop-again c =
-    let put = c .before .before in
-    let turn = put .before .before .before .before .before in
-    let at = turn .before in (
+    let inv = c .before .before .before .before .before .before .before .before .loop .inv in
+    let put = c .before .before .put-block in (
       omega arith,
-      put .put-block .kept .0 ∙ at .loop .inv .1,
-      row-put _ _ _ _ _ (at .before .before .before .before .before .pre .room) (turn .loop-test .taken) (at .loop .inv .2) (put .put-block .ensures),
+      put .kept .0 ∙ inv .1,
+      row-put _ _ _ _ _ (c .before .before .before .before .before .before .before .before .before .before .before .before .pre .room) (c .before .before .before .before .before .before .if1 .taken) (inv .2) (put .ensures),
     )
 
 same-length : tie.Need-same-length Inv-loop μ-loop
-same-length c = c .before .loop .inv .1
+same-length c = c .before .before .loop .inv .1
 
 returns : tie.Need-returns Inv-loop μ-loop
 returns c =
-    let at = c .before in
-    let all : at .loop .i ≡ at .before .before .before .before .before .args .blocks = omega arith in
+    let at = c .before .before in
+    let all : at .loop .i ≡ c .before .before .before .before .before .before .args .cluster .blocks = omega arith in
     rw all at (at .loop .inv .2)
 
 pub put-blocks-spec : {M : Type 1} → statement M
@@ -78,11 +71,10 @@ put-blocks-spec =
     Inv-loop
     μ-loop
     loop-holds
-    shared-slice-read-put-block
     mul-put-block
-    shared-slice-read-put-block-2
+    shared-slice-read-put-block
     mul-put-block-2
-    shared-slice-read-put-block-3
+    shared-slice-read-put-block-2
     put-block-requires
     add-i
     loop-less

@@ -6,6 +6,7 @@ use Prim.Native.Nat.{ℕ}
 use native.Mathlib.Omega.{arith}
 use lib.ListN.{length}
 use lib.Pow.{pow-pos}
+use Rattle.model.specs.Refusal.{maxMachines}
 use Rattle.model.specs.Listing.{numberField, fields, holders}
 use Rattle.theory.proofs.Bits.{bit-take}
 use Rattle.text.specs.Pasted.{Put}
@@ -17,7 +18,7 @@ use Rattle.listing.proofs.put_holders.Tie as tie
 abbrev Inv-loop : tie.InvT-loop
 Inv-loop text₀ at word next₀ rest₀ text next rest =
     (length text ≡ length text₀)
-    × ((done : List ℕ) × (done ++ fields (holders rest 64) ≡ fields (holders word 64)) × Put at done text₀ text next)
+    × ((done : List ℕ) × (done ++ fields (holders rest maxMachines) ≡ fields (holders word maxMachines)) × Put at done text₀ text next)
 
 abbrev μ-loop : tie.MeasureT-loop
 μ-loop text₀ at word next₀ rest₀ text next rest = rest

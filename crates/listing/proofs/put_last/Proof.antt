@@ -6,8 +6,8 @@ use Rattle.listing.proofs.Laws.{end-room, end-put}
 use Rattle.listing.proofs.put_last.Statement.{statement}
 use Rattle.listing.proofs.put_last.Tie as tie
 
-cast-t11 : tie.Need-cast-t11
-cast-t11 c = search needs
+cast-t9 : tie.Need-cast-t9
+cast-t9 c = search needs
 
 slice-aggregate-put-line : tie.Need-slice-aggregate-put-line
 slice-aggregate-put-line c = search needs
@@ -16,17 +16,13 @@ slice-aggregate-put-line-2 : tie.Need-slice-aggregate-put-line-2
 slice-aggregate-put-line-2 c = search needs
 
 put-line-requires : tie.Need-put-line-requires
-put-line-requires c κs =
-    let way = c .before .before .before in
-    record { room = end-room _ _ _ _ _ _ _ (way .if1 .taken) (way .before .before .before .pre); few = omega arith }
+put-line-requires c κs = record { room = end-room _ _ _ (c .before .before .before .if1 .taken) (c .before .before .before .before .before .before .before .before .pre); few = omega arith }
 
 same-length : tie.Need-same-length
 same-length c = search needs
 
 returns : tie.Need-returns
-returns c =
-    let put = c .before .before in
-    end-put _ _ _ _ _ _ _ (put .before .before .before .before .if1 .taken) (put .put-line .ensures)
+returns c = end-put _ _ _ (c .before .before .before .before .before .before .if1 .taken) (c .before .before .put-line .ensures)
 
 slice-aggregate-put-line-3 : tie.Need-slice-aggregate-put-line-3
 slice-aggregate-put-line-3 c = search needs
@@ -35,23 +31,19 @@ slice-aggregate-put-line-4 : tie.Need-slice-aggregate-put-line-4
 slice-aggregate-put-line-4 c = search needs
 
 put-line-requires-2 : tie.Need-put-line-requires-2
-put-line-requires-2 c κs =
-    let way = c .before .before .before in
-    record { room = end-room _ _ _ _ _ _ _ (way .if1 .left) (way .before .before .before .pre); few = omega arith }
+put-line-requires-2 c κs = record { room = end-room _ _ _ (c .before .before .before .if1 .left) (c .before .before .before .before .before .before .before .before .pre); few = omega arith }
 
 same-length-2 : tie.Need-same-length-2
 same-length-2 c = search needs
 
 returns-2 : tie.Need-returns-2
-returns-2 c =
-    let put = c .before .before in
-    end-put _ _ _ _ _ _ _ (put .before .before .before .before .if1 .left) (put .put-line2 .ensures)
+returns-2 c = end-put _ _ _ (c .before .before .before .before .before .before .if1 .left) (c .before .before .put-line2 .ensures)
 
 pub put-last-spec : {M : Type 1} → statement M
 put-last-spec =
     tie.close
     (tie.spec
-    cast-t11
+    cast-t9
     slice-aggregate-put-line
     slice-aggregate-put-line-2
     put-line-requires

@@ -1,52 +1,41 @@
--- `listing::run_first` meets its contract: the chosen counts are laid down, and the run begins at the first placement.
+-- `listing::run_first` meets its contract: the run starts from the first placement, and the report is on the words after it.
 -- Assumes nothing.
 use borrow.Author.Needs.{needs}
-use mathlib.Core.Path.{ap, sym, _∙_}
+use mathlib.Core.Path.{_≡_, refl, ap, ap₂, sym, _∙_}
 use native.Mathlib.Nat.{le-of-eq}
 use Rattle.model.specs.Steps.{run}
-use Rattle.plan.proofs.Laws.{accepted-header}
-use Rattle.placing.proofs.Laws.{laying-of}
-use Rattle.listing.proofs.Laws.{first-of, count-at, share-at, share-small, asked-of, standing-of}
+use Rattle.theory.proofs.Held.{top-held}
+use Rattle.loads.proofs.Laws.{loads-narrow}
+use Rattle.loads.proofs.PlanLoads.{report-max, report-min, report-total}
+use Rattle.listing.proofs.Laws.{first-placement, run-placement}
 use Rattle.listing.proofs.run_first.Statement.{statement}
 use Rattle.listing.proofs.run_first.Tie as tie
 
-slice-aggregate-prepare : tie.Need-slice-aggregate-prepare
-slice-aggregate-prepare c = search needs
-
 prepare-requires : tie.Need-prepare-requires
-prepare-requires c κs =
-    let asked = c .before .before .before .before .before .before .before .pre in
-    let laws = accepted-header _ _ (asked .accepts) in
-    record {
-      accepts = asked .accepts;
-      count-room = asked .count-room;
-      share-room = asked .share-room;
-      spread-room = laws .blocks-max;
-    }
+prepare-requires c κs = search needs
 
 lay-all-requires : tie.Need-lay-all-requires
 lay-all-requires c κs =
-    let made = c .before .before .before .before .before .before .before in
-    let asked = made .before .before .before .before .before .before .before .before .pre in
-    let laws = accepted-header _ _ (asked .accepts) in
+    let prepared = c .before .before .before .before .prepare .ensures in
     record {
+      fits = record { profiles-fit = prepared .fit; word-room = le-of-eq (sym (c .before .before .before .before .before .before .before .before .before .before .pre .words-are)) };
       plan = _;
-      laying = laying-of _ _ laws _ _ (made .prepare .ensures .laid .counts-are);
-      count-room = rw (made .prepare .kept .1 .1 .0) (asked .count-room);
-      word-room = le-of-eq (sym (asked .words-are));
+      profiles-of = prepared .profiles-of;
     }
 
-slice-aggregate-run-words : tie.Need-slice-aggregate-run-words
-slice-aggregate-run-words c = search needs
+sum-words-requires : tie.Need-sum-words-requires
+sum-words-requires c κs = search needs
 
-run-words-requires : tie.Need-run-words-requires
-run-words-requires c κs =
-    let laid = c .before .before .before .before .before in
-    let made = laid .before .before .before .before .before .before .before .before in
-    let asked = made .before .before .before .before .before .before .before .before .pre in
-    let laws = accepted-header _ _ (asked .accepts) in
-    asked-of _ _ laws _ _ _ _ _ _ _ (made .prepare .ensures) _ (laid .lay-all .kept .1 .1 .1 .1 .0 ∙ asked .words-are)
-    (rw (made .prepare .kept .1 .1 .1 .0) (asked .share-room)) (rw (made .prepare .kept .1 .1 .1 .1 .0) (laws .blocks-max))
+run-requires : tie.Need-run-requires
+run-requires c κs = record { fits = search needs; loads-of = c .before .before .sum-words .ensures }
+
+sum-words-requires-2 : tie.Need-sum-words-requires-2
+sum-words-requires-2 c κs = search needs
+
+report-requires : tie.Need-report-requires
+report-requires c κs =
+    let fit = c .before .before .before .before .before .before .before .before .before .before .before .before .before .before .before .before .before .before .prepare .ensures .fit in
+    record { machines-max = fit .in-range .machines-max; load-narrow = loads-narrow _ _ _ _ _ (c .sum-words2 .ensures) fit }
 
 same-length : tie.Need-same-length
 same-length c = search needs
@@ -54,38 +43,34 @@ same-length c = search needs
 same-length-2 : tie.Need-same-length-2
 same-length-2 c = search needs
 
-same-length-3 : tie.Need-same-length-3
-same-length-3 c = search needs
-
 returns : tie.Need-returns
 returns c =
-    let ran = c .before .before in
-    let laid = ran .before .before .before .before .before .before in
-    let made = laid .before .before .before .before .before .before .before .before in
-    let start = made .before .before .before .before .before .before .before .before in
-    let laws = accepted-header _ _ (start .pre .accepts) in
-    let first = laid .lay-all .ensures _ (laying-of _ _ laws _ _ (made .prepare .ensures .laid .counts-are))
-    ∙ first-of _ _ (start .pre .words-are ∙ sym (laws .blocks-is)) in
+    let start = c .before .before .before .before .before .before .before .before .before .before .before .before .before .before .before .before .before .before .before .before .before .before .before .before .before in
+    let prepared = c .before .before .before .before .before .before .before .before .before .before .before .before .before .before .before .before .before .before .before .prepare .ensures in
+    let first = first-placement _ _ _ (prepared .profiles-of) _ _ (start .pre .words-are) (c .before .before .before .before .before .before .before .before .before .before .before .before .before .before .lay-all .ensures _ (prepared .profiles-of)) in
+    let ran = c .before .before .before .before .before .before .run .ensures _ _ (first .0) ∙ ap (run _ (start .args .limit)) (first .1) in
+    let placement = run-placement _ _ _ _ (prepared .profiles-of) _ _ ran in
+    let loads = c .before .sum-words2 .ensures in
     record {
-      counts-are = count-at _ _ laws _ _ _ _ _ _ _ (made .prepare .ensures);
-      shares-are = share-at _ _ laws _ _ _ _ _ _ _ (made .prepare .ensures);
-      shares-narrow = share-small _ _ laws _ _ _ _ _ _ _ (made .prepare .ensures);
-      run-is =
-          ran .run-words .ensures _ (rw first (standing-of _ _ laws _ _ _ _ _ _ _ (made .prepare .ensures)))
-          ∙ ap (run _ (start .args .limit)) first;
-      top-is = made .prepare .ensures .largest-is;
+      fits = search needs;
+      profiles-of = prepared .profiles-of;
+      run-is = ran;
+      max-is = report-max _ _ _ _ _ _ _ placement loads (c .report .ensures);
+      min-is = report-min _ _ _ _ _ _ _ placement loads (c .report .ensures);
+      total-is = report-total _ _ _ _ _ _ _ placement loads (c .report .ensures);
+      top-is = prepared .top-is ∙ top-held _ _ _ (placement .feasible);
     }
 
 pub run-first-spec : {M : Type 1} → statement M
 run-first-spec =
     tie.close
     (tie.spec
-    slice-aggregate-prepare
     prepare-requires
     lay-all-requires
-    slice-aggregate-run-words
-    run-words-requires
+    sum-words-requires
+    run-requires
+    sum-words-requires-2
+    report-requires
     same-length
     same-length-2
-    same-length-3
     returns)

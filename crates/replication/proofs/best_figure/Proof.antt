@@ -1,30 +1,30 @@
 -- `replication::best_figure` meets its contract. The loop's invariant: the upper end is reachable, and nothing below the lower end is.
 -- Assumes nothing.
--- Assumes nothing.
-use mathlib.Core.Path.{_≡_, refl, ap, sym, _∙_}
-use mathlib.Core.Bool.{Bool, true, false}
-use mathlib.Core.Logic.{_⊎_, inl, inr, ⊎-elim}
-use Prim.Native.Nat.{ℕ, suc, _+_, _-_, _/_, _<_, _≤_, _^_}
+use mathlib.Core.Path.{_≡_, sym, _∙_}
+use mathlib.Core.Bool.{true, false}
+use mathlib.Core.Logic.{inl, inr}
+use Prim.Native.Nat.{ℕ, _-_, _<_, _≤_}
 use native.Mathlib.Nat.{le-of-eq}
 use native.Mathlib.Omega.{arith}
 use Rattle.order.proofs.Booleans.{bool-cases, no-contradiction}
 use Rattle.model.specs.Plan.{Plan, blockOf}
-use Rattle.model.specs.Replication.{reachable, figure}
+use Rattle.model.specs.Replication.{reachable}
 use Rattle.theory.specs.Accepted.{Valid}
+use Rattle.theory.specs.Widths.{shareBound}
 use Rattle.theory.proofs.Counts.{reachable-mono, figure-by-bisection, feasible-reachable, min-feasible}
-use Rattle.replication.specs.Choice.{Fields}
+use Rattle.replication.specs.Choice.{LimitedDemands}
 use Rattle.replication.proofs.best_figure.Statement.{statement}
 use Rattle.replication.proofs.best_figure.Tie as tie
 
 abbrev Inv-loop : tie.InvT-loop
-Inv-loop popularities least most limit blocks low₀ high₀ low high =
+Inv-loop demands limit cluster low₀ high₀ low high =
     (low ≤ high)
-    × (high < 2 ^ 34)
-    × ((p : Plan) → Fields p popularities least most limit blocks → reachable p high ≡ true)
-    × ((p : Plan) → Fields p popularities least most limit blocks → (f : ℕ) → f < low → reachable p f ≡ false)
+    × (high < shareBound)
+    × ((p : Plan) → LimitedDemands p cluster demands limit → reachable p high ≡ true)
+    × ((p : Plan) → LimitedDemands p cluster demands limit → (f : ℕ) → f < low → reachable p f ≡ false)
 
 abbrev μ-loop : tie.MeasureT-loop
-μ-loop popularities least most limit blocks low₀ high₀ low high = high - low
+μ-loop demands limit cluster low₀ high₀ low high = high - low
 
 -- below a figure that is not reachable, none is
 unreachable : (p : Plan) → Valid p → (f g : ℕ) → g ≤ f → reachable p f ≡ false → reachable p g ≡ false
@@ -35,16 +35,17 @@ unreachable p v f g l e =
     ]
 
 top-share-requires : tie.Need-top-share-requires Inv-loop μ-loop
-top-share-requires c κs = c .before .before .pre
+top-share-requires c κs = c .before .pre
 
 loop-holds : tie.Need-loop-holds Inv-loop μ-loop
 loop-holds c = (
   omega arith,
   c .top-share .ensures .1,
-  λ p f.
-      feasible-reachable p (f .valid) _ (λ i. blockOf p i .minReplicas) (min-feasible p (f .valid))
-      (le-of-eq (sym (c .top-share .ensures .0 p f))),
-  λ p f g l. absurd (omega arith),
+  λ p of.
+      let valid = of .demands-of .cluster .valid in
+      feasible-reachable p valid _ (λ i. blockOf p i .minReplicas) (min-feasible p valid)
+      (le-of-eq (sym (c .top-share .ensures .0 p (of .demands-of)))),
+  λ p of f l. absurd (omega arith),
 )
 
 sub-middle : tie.Need-sub-middle Inv-loop μ-loop
@@ -54,16 +55,15 @@ add-middle : tie.Need-add-middle Inv-loop μ-loop
 add-middle c = omega arith
 
 reaches-requires : tie.Need-reaches-requires Inv-loop μ-loop
-reaches-requires c κs = (c .before .before .before .before .before .pre, omega arith)
+reaches-requires c κs = (c .before .before .before .before .pre, omega arith)
 
 loop-less : tie.Need-loop-less Inv-loop μ-loop
 loop-less c = omega arith
 
 loop-again : tie.Need-loop-again Inv-loop μ-loop
 loop-again c =
-    let at = c .before .before .before in
-    let inv = at .loop .inv in
-    (omega arith, omega arith, λ p f. sym (c .before .reaches .ensures p f) ∙ c .if1 .taken, inv .3)
+    let inv = c .before .before .before .loop .inv in
+    (omega arith, omega arith, λ p of. sym (c .before .reaches .ensures p of) ∙ c .if1 .taken, inv .3)
 
 add-low : tie.Need-add-low Inv-loop μ-loop
 add-low c = omega arith
@@ -73,19 +73,23 @@ loop-less-2 c = omega arith
 
 loop-again-2 : tie.Need-loop-again-2 Inv-loop μ-loop
 loop-again-2 c =
-    let at = c .before .before .before in
-    let inv = at .loop .inv in (
+    let inv = c .before .before .before .loop .inv in (
       omega arith,
       omega arith,
       inv .2,
-      λ p f g l.
-          unreachable p (f .valid) _ g (omega arith) (sym (c .before .reaches .ensures p f) ∙ c .if1 .left),
+      λ p of f l.
+          unreachable p (of .demands-of .cluster .valid) _ f (omega arith)
+          (sym (c .before .reaches .ensures p of) ∙ c .if1 .left),
     )
 
 returns : tie.Need-returns Inv-loop μ-loop
 returns c =
-    let inv = c .before .loop .inv in
-    (λ p f. sym (figure-by-bisection p (f .valid) _ (inv .2 p f) (λ g l. inv .3 p f g (omega arith))), inv .1)
+    let inv = c .before .loop .inv in (
+      λ p of.
+          sym
+          (figure-by-bisection p (of .demands-of .cluster .valid) _ (inv .2 p of) (λ f l. inv .3 p of f (omega arith))),
+      inv .1,
+    )
 
 pub best-figure-spec : {M : Type 1} → statement M
 best-figure-spec =

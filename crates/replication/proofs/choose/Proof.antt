@@ -1,32 +1,37 @@
 -- `replication::choose` meets its contract: the counts within the least figure that is reachable.
 -- Assumes nothing.
 use borrow.Author.Needs.{needs}
-use mathlib.Core.Path.{_≡_, sym, _∙_}
+use mathlib.Core.Path.{sym, _∙_}
 use Rattle.theory.proofs.Counts.{chosen-laws}
 use Rattle.replication.proofs.choose.Statement.{statement}
 use Rattle.replication.proofs.choose.Tie as tie
 
 best-figure-requires : tie.Need-best-figure-requires
-best-figure-requires c κs = search needs
+best-figure-requires c κs = c .before .before .pre .fit
 
 fill-requires : tie.Need-fill-requires
 fill-requires c κs =
-    let figure = c .before .before .best-figure in
-    let asked = c .before .before .before .before .before .before .before .pre in
-    record { asked = asked; figure-is = figure .ensures .0 (asked .plan) (asked .fields); narrow = figure .ensures .1 }
+    let asked = c .before .before .before .before .pre in
+    let figure = c .before .best-figure .ensures in
+    record {
+      fit = asked .fit;
+      plan = asked .plan;
+      demands-of = asked .limited .demands-of;
+      figure-is = figure .0 (asked .plan) (asked .limited);
+      narrow = figure .1;
+      room = asked .room;
+    }
 
 same-length : tie.Need-same-length
 same-length c = search needs
 
-same-length-2 : tie.Need-same-length-2
-same-length-2 c = search needs
-
 returns : tie.Need-returns
-returns c p f =
-    let filled = c .before .before .before .before .fill in
-    let same = c .before .before .before .before .before .before .before .best-figure .ensures .0 p f in
-    (filled .ensures p f same, same ∙ sym (chosen-laws p (f .valid) .figure-is))
+returns c p of =
+    let figure-is = c .before .before .before .before .best-figure .ensures .0 p of in
+    record {
+      profiles-are = c .before .before .fill .ensures p (of .demands-of) figure-is;
+      top-is = figure-is ∙ sym (chosen-laws p (of .demands-of .cluster .valid) .figure-is);
+    }
 
 pub choose-spec : {M : Type 1} → statement M
-choose-spec =
-    tie.close (tie.spec best-figure-requires fill-requires same-length same-length-2 returns)
+choose-spec = tie.close (tie.spec best-figure-requires fill-requires same-length returns)

@@ -1,54 +1,66 @@
 -- `replication::needed` meets its contract. The loop's invariant: every count passed has a share above the figure.
 -- Assumes nothing.
-use mathlib.Core.Path.{_≡_, refl, sym}
-use mathlib.Core.Logic.{_⊎_, inl, inr}
-use Prim.Native.Nat.{ℕ, suc, _+_, _-_, _*_, _<_, _≤_}
-use native.Mathlib.Nat.{mul-le-mul, lt-of-not-le, eq-or-lt-of-le, le-of-suc-le-suc}
-use native.Mathlib.Numerals.{add-one}
+use mathlib.Core.Path.{_≡_, sym, _∙_}
+use Prim.Native.Nat.{ℕ, suc, _-_, _<_, _≤_}
+use native.Mathlib.Nat.{mul-le-mul, lt-of-not-le}
 use native.Mathlib.Omega.{arith}
-use Rattle.model.specs.Plan.{Plan}
-use Rattle.model.specs.Replication.{unit, share}
+use borrow.Author.Count.{below-more}
+use Rattle.model.specs.Plan.{Plan, maxReplicas}
+use Rattle.model.specs.Replication.{share, need}
+use Rattle.theory.specs.Accepted.{ValidBlock}
+use Rattle.theory.specs.Widths.{shareBound}
 use Rattle.theory.proofs.Shares.{share-within}
 use Rattle.theory.proofs.Counts.{need-is, need-past}
+use Rattle.cluster.specs.Blocks.{popularityIn, leastIn, mostIn, demandOf}
+use Rattle.cluster.proofs.Laws.{demandOf-popularity, demandOf-least, demandOf-most}
 use Rattle.replication.proofs.needed.Statement.{statement}
 use Rattle.replication.proofs.needed.Tie as tie
 
+-- the shares of the counts from the least copies to k, k left out, are above the figure
+abbrev Above : ℕ → ℕ → ℕ → Type 0
+Above demand figure k = (j : ℕ) → j < k → leastIn demand ≤ j → figure < share (popularityIn demand) j
+
 abbrev Inv-loop : tie.InvT-loop
-Inv-loop popularity from most figure reads k₀ k =
-    (from ≤ k)
-    × (k ≤ suc most)
-    × (reads ≡ popularity * unit)
-    × ((j : ℕ) → from ≤ j → j < k → figure < share popularity j)
+Inv-loop demand figure reads most k₀ k = (leastIn demand ≤ k) × (k ≤ suc (mostIn demand)) × Above demand figure k
 
 abbrev μ-loop : tie.MeasureT-loop
-μ-loop popularity from most figure reads k₀ k = suc most - k
+μ-loop demand figure reads most k₀ k = suc most - k
+
+-- what the search finds is the block's need
+module _ (p : Plan) (i : ℕ) (v : ValidBlock p i) (demand figure : ℕ) (same : demand ≡ demandOf p i) where
+  found : (k : ℕ) → leastIn demand ≤ k → k ≤ mostIn demand → share (popularityIn demand) k ≤ figure → Above demand figure k
+      → k ≡ need p figure i
+  found =
+      rw (same, demandOf-popularity p i v, demandOf-least p i v, demandOf-most p i v)
+      (λ k low high within above. sym (need-is p i v figure k low high within (λ j least less. above j less least)))
+
+  past : Above demand figure (suc (mostIn demand)) → suc (mostIn demand) ≡ need p figure i
+  past =
+      rw (same, demandOf-popularity p i v, demandOf-least p i v, demandOf-most p i v)
+      (λ above. sym (need-past p i v figure (λ k least high. above k (omega arith) least)))
 
 mul-reads : tie.Need-mul-reads Inv-loop μ-loop
 mul-reads c = omega arith
 
 loop-holds : tie.Need-loop-holds Inv-loop μ-loop
-loop-holds c = (omega arith, omega arith, refl, λ j low high. omega arith)
+loop-holds c = (omega arith, omega arith, λ j low high. omega arith)
 
 mul-if1 : tie.Need-mul-if1 Inv-loop μ-loop
 mul-if1 c =
-    let a = c .before .before in
-    omega (arith, mul-le-mul {n₁ = a .args .figure} {m₁ = c .before .loop .k} {n₂ = 17179869184} {m₂ = 8} (omega arith) (omega arith))
+    let a = c .before .before .before .before .before .args in
+    omega (arith, mul-le-mul {n₁ = a .figure} {m₁ = c .before .loop .k} {n₂ = shareBound} {m₂ = maxReplicas} (omega arith) (omega arith))
 
 returns : tie.Need-returns Inv-loop μ-loop
 returns c =
     let at = c .before .before in
-    let a = at .before .args in
+    let a = at .before .before .before .before .args in
     let k = at .loop .k in
     let inv = at .loop .inv in
+    let within : share (popularityIn (a .demand)) k ≤ a .figure = share-within _ k _ (omega arith) (omega arith) .1 (omega arith) in
     record {
       low = inv .0;
       high = inv .1;
-      is =
-          λ p i v same-popularity same-from same-most.
-          sym
-          (need-is p i v (a .figure) k (omega arith) (omega arith)
-          (rw same-popularity (share-within (a .popularity) k (a .figure) (omega arith) (omega arith) .1 (rw (inv .2) at (c .if1 .taken))))
-          (λ j low high. rw same-popularity (inv .3 j (omega arith) high)));
+      is = λ p i v same. found p i v _ _ same k (inv .0) (omega arith) within (inv .2);
     }
 
 add-k : tie.Need-add-k Inv-loop μ-loop
@@ -60,39 +72,23 @@ loop-less c = omega arith
 loop-again : tie.Need-loop-again Inv-loop μ-loop
 loop-again c =
     let at = c .before .before in
-    let a = at .before .args in
+    let a = at .before .before .before .before .args in
     let k = at .loop .k in
     let inv = at .loop .inv in
-    let above : a .figure < share (a .popularity) k =
-    lt-of-not-le
-    (λ l.
-    let w = share-within (a .popularity) k (a .figure) (omega arith) (omega arith) .0 l in
-    omega arith)
-    in (
-      omega arith,
-      omega arith,
-      inv .2,
-      λ j low high.
-          elim (eq-or-lt-of-le (le-of-suc-le-suc (rw (add-one k) at high))) [
-            | inl e ↦ rw e above
-            | inr l ↦ inv .3 j low l
-          ],
-    )
+    let above : a .figure < share (popularityIn (a .demand)) k =
+    lt-of-not-le (λ l. let w = share-within _ k _ (omega arith) (omega arith) .0 l in omega arith)
+    in
+    (omega arith, omega arith, below-more _ k (inv .2) (λ low. above))
 
 returns-2 : tie.Need-returns-2 Inv-loop μ-loop
 returns-2 c =
     let at = c .before in
-    let a = at .before .args in
     let inv = at .loop .inv in
-    let past : at .loop .k ≡ suc (a .most) = omega arith in
+    let past-all : at .loop .k ≡ suc (mostIn (at .before .before .before .before .args .demand)) = omega arith in
     record {
       low = inv .0;
       high = inv .1;
-      is =
-          λ p i v same-popularity same-from same-most.
-          sym
-          ((rw (past, ← same-most)
-          (need-past p i v (a .figure) (λ k low high. rw same-popularity (inv .3 k (omega arith) (omega arith))))));
+      is = λ p i v same. past-all ∙ past p i v _ _ same (rw past-all at (inv .2));
     }
 
 pub needed-spec : {M : Type 1} → statement M
@@ -101,7 +97,10 @@ needed-spec =
     (tie.spec
     Inv-loop
     μ-loop
+    (λ c κs. tt)
     mul-reads
+    (λ c κs. tt)
+    (λ c κs. tt)
     loop-holds
     mul-if1
     returns

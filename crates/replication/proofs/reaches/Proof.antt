@@ -1,46 +1,50 @@
 -- `replication::reaches` meets its contract. The loop's invariant: every block passed has a count within the figure, and their sum is within the limit.
 -- Assumes nothing.
-use mathlib.Core.Path.{_≡_, refl, ap, ap₂, sym, _∙_}
-use mathlib.Core.Bool.{Bool, true, false}
-use mathlib.Core.Logic.{_⊎_, inl, inr}
-use Prim.Native.Nat.{ℕ, suc, _+_, _-_, _*_, _<_, _≤_}
-use native.Mathlib.Numerals.{add-one}
+use mathlib.Core.Path.{_≡_, ap₂, sym, _∙_}
+use mathlib.Core.Bool.{false}
+use mathlib.Core.Logic.{inl, inr}
+use Prim.Native.Nat.{ℕ, _+_, _-_, _*_, _<_, _≤_}
 use native.Mathlib.Omega.{arith}
 use denote.Ref.{now}
-use lib.ListN.{length, getD}
 use borrow.Author.Count.{below-none, below-more}
 use Rattle.order.specs.Sum.{sum}
 use Rattle.order.proofs.Booleans.{bool-cases}
 use Rattle.order.proofs.Sums.{sum-zero, sum-step, sum-prefix}
-use Rattle.model.specs.Plan.{Plan, blockCount, blockOf, upper}
+use Rattle.model.specs.Plan.{Plan, maxReplicas, blockCount, upper}
 use Rattle.model.specs.Replication.{need, reachable, limit as limitOf}
 use Rattle.theory.proofs.Counts.{reachable-parts}
-use Rattle.replication.specs.Choice.{Fields}
+use Rattle.cluster.proofs.Laws.{cluster-blocks, cluster-block, demands-most}
+use Rattle.replication.specs.Choice.{LimitedDemands}
 use Rattle.replication.proofs.reaches.Statement.{statement}
 use Rattle.replication.proofs.reaches.Tie as tie
 
 abbrev Inv-loop : tie.InvT-loop
-Inv-loop popularities least most limit blocks wanted total₀ i₀ total i =
-    (i ≤ blocks)
-    × (total ≤ 8 * i)
+Inv-loop demands limit cluster wanted total₀ i₀ total i =
+    (i ≤ cluster .blocks)
+    × (total ≤ maxReplicas * i)
     × (total ≤ limit)
-    × ((p : Plan) → Fields p popularities least most limit blocks → total ≡ sum i (need p wanted))
-    × ((p : Plan) → Fields p popularities least most limit blocks → (k : ℕ) → k < i → need p wanted k ≤ upper p k)
+    × ((p : Plan) → LimitedDemands p cluster demands limit
+    → (total ≡ sum i (need p wanted)) × ((k : ℕ) → k < i → need p wanted k ≤ upper p k))
 
 abbrev μ-loop : tie.MeasureT-loop
-μ-loop popularities least most limit blocks wanted total₀ i₀ total i = blocks - i
+μ-loop demands limit cluster wanted total₀ i₀ total i = cluster .blocks - i
 
--- the count found is the block's need
-need-here : (c : tie.After-needed Inv-loop μ-loop) (p : Plan)
-    → let a = c .before .before .before .before .before .before .before .args in
-    Fields p (now (a .popularities)) (now (a .least)) (a .most) (a .limit) (a .blocks)
-    → c .needed .result ≡ need p (a .wanted) (c .before .before .before .before .loop .i)
-need-here c p f =
-    let at = c .before .before .before .before in
-    let i = at .loop .i in
-    let l : i < at .before .before .before .args .blocks = omega arith in
-    c .needed .ensures .is p i (f .valid .shaped .block i (omega (arith, f .blocks-is)))
-    (sym (f .popularity-is i l)) (sym (f .least-is i l)) (sym (f .most-is i))
+-- of plan p, the count found is the block's need, and the upper count is the block's
+module _ (c : tie.After-most-of Inv-loop μ-loop) (p : Plan) where
+  abbrev At : tie.At-loop Inv-loop μ-loop
+  At = c .before .before .before .before .before
+
+  module _ (of : LimitedDemands p (At .before .before .args .cluster) (now (At .before .before .args .demands)) (At .before .before .args .limit)) where
+    block-here : At .loop .i < blockCount p
+    block-here = omega (arith, cluster-blocks p _ (of .demands-of .cluster))
+
+    need-here : c .before .needed .result ≡ need p (At .before .before .args .wanted) (At .loop .i)
+    need-here =
+        let l : At .loop .i < At .before .before .args .cluster .blocks = omega arith in
+        c .before .needed .ensures .is p (At .loop .i) (cluster-block p _ (of .demands-of .cluster) _ l) (of .demands-of .are _ l)
+
+    most-here : c .most-of .result ≡ upper p (At .loop .i)
+    most-here = c .most-of .ensures ∙ demands-most p _ _ (of .demands-of) (At .loop .i) (omega arith)
 
 not-reachable : (p : Plan) (wanted : ℕ)
     → (((i : ℕ) → i < blockCount p → need p wanted i ≤ upper p i) × (sum (blockCount p) (need p wanted) ≤ limitOf p) → ⊥)
@@ -52,57 +56,46 @@ not-reachable p wanted h =
     ]
 
 loop-holds : tie.Need-loop-holds Inv-loop μ-loop
-loop-holds c = (omega arith, omega arith, omega arith, λ p f. sym (sum-zero _), λ p f. below-none _)
+loop-holds c = (omega arith, omega arith, omega arith, λ p of. (sym (sum-zero _), below-none _))
 
-mul-needed : tie.Need-mul-needed Inv-loop μ-loop
-mul-needed c = omega arith
+mul-demand : tie.Need-mul-demand Inv-loop μ-loop
+mul-demand c = omega arith
 
-shared-slice-read-needed : tie.Need-shared-slice-read-needed Inv-loop μ-loop
-shared-slice-read-needed c = omega arith
-
-shared-slice-read-needed-2 : tie.Need-shared-slice-read-needed-2 Inv-loop μ-loop
-shared-slice-read-needed-2 c = omega arith
-
-cast-needed : tie.Need-cast-needed Inv-loop μ-loop
-cast-needed c = let at = c .before .before .before in omega (arith, c .shared-slice-known4 .given (at .loop .i))
+shared-slice-read-demand : tie.Need-shared-slice-read-demand Inv-loop μ-loop
+shared-slice-read-demand c = omega arith
 
 needed-requires : tie.Need-needed-requires Inv-loop μ-loop
 needed-requires c κs =
     let at = c .before .before .before in
-    let i = at .loop .i in
-    let asked = at .before .before .before .pre .0 in
-    let l : i < at .before .before .before .args .blocks = omega arith in
-    record {
-      popularity-narrow = asked .popularity-narrow i l;
-      from-pos = asked .least-pos i l;
-      from-most = asked .least-most i l;
-      most-max = asked .most-max;
-      wanted-narrow = at .before .before .before .pre .1;
-    }
+    let asked = at .before .before .pre in
+    record { in-range = asked .0 .each (at .loop .i) (omega arith); wanted-narrow = asked .1 }
 
 returns : tie.Need-returns Inv-loop μ-loop
-returns c p f =
-    let at = c .before .before .before .before .before in
-    let i = at .loop .i in
-    let e = need-here (c .before) p f in
-    not-reachable p _ (λ parts. let u = parts .0 i (omega (arith, f .blocks-is)) in omega (arith, f .most-is i))
+returns c p of =
+    let e = need-here (c .before) p of in
+    let u = most-here (c .before) p of in
+    not-reachable p _ (λ parts. let w = parts .0 _ (block-here (c .before) p of) in omega arith)
+
+-- a count up to the upper count is at most 8
+count-max : (c : tie.Else2 Inv-loop μ-loop) → c .before .before .needed .result ≤ maxReplicas
+count-max c =
+    let at = c .before .before .before .before .before .before in
+    let d = at .before .before .pre .0 .each (at .loop .i) (omega arith) in
+    omega arith
 
 add-total : tie.Need-add-total Inv-loop μ-loop
-add-total c =
-    omega (arith, c .before .needed .ensures .high)
+add-total c = let m = count-max c in omega arith
 
 returns-2 : tie.Need-returns-2 Inv-loop μ-loop
-returns-2 c p f =
-    let at = c .before .before .before .before .before .before in
+returns-2 c p of =
+    let at = c .before .before .before .before .before .before .before in
     let i = at .loop .i in
-    let e = need-here (c .before .before) p f in
-    let wanted = at .before .before .before .args .wanted in
-    let before = at .loop .inv .3 p f in
-    let so-far = sum-step i (need p wanted) in
-    not-reachable p wanted
-    (λ parts.
-    let longer = sum-prefix (blockCount p) (need p wanted) (i + 1) (omega (arith, f .blocks-is)) in
-    omega (arith, parts .1, f .limit-is))
+    let wanted = at .before .before .args .wanted in
+    let e = need-here (c .before .before) p of in
+    let s = at .loop .inv .3 p of .0 in
+    let more = sum-step i (need p wanted) in
+    let longer = sum-prefix (blockCount p) (need p wanted) (i + 1) (omega (arith, block-here (c .before .before) p of)) in
+    not-reachable p wanted (λ parts. omega (arith, parts .1, of .limit-is))
 
 add-i : tie.Need-add-i Inv-loop μ-loop
 add-i c = omega arith
@@ -112,28 +105,25 @@ loop-less c = omega arith
 
 loop-again : tie.Need-loop-again Inv-loop μ-loop
 loop-again c =
-    let at = c .before .before .before .before .before .before in
+    let at = c .before .before .before .before .before .before .before in
     let i = at .loop .i in
-    let inv = at .loop .inv in (
+    let m = count-max (c .before) in (
       omega arith,
-      omega (arith, c .before .before .needed .ensures .high),
       omega arith,
-      λ p f. ap₂ _+_ (inv .3 p f) (need-here (c .before .before) p f) ∙ sym (sum-step i (need p _)),
-      λ p f.
-          below-more _ i (inv .4 p f)
-          (let e = need-here (c .before .before) p f in omega (arith, f .most-is i)),
+      omega arith,
+      λ p of.
+          let e = need-here (c .before .before) p of in
+          let u = most-here (c .before .before) p of in
+          let before = at .loop .inv .3 p of in
+          (ap₂ _+_ (before .0) e ∙ sym (sum-step i (need p _)), below-more _ i (before .1) (omega arith)),
     )
 
 returns-3 : tie.Need-returns-3 Inv-loop μ-loop
-returns-3 c p f =
-    let at = c .before in
-    let inv = at .loop .inv in
-    let all : at .loop .i ≡ blockCount p = omega (arith, f .blocks-is) in
-    sym
-    (reachable-parts p _ .1 (
-      rw all at (inv .4 p f),
-      (let e = rw all at (inv .3 p f) in omega (arith, f .limit-is)),
-    ))
+returns-3 c p of =
+    let at = c .before .before in
+    let all : at .loop .i ≡ blockCount p = omega (arith, cluster-blocks p _ (of .demands-of .cluster)) in
+    let passed = rw all at (at .loop .inv .3 p of) in
+    sym (reachable-parts p _ .1 (passed .1, omega (arith, passed .0, of .limit-is)))
 
 pub reaches-spec : {M : Type 1} → statement M
 reaches-spec =
@@ -142,11 +132,10 @@ reaches-spec =
     Inv-loop
     μ-loop
     loop-holds
-    mul-needed
-    shared-slice-read-needed
-    shared-slice-read-needed-2
-    cast-needed
+    mul-demand
+    shared-slice-read-demand
     needed-requires
+    (λ c κs. tt)
     returns
     add-total
     returns-2

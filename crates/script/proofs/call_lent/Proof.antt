@@ -12,7 +12,7 @@ same-length : tie.Need-same-length
 same-length c = search needs
 
 returns : tie.Need-returns
-returns c = kind-zero _ _ _ _ _ (c .before .before .if1 .taken) (c .check-lent .ensures)
+returns c = kind-zero _ _ _ _ (c .before .before .if1 .taken) (c .check-lent .ensures)
 
 step-lent-requires : tie.Need-step-lent-requires
 step-lent-requires c κs = search needs
@@ -21,7 +21,7 @@ same-length-2 : tie.Need-same-length-2
 same-length-2 c = search needs
 
 returns-2 : tie.Need-returns-2
-returns-2 c = kind-one _ _ _ _ _ (c .before .before .before .before .if2 .taken) (c .before .before .step-lent .ensures)
+returns-2 c = kind-one _ _ _ _ (c .before .before .before .before .if2 .taken) (c .before .before .step-lent .ensures)
 
 cast-run-lent : tie.Need-cast-run-lent
 cast-run-lent c = search needs
@@ -35,7 +35,7 @@ same-length-3 c = search needs
 returns-3 : tie.Need-returns-3
 returns-3 c =
     let else = c .before .before .before .before in
-    kind-more _ _ _ _ _ (else .before .if1 .left) (else .if2 .left) (c .before .before .run-lent .ensures)
+    kind-more _ _ _ _ (else .before .if1 .left) (else .if2 .left) (c .before .before .run-lent .ensures)
 
 pub call-lent-spec : {M : Type 1} → statement M
 call-lent-spec =

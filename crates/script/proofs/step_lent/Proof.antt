@@ -3,7 +3,7 @@
 use borrow.Author.Needs.{needs}
 use Rattle.service.specs.Entries.{stepOutcome}
 use Rattle.script.specs.Script.{replyIs}
-use Rattle.script.proofs.Laws.{step-does}
+use Rattle.script.proofs.Laws.{respond-step}
 use Rattle.script.proofs.step_lent.Statement.{statement}
 use Rattle.script.proofs.step_lent.Tie as tie
 
@@ -22,7 +22,7 @@ same-length c = search needs
 returns : tie.Need-returns
 unfolding replyIs stepOutcome
 returns c =
-    step-does _ _ _ (rw (c .before .answer .given .1) at (c .before .before .before .before .before .step .ensures))
+    respond-step _ _ _ (rw (c .before .answer .given .1) at (c .before .before .before .before .before .step .ensures))
 
 same-length-2 : tie.Need-same-length-2
 same-length-2 c = search needs
@@ -30,7 +30,7 @@ same-length-2 c = search needs
 returns-2 : tie.Need-returns-2
 unfolding replyIs stepOutcome
 returns-2 c =
-    step-does _ _ _ (rw (c .before .answer2 .given .1) at (c .before .before .before .before .before .step .ensures))
+    respond-step _ _ _ (rw (c .before .answer2 .given .1) at (c .before .before .before .before .before .step .ensures))
 
 pub step-lent-spec : {M : Type 1} → statement M
 step-lent-spec =

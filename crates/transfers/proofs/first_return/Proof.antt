@@ -1,123 +1,85 @@
--- `transfers::first_return` meets its contract. The loop's invariant: no block passed can come back, and j is a candidate or past the
--- last.
+-- `transfers::first_return` meets its contract. The loop's invariant: the search has come to j, and no block before it can come back.
 -- Assumes nothing.
 use mathlib.Core.Path.{_≡_, sym, _∙_}
-use Prim.Native.Nat.{ℕ, _-_, _/_, _<_}
-use native.Mathlib.Decide.{ℕ-discrete, decLt}
+use mathlib.Core.List.{List}
+use Prim.Native.Nat.{ℕ, _-_, _<_}
 use native.Mathlib.Omega.{arith}
-use denote.Ref.{now}
 use Rattle.order.proofs.Booleans.{no-contradiction}
 use Rattle.model.specs.Plan.{Plan}
 use Rattle.model.specs.Placement.{held}
-use Rattle.transfers.specs.Pair.{PairScene, Partner}
-use Rattle.transfers.proofs.Laws.{apart-sym, candidate-passed, candidate-holds, candidate-lacks, lies-at}
+use Rattle.cluster.specs.declared.Cluster.{Cluster}
+use Rattle.cluster.specs.Blocks.{PlacementOf}
+use Rattle.index.specs.declared.Pair.{Pair}
+use Rattle.transfers.specs.Pair.{Partner}
+use Rattle.transfers.proofs.Laws.{Passed, passed-first, passed-next, passed-candidate, candidate-block, lies-at}
+use borrow.Author.Needs.{needs}
 use Rattle.transfers.proofs.first_return.Statement.{statement}
 use Rattle.transfers.proofs.first_return.Tie as tie
 
+-- block k is no partner
+abbrev Fails : Cluster → List ℕ → List ℕ → Pair → ℕ → ℕ → Type 0
+Fails cluster words profiles pair given k =
+    (p : Plan) (count : ℕ → ℕ) → PlacementOf p count cluster words profiles → Partner p words profiles pair given k → ⊥
+
+-- a block that is no candidate is none
+others : {cluster : Cluster} {words profiles : List ℕ} {pair : Pair} {given : ℕ} (k : ℕ) → k < cluster .blocks
+    → (held words (pair .m) k ≡ 1 → held words (pair .n) k ≡ 0 → ⊥) → Fails cluster words profiles pair given k
+others k l other p count of t = other (t .holds) (t .lacks)
+
 abbrev Inv-loop : tie.InvT-loop
-Inv-loop words shares spreads on grid pair given back blocks j₀ j =
-    ((k : ℕ) → k < j → k < blocks
-    → (p : Plan) → PairScene p words shares spreads (grid .racks) (grid .size) blocks (pair .m) (pair .n) (pair .gap) → Partner p words (pair .m) (pair .n) (pair .gap) given k → ⊥)
-    × (j < blocks → held words (pair .n) j ≡ 1)
-    × (j < blocks → held words (pair .m) j ≡ 0)
+Inv-loop words profiles index cluster pair given j₀ j = Passed cluster words pair (Fails cluster words profiles pair given) j
 
 abbrev μ-loop : tie.MeasureT-loop
-μ-loop words shares spreads on grid pair given back blocks j₀ j = blocks - j
+μ-loop words profiles index cluster pair given j₀ j = cluster .blocks - j
 
 next-requires : tie.Need-next-requires Inv-loop μ-loop
-next-requires c κs =
-    let asked = c .before .before .before .before .pre in
-    record {
-      sized = asked .indexed .sized;
-      m-below = omega (arith, asked);
-      n-below = omega (arith, asked);
-      from-few = omega arith;
-      few = asked .blocks-max;
-    }
+next-requires c κs = search needs
 
 loop-holds : tie.Need-loop-holds Inv-loop μ-loop
 loop-holds c =
-    let start = c .before .before .before .before .before in
-    let asked = start .pre in
-    let words = now (start .args .words) in
-    let ml : start .args .pair .m < 64 = omega (arith, asked) in
-    let nl : start .args .pair .n < 64 = omega (arith, asked) in (
-      λ k l b p scene t.
-          candidate-passed words _ _ _ _ _ _ (asked .indexed) (c .next .ensures) nl ml k (omega arith) l b (t .holds) (t .lacks),
-      candidate-holds words _ _ _ _ _ _ (asked .indexed) (c .next .ensures) nl ml,
-      candidate-lacks words _ _ _ _ _ _ (asked .indexed) (c .next .ensures) nl ml,
-    )
+    let start = c .before .before .before .before in
+    passed-first (start .pre) others (c .next .ensures)
 
 mul-returnable : tie.Need-mul-returnable Inv-loop μ-loop
-mul-returnable c = omega arith
+mul-returnable c = search needs
 
 shared-slice-read-returnable : tie.Need-shared-slice-read-returnable Inv-loop μ-loop
-shared-slice-read-returnable c = omega arith
+shared-slice-read-returnable c = search needs
 
 mul-returnable-2 : tie.Need-mul-returnable-2 Inv-loop μ-loop
-mul-returnable-2 c = omega arith
+mul-returnable-2 c = search needs
 
 shared-slice-read-returnable-2 : tie.Need-shared-slice-read-returnable-2 Inv-loop μ-loop
-shared-slice-read-returnable-2 c = omega arith
-
-shared-slice-read-returnable-3 : tie.Need-shared-slice-read-returnable-3 Inv-loop μ-loop
-shared-slice-read-returnable-3 c = omega arith
+shared-slice-read-returnable-2 c = search needs
 
 returnable-requires : tie.Need-returnable-requires Inv-loop μ-loop
 returnable-requires c κs =
     let at = c .before .before .before .before in
-    let below = c .before .before .before .loop-test .taken in
-    let start = at .before .before .before .before .before .before in
-    let asked = start .pre in
-    record {
-      keeps =
-          record {
-            size-pos = asked .size-pos;
-            machines-max = asked .machines-max;
-            m-below = asked .n-below;
-            n-below = asked .m-below;
-            holds = at .loop .inv .1 below;
-            lacks = at .loop .inv .2 below;
-            across-is = asked .across-is ∙ apart-sym (start .args .pair .m / start .args .grid .size) (start .args .pair .n / start .args .grid .size);
-          };
-      share-narrow = asked .share-narrow (at .loop .j) below;
-      gap-narrow = asked .gap-narrow;
-    }
+    let start = at .before .before .before .before .before in
+    candidate-block (passed-candidate (start .pre) (at .loop .inv) (c .before .before .if1 .taken))
 
 returns : tie.Need-returns Inv-loop μ-loop
 returns c =
     let at = c .before .before .before .before .before .before in
-    let below = c .before .before .before .before .before .loop-test .taken in
-    let start = at .before .before .before .before .before .before in
-    let words = now (start .args .words) in
-    let j = at .loop .j in
+    let below = c .before .before .before .before .if1 .taken in
+    let inv = at .loop .inv in
     record {
-      holds = at .loop .inv .1;
-      lacks = at .loop .inv .2;
-      passed = at .loop .inv .0;
-      found = λ b p scene.
-          let test = c .before .returnable .ensures p (lies-at p words _ _ _ _ _ _ _ _ scene j below) .0 (c .if1 .taken) in
+      holds = inv .holds;
+      lacks = inv .lacks;
+      passed = inv .before;
+      found = λ b p count of.
           record {
-            holds = at .loop .inv .1 below;
-            lacks = at .loop .inv .2 below;
-            test = rw (scene .shares-are j below, scene .spreads-are j below) at test;
+            holds = inv .holds below;
+            lacks = inv .lacks below;
+            test = c .before .returnable .ensures p (lies-at p count _ _ _ of (at .loop .j) below) .0 (c .if2 .taken);
           };
     }
 
 add-next : tie.Need-add-next Inv-loop μ-loop
-add-next c = omega arith
+add-next c = search needs
 
 next-requires-2 : tie.Need-next-requires-2 Inv-loop μ-loop
-next-requires-2 c κs =
-    let at = c .before .before .before .before .before .before in
-    let asked = at .before .before .before .before .before .before .pre in
-    record {
-      sized = asked .indexed .sized;
-      m-below = omega (arith, asked);
-      n-below = omega (arith, asked);
-      from-few = omega (arith, asked .blocks-max);
-      few = asked .blocks-max;
-    }
+next-requires-2 c κs = search needs
 
 loop-less : tie.Need-loop-less Inv-loop μ-loop
 loop-less c = omega (arith, c .next2 .ensures .at-least)
@@ -125,33 +87,21 @@ loop-less c = omega (arith, c .next2 .ensures .at-least)
 loop-again : tie.Need-loop-again Inv-loop μ-loop
 loop-again c =
     let at = c .before .before .before .before .before .before .before in
-    let below = c .before .before .before .before .before .before .loop-test .taken in
-    let start = at .before .before .before .before .before .before in
-    let asked = start .pre in
-    let words = now (start .args .words) in
-    let j = at .loop .j in
-    let ml : start .args .pair .m < 64 = omega (arith, asked) in
-    let nl : start .args .pair .n < 64 = omega (arith, asked) in (
-      λ k l b p scene t. elim (decLt k j) [
-        | yes before ↦ at .loop .inv .0 k before b p scene t
-        | no after ↦ elim (ℕ-discrete k j) [
-          | yes e ↦
-              let test = rw (sym (scene .shares-are j below), sym (scene .spreads-are j below)) at (rw e at (t .test)) in
-              no-contradiction (sym (c .before .before .returnable .ensures p (lies-at p words _ _ _ _ _ _ _ _ scene j below) .1 test) ∙ c .before .if1 .left)
-          | no d ↦ candidate-passed words _ _ _ _ _ _ (asked .indexed) (c .next2 .ensures) nl ml k (omega arith) l b (t .holds) (t .lacks)
-        ]
-      ],
-      candidate-holds words _ _ _ _ _ _ (asked .indexed) (c .next2 .ensures) nl ml,
-      candidate-lacks words _ _ _ _ _ _ (asked .indexed) (c .next2 .ensures) nl ml,
-    )
+    let below = c .before .before .before .before .before .if1 .taken in
+    let start = at .before .before .before .before .before in
+    passed-next (start .pre) others (at .loop .inv)
+    (λ p count of t.
+    let passes = c .before .before .returnable .ensures p (lies-at p count _ _ _ of (at .loop .j) below) .1 (t .test) in
+    no-contradiction (sym passes ∙ c .before .if2 .left))
+    (c .next2 .ensures)
 
 returns-2 : tie.Need-returns-2 Inv-loop μ-loop
 returns-2 c =
-    let at = c .before in
+    let at = c .before .before in
     record {
       holds = λ b. absurd (omega arith);
       lacks = λ b. absurd (omega arith);
-      passed = at .loop .inv .0;
+      passed = at .loop .inv .before;
       found = λ b. absurd (omega arith);
     }
 
@@ -167,7 +117,6 @@ first-return-spec =
     shared-slice-read-returnable
     mul-returnable-2
     shared-slice-read-returnable-2
-    shared-slice-read-returnable-3
     returnable-requires
     returns
     add-next

@@ -11,11 +11,16 @@ use Rattle.transfers.proofs.keeps.Tie as tie
 
 returns : tie.Need-returns
 returns c =
-    λ p lies. (λ e. kept-inside p _ _ _ _ _ _ _ lies (c .before .before .pre) (not-true _ (c .if1 .taken)), λ h. refl)
+    let start = c .before .before in
+    λ p lies. (λ e. kept-inside p _ _ _ (start .args .profile) lies (start .pre) (not-true _ (c .if1 .taken)), λ h. refl)
+
+spread-of-requires : tie.Need-spread-of-requires
+spread-of-requires c κs = search needs
 
 returns-2 : tie.Need-returns-2
 returns-2 c =
-    λ p lies. (λ e. kept-one p _ _ _ _ _ _ _ lies (c .before .before .before .pre) (c .if2 .taken), λ h. refl)
+    let start = c .before .before .before .before in
+    λ p lies. (λ e. kept-one p _ _ _ (start .args .profile) lies (start .pre) (rw (c .before .spread-of .ensures) at (c .if2 .taken)), λ h. refl)
 
 shift-bit-requires : tie.Need-shift-bit-requires
 shift-bit-requires c κs = search needs
@@ -26,11 +31,17 @@ groups-used-requires c κs = search needs
 returns-3 : tie.Need-returns-3
 returns-3 c =
     λ p lies.
-    let a = c .before .before .before .before .before in
-    let word = c .before .shift-bit in
-    let e = c .groups-used .ensures ∙ groups-are p _ _ (word .result) (lies .racks-is) (lies .size-is) ∙ ap (domainsUsed p) (word .ensures) in
-    rw (sym e) (leb-iff (a .args .spread) (c .groups-used .result))
+    let moved = c .before .shift-bit in
+    let e = c .groups-used .ensures ∙ groups-are p _ (moved .result) (lies .cluster-of) ∙ ap (domainsUsed p) (moved .ensures) in
+    rw (sym e, sym (c .before .before .before .spread-of .ensures)) (leb-iff _ (c .groups-used .result))
 
 pub keeps-spec : {M : Type 1} → statement M
 keeps-spec =
-    tie.close (tie.spec returns returns-2 shift-bit-requires groups-used-requires returns-3)
+    tie.close
+    (tie.spec
+    returns
+    spread-of-requires
+    returns-2
+    shift-bit-requires
+    groups-used-requires
+    returns-3)

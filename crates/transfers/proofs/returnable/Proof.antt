@@ -7,16 +7,19 @@ use borrow.Author.Needs.{needs}
 use Rattle.transfers.proofs.returnable.Statement.{statement}
 use Rattle.transfers.proofs.returnable.Tie as tie
 
+share-of-requires : tie.Need-share-of-requires
+share-of-requires c κs = search needs
+
 returns : tie.Need-returns
 returns c =
-    λ p lies. (λ e. no-contradiction (sym e), λ h. absurd (omega (arith, h .gain)))
+    λ p lies. (λ e. no-contradiction (sym e), λ h. absurd (omega (arith, h .in-margin .gain)))
 
 add-if2 : tie.Need-add-if2
 add-if2 c = search needs
 
 returns-2 : tie.Need-returns-2
 returns-2 c =
-    λ p lies. (λ e. no-contradiction (sym e), λ h. absurd (omega (arith, h .lower)))
+    λ p lies. (λ e. no-contradiction (sym e), λ h. absurd (omega (arith, h .in-margin .below)))
 
 keeps-requires : tie.Need-keeps-requires
 keeps-requires c κs = search needs
@@ -24,8 +27,10 @@ keeps-requires c κs = search needs
 returns-3 : tie.Need-returns-3
 returns-3 c =
     λ p lies.
-    let kept = c .keeps .ensures p lies in
-    (λ e. record { gain = omega arith; lower = omega arith; spread-kept = kept .0 e }, λ h. kept .1 (h .spread-kept))
+    let kept = c .keeps .ensures p lies in (
+      λ e. record { in-margin = record { gain = omega arith; below = omega arith }; spread-kept = kept .0 e },
+      λ h. kept .1 (h .spread-kept),
+    )
 
 pub returnable-spec : {M : Type 1} → statement M
-returnable-spec = tie.close (tie.spec returns add-if2 returns-2 keeps-requires returns-3)
+returnable-spec = tie.close (tie.spec share-of-requires returns add-if2 returns-2 keeps-requires returns-3)

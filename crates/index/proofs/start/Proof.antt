@@ -1,0 +1,89 @@
+-- `index::start` meets its contract: the order is that of the ranked keys and of the ranks.
+-- Assumes nothing.
+use mathlib.Core.Path.{_≡_, sym, _∙_}
+use mathlib.Core.List.{List}
+use Prim.Native.Nat.{ℕ, _+_, _<_, _≤_}
+use native.Mathlib.Nat.{le-trans}
+use native.Mathlib.Omega.{arith}
+use borrow.Author.Needs.{needs}
+use lib.ListN.{getD}
+use Rattle.model.specs.Refusal.{maxBlocks}
+use Rattle.cluster.specs.declared.Cluster.{Cluster}
+use Rattle.ranking.specs.Ranks.{Ranked, RanksOf}
+use Rattle.ranking.proofs.Laws.{keyShare-rises, ranks-share, ranks-apart}
+use Rattle.index.specs.Index.{keysAt, ranksAt, keyAt, rankAt, Ordered, CopiedTo}
+use Rattle.index.proofs.start.Statement.{statement}
+use Rattle.index.proofs.start.Tie as tie
+
+-- an index with the keys and the ranks copied into it
+module _ {c : Cluster} {profiles keys ranks entry half index : List ℕ} (few : c .blocks ≤ maxBlocks) (ranked : Ranked c profiles keys)
+    (of : RanksOf c profiles keys ranks) (first : CopiedTo entry keysAt keys half) (second : CopiedTo half ranksAt ranks index) where
+  key : (r : ℕ) → r < c .blocks → keyAt index r ≡ getD keys r 0
+  key r l = second .below (keysAt + r) (omega arith) ∙ first .here r (le-trans l few)
+
+  rank : (i : ℕ) → i < c .blocks → rankAt index i ≡ getD ranks i 0
+  rank i l = second .here i (le-trans l few)
+
+  copied-ordered : Ordered c profiles index
+  copied-ordered =
+      record {
+        sized = second .sized;
+        rank-below = λ i l. rw (rank i l) (of .below i l);
+        rank-share = λ i l. rw (rank i l, key (getD ranks i 0) (of .below i l)) (ranks-share few of i l);
+        rank-apart = λ i j l h e. ranks-apart few of i j l h (sym (rank i l) ∙ e ∙ rank j h);
+        rising = λ r q l h.
+            rw (key r (omega arith), key q h) (keyShare-rises (getD keys r 0) (getD keys q 0) (ranked .sorted r q l h));
+      }
+
+rank-requires : tie.Need-rank-requires
+rank-requires c κs = search needs
+
+slice-aggregate-ranks : tie.Need-slice-aggregate-ranks
+slice-aggregate-ranks c = search needs
+
+ranks-requires : tie.Need-ranks-requires
+ranks-requires c κs = search needs
+
+slice-aggregate-copy-part : tie.Need-slice-aggregate-copy-part
+slice-aggregate-copy-part c = search needs
+
+slice-aggregate-copy-part-2 : tie.Need-slice-aggregate-copy-part-2
+slice-aggregate-copy-part-2 c = search needs
+
+copy-part-requires : tie.Need-copy-part-requires
+copy-part-requires c κs = search needs
+
+slice-aggregate-copy-part-3 : tie.Need-slice-aggregate-copy-part-3
+slice-aggregate-copy-part-3 c = search needs
+
+slice-aggregate-copy-part-4 : tie.Need-slice-aggregate-copy-part-4
+slice-aggregate-copy-part-4 c = search needs
+
+copy-part-requires-2 : tie.Need-copy-part-requires-2
+copy-part-requires-2 c κs = search needs
+
+returns : tie.Need-returns
+returns c =
+    let copy2 = c .before in
+    let copy = copy2 .before .before .before .before in
+    let inverse = copy .before .before .before in
+    let order = inverse .before .before in
+    let fit = order .before .before .pre in
+    let ranked = order .rank .ensures in
+    copied-ordered (fit .in-range .blocks-max) ranked (inverse .ranks .ensures _ fit ranked)
+    (copy .copy-part .ensures) (copy2 .copy-part2 .ensures)
+
+pub start-spec : {M : Type 1} → statement M
+start-spec =
+    tie.close
+    (tie.spec
+    rank-requires
+    slice-aggregate-ranks
+    ranks-requires
+    slice-aggregate-copy-part
+    slice-aggregate-copy-part-2
+    copy-part-requires
+    slice-aggregate-copy-part-3
+    slice-aggregate-copy-part-4
+    copy-part-requires-2
+    returns)

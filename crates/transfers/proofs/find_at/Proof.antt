@@ -1,0 +1,114 @@
+-- `transfers::find_at` meets its contract: the definition's tests at block i are those of `movable` and `first_exchange`.
+-- Assumes nothing.
+use mathlib.Core.Path.{sym, _∙_}
+use native.Mathlib.Omega.{arith}
+use Rattle.order.proofs.Booleans.{no-contradiction, not-so}
+use Rattle.cluster.proofs.Laws.{cluster-blocks, placement-block}
+use Rattle.transfers.specs.Pair.{hitOf}
+use Rattle.transfers.proofs.Laws.{candidate-block, candidate-shift, blockStep-none, blockStep-move, blockStep-swap, move-told}
+use borrow.Author.Needs.{needs}
+use Rattle.transfers.proofs.find_at.Statement.{statement}
+use Rattle.transfers.proofs.find_at.Tie as tie
+
+first-exchange-requires : tie.Need-first-exchange-requires
+first-exchange-requires c κs = search needs
+
+returns : tie.Need-returns
+unfolding hitOf
+returns c =
+    let start = c .before .before .before .before .before .before .before in
+    let asked = start .pre in
+    let found = c .before .before .first-exchange .ensures in
+    let j = c .before .before .first-exchange .result in
+    let jl = c .if2 .taken in
+    record {
+      sound = (
+        candidate-shift asked,
+        record {
+          m-below = asked .asked .pair-in .n-below;
+          n-below = asked .asked .pair-in .m-below;
+          i-below = jl;
+          holds = found .holds jl;
+          lacks = found .lacks jl;
+        },
+      );
+      is = λ p count scene room.
+          sym (blockStep-swap p _ _ _ _ _ _ (c .before .before .before .if1 .taken) j (placement-block p count _ _ _ (scene .placement) j jl)
+          (λ k l. found .passed k l (omega arith) p count scene) (found .found jl p count scene));
+    }
+
+returns-2 : tie.Need-returns-2
+unfolding hitOf
+returns-2 c =
+    let found = c .before .before .first-exchange .ensures in
+    record {
+      sound = tt;
+      is = λ p count scene room.
+          let blocks = cluster-blocks p _ (scene .placement .profiles-of .cluster) in
+          sym (blockStep-none p _ _ _ _ _ _ (λ e. no-contradiction (sym (c .before .before .before .if1 .taken) ∙ e))
+          (λ e j l. found .passed j (omega arith) (omega arith) p count scene));
+    }
+
+mul-movable : tie.Need-mul-movable
+mul-movable c = search needs
+
+shared-slice-read-movable : tie.Need-shared-slice-read-movable
+shared-slice-read-movable c = search needs
+
+mul-movable-2 : tie.Need-mul-movable-2
+mul-movable-2 c = search needs
+
+shared-slice-read-movable-2 : tie.Need-shared-slice-read-movable-2
+shared-slice-read-movable-2 c = search needs
+
+movable-requires : tie.Need-movable-requires
+movable-requires c κs =
+    let start = c .before .before .before .before .before .before in
+    candidate-block (start .pre)
+
+returns-3 : tie.Need-returns-3
+unfolding hitOf
+returns-3 c =
+    let start = c .before .before .before .before .before .before .before .before in
+    let asked = start .pre in
+    let moves = c .before .before .before .before .if1 .left in
+    record {
+      sound = candidate-shift asked;
+      is = λ p count scene room.
+          let told =
+          move-told p count _ _ _ _ scene (asked .asked .pair-in) _ (asked .i-below) (asked .holds) (asked .lacks) (room moves) (c .before .movable .ensures)
+          in
+          sym (blockStep-move p _ _ _ _ _ _ moves (told .0 (c .if3 .taken)));
+    }
+
+returns-4 : tie.Need-returns-4
+unfolding hitOf
+returns-4 c =
+    let start = c .before .before .before .before .before .before .before .before in
+    let asked = start .pre in
+    let moves = c .before .before .before .before .if1 .left in
+    record {
+      sound = tt;
+      is = λ p count scene room.
+          let told =
+          move-told p count _ _ _ _ scene (asked .asked .pair-in) _ (asked .i-below) (asked .holds) (asked .lacks) (room moves) (c .before .movable .ensures)
+          in
+          sym (blockStep-none p _ _ _ _ _ _
+          (λ e. not-so _ (λ t. no-contradiction (sym (told .1 t) ∙ c .if3 .left)))
+          (λ e. no-contradiction (sym e ∙ moves)));
+    }
+
+pub find-at-spec : {M : Type 1} → statement M
+find-at-spec =
+    tie.close
+    (tie.spec
+    first-exchange-requires
+    returns
+    returns-2
+    mul-movable
+    shared-slice-read-movable
+    mul-movable-2
+    shared-slice-read-movable-2
+    movable-requires
+    returns-3
+    returns-4)
