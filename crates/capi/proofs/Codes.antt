@@ -10,12 +10,12 @@ use native.Mathlib.Omega.{arith}
 use lib.Dec.{ltb, eqb, lit≤}
 use lib.ListN.{length}
 use Rattle.order.proofs.Searches.{first-all}
-use Rattle.model.specs.Plan.{Plan, machines, domains, blockCount, blockOf, upper, minTotal, headerLength, markIn, versionIn, racksIn, rackSizeIn, capacityIn, blockCountIn, recordAt, planIn}
-use Rattle.model.specs.Refusal.{refuseIf, orElse, isRefusal, mark, maxMachines, maxCapacity, maxBlocks, check1, check2, check3, check4, check5, check6, check7, check8, check9, blockRefusal, blocksRefusal, check10, check11, check12, planRefusal, refusal, accepted, verdict, judge}
+use Rattle.model.specs.Plan.{Plan, machines, domains, blockCount, blockOf, upper, minTotal, commonLength, markIn, versionIn, racksIn, rackSizeIn, capacityIn, blockCountIn, formatIn, recordAt, planIn}
+use Rattle.model.specs.Refusal.{refuseIf, orElse, isRefusal, mark, maxMachines, maxCapacity, maxBlocks, check1, check2, check3, check4, check5, check6, check7, check8, check9, blockRefusal, blocksRefusal, check10, check11, check12, planRefusal, refusal, accepted, verdict, judge, verdictCode}
 use Rattle.model.specs.Placement.{allWithin, allSpread, allFit}
 use Rattle.model.specs.Calls.{Answer, turnedBack, answered, Outcome, onPlan, unless, allCounted, placementRefusal, onPlacement, countsCall, firstCall, checkCall, reportCall, stepCall, runCall}
 use Rattle.model.specs.Listing.{listingRoom, roomRefusal, wrote, listingCall}
-use Rattle.capi.specs.Interface.{shortOut, replied, codeOf}
+use Rattle.capi.specs.Interface.{shortOut, replied}
 use Rattle.capi.specs.Codes.{lastRow, RefusalCode, Tells, EffectTells, Codes}
 use Rattle.capi.proofs.Laws.{out-short, out-enough}
 
@@ -50,20 +50,20 @@ bytes-code bytes =
     let s = rackSizeIn bytes in
     let c = capacityIn bytes in
     let b = blockCountIn bytes in
-    refuse-le (ltb (length bytes) headerLength) 1 _ 11 (lit≤ tt)
+    refuse-le (ltb (length bytes) commonLength) 1 _ 11 (lit≤ tt)
     (refuse-le (not (eqb (markIn bytes) mark)) 2 _ 11 (lit≤ tt)
     (refuse-le (not (eqb (versionIn bytes) 1)) 3 _ 11 (lit≤ tt)
     (refuse-le (eqb r 0 || eqb s 0 || ltb maxMachines (r * s)) 4 _ 11 (lit≤ tt)
     (refuse-le (eqb c 0 || ltb maxCapacity c) 5 _ 11 (lit≤ tt)
     (refuse-le (ltb maxBlocks b) 6 _ 11 (lit≤ tt)
-    (refuse-le (not (eqb (length bytes) (recordAt b))) 7 _ 11 (lit≤ tt) (plan-code (planIn bytes))))))))
+    (refuse-le (not (eqb (length bytes) (recordAt (formatIn bytes) b))) 7 _ 11 (lit≤ tt) (plan-code (planIn bytes))))))))
 
 -- rows 12 to 16
 room-code : (lent count later : ℕ) → later ≤ lastRow → check12 lent count later ≤ lastRow
 unfolding check12
 room-code lent count later l = refuse-le (ltb lent count) 12 later lastRow (lit≤ tt) l
 
-placement-code : (p : Plan) (words : List ℕ) → placementRefusal p words ≤ lastRow
+placement-code : (p : Plan) (words : List ℕ) → placementRefusal words p ≤ lastRow
 unfolding placementRefusal
 placement-code p words =
     room-code _ _ _
@@ -84,22 +84,21 @@ module _ {A : Type 0} (items : List ℕ) where
   unless-told zero call row told = told
   unless-told (suc code) call row told = record { some = omega arith; row = row }
 
-  verdict-told : (code : ℕ) (p : Plan) (call : Plan → Outcome A) → code ≤ 11 → Told (call p .answer)
-      → Told (onPlan (verdict code p) items call .answer)
+  verdict-told : (code : ℕ) (p : Plan) (rows : Plan → ℕ) (call : Plan → Outcome A) → code ≤ 11
+      → (rows p ≤ lastRow) ⊎ (rows p ≡ shortOut) → Told (call p .answer) → Told (onPlan (verdict code p) items rows call .answer)
   unfolding onPlan
-  verdict-told zero p call l told = told
-  verdict-told (suc code) p call l told = record { some = omega arith; row = inl (omega arith) }
+  verdict-told zero p rows call l row told = unless-told (rows p) (call p) row told
+  verdict-told (suc code) p rows call l row told = record { some = omega arith; row = inl (omega arith) }
 
-  plan-told : (bytes : List ℕ) (call : Plan → Outcome A) → Told (call (planIn bytes) .answer)
-      → Told (onPlan (judge bytes) items call .answer)
+  plan-told : (bytes : List ℕ) (rows : Plan → ℕ) (call : Plan → Outcome A) → rows (planIn bytes) ≤ lastRow → Told (call (planIn bytes) .answer)
+      → Told (onPlan (judge bytes) items rows call .answer)
   unfolding judge
-  plan-told bytes call told = verdict-told (refusal bytes) (planIn bytes) call (bytes-code bytes) told
+  plan-told bytes rows call row told = verdict-told (refusal bytes) (planIn bytes) rows call (bytes-code bytes) (inl row) told
 
   placement-told : (bytes : List ℕ) (call : Plan → Outcome A) → Told (call (planIn bytes) .answer)
       → Told (onPlacement bytes items call .answer)
   unfolding onPlacement
-  placement-told bytes call told =
-      plan-told bytes _ (unless-told _ (call (planIn bytes)) (inl (placement-code (planIn bytes) items)) told)
+  placement-told bytes call told = plan-told bytes (placementRefusal items) call (placement-code (planIn bytes) items) told
 
 -- the code of an effect tells what the answer is
 replied-tells : {A : Type 0} (need : ℕ) (numbers : A → List ℕ) (items out : List ℕ) → need ≤ length out
@@ -120,24 +119,24 @@ effect-tells need numbers items out call told =
     ]
 
 -- the verdict's code
-verdict-known : (code : ℕ) (p : Plan) → code ≤ 11 → (codeOf (verdict code p) ≡ 0) ⊎ RefusalCode (codeOf (verdict code p))
-unfolding codeOf
+verdict-known : (code : ℕ) (p : Plan) → code ≤ 11 → (verdictCode (verdict code p) ≡ 0) ⊎ RefusalCode (verdictCode (verdict code p))
+unfolding verdictCode
 verdict-known zero p l = inl refl
 verdict-known (suc code) p l = inr (record { some = omega arith; row = inl (omega arith) })
 
-verdict-done : (code : ℕ) (p : Plan) → codeOf (verdict code p) ≡ 0 → (q : Plan) × (verdict code p ≡ accepted q)
-unfolding codeOf
+verdict-done : (code : ℕ) (p : Plan) → verdictCode (verdict code p) ≡ 0 → (q : Plan) × (verdict code p ≡ accepted q)
+unfolding verdictCode
 verdict-done zero p e = (p, refl)
 verdict-done (suc code) p e = absurd (omega arith)
 
 module _ (plan items out : List ℕ) (budget : ℕ) where
   counts-told : Told (countsCall plan items .answer)
   unfolding countsCall
-  counts-told = plan-told items plan _ (unless-told items _ _ (inl (room-code _ _ 0 (lit≤ tt))) tt)
+  counts-told = plan-told items plan _ _ (room-code _ _ 0 (lit≤ tt)) tt
 
   first-told : Told (firstCall plan items .answer)
   unfolding firstCall
-  first-told = plan-told items plan _ (unless-told items _ _ (inl (room-code _ _ 0 (lit≤ tt))) tt)
+  first-told = plan-told items plan _ _ (room-code _ _ 0 (lit≤ tt)) tt
 
   check-told : Told (checkCall plan items .answer)
   unfolding checkCall
@@ -161,7 +160,7 @@ module _ (plan items out : List ℕ) (budget : ℕ) where
 
   listing-told : Told (listingCall plan budget items .answer)
   unfolding listingCall roomRefusal wrote
-  listing-told = unless-told items _ _ (room-row (ltb (length items) listingRoom)) (plan-told items plan _ tt)
+  listing-told = unless-told items _ _ (room-row (ltb (length items) listingRoom)) (plan-told items plan _ _ (lit≤ tt) tt)
 
   pub codes : Codes plan items out budget
   unfolding judge

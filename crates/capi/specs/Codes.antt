@@ -5,10 +5,10 @@ use mathlib.Core.List.{List, []}
 use Prim.Native.Nat.{ℕ, _≤_}
 use lib.ListN.{length}
 use Rattle.model.specs.Plan.{Plan}
-use Rattle.model.specs.Refusal.{accepted, judge}
+use Rattle.model.specs.Refusal.{accepted, judge, verdictCode}
 use Rattle.model.specs.Calls.{Answer, answered, Outcome, countsCall, firstCall, checkCall, reportCall, stepCall, runCall}
 use Rattle.model.specs.Listing.{listingCall}
-use Rattle.capi.specs.Interface.{shortOut, effect, codeOf, noNumbers, reportNumbers, stepNumbers, runNumbers, sizeNumber}
+use Rattle.capi.specs.Interface.{shortOut, effect, noNumbers, reportNumbers, stepNumbers, runNumbers, sizeNumber}
 
 -- The last row of the table of refusals.
 abbrev pub lastRow : ℕ
@@ -33,8 +33,8 @@ EffectTells need numbers items out call = Tells need out (call .answer) (effect 
 
 -- Of every exported function, whatever it is lent.
 pub record Codes (plan items out : List ℕ) (budget : ℕ) : Type 0 where
-  pub plan-known : (codeOf (judge plan) ≡ 0) ⊎ RefusalCode (codeOf (judge plan))
-  pub plan-done : codeOf (judge plan) ≡ 0 → (p : Plan) × (judge plan ≡ accepted p)
+  pub plan-known : (verdictCode (judge plan) ≡ 0) ⊎ RefusalCode (verdictCode (judge plan))
+  pub plan-done : verdictCode (judge plan) ≡ 0 → (p : Plan) × (judge plan ≡ accepted p)
   pub counts-tells : EffectTells 0 noNumbers items [] (countsCall plan items)
   pub first-tells : EffectTells 0 noNumbers items [] (firstCall plan items)
   pub check-tells : EffectTells 0 noNumbers items [] (checkCall plan items)

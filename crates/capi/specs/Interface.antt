@@ -4,8 +4,8 @@ use mathlib.Core.List.{List, [], _∷_, _++_}
 use Prim.Native.Nat.{ℕ}
 use lib.Dec.{ltb}
 use lib.ListN.{length, drop}
-use Rattle.model.specs.Refusal.{Verdict, refused, accepted}
 use Rattle.model.specs.Steps.{Step, none, move, swap}
+use Rattle.model.specs.Claims.{Reply, refusedBy, checked, stepped, ran}
 use Rattle.model.specs.Calls.{Answer, turnedBack, answered, Outcome, Report, RunReply}
 
 -- The code returned, and every item at exit of the buffer that the call works on and of `out`.
@@ -35,11 +35,6 @@ unfoldable pub effect : {A : Type 0} → ℕ → (A → List ℕ) → List ℕ �
 effect need numbers items out outcome =
     cond (ltb (length out) need) (effectOf shortOut items out) (replied numbers (outcome .answer) (outcome .items) out)
 
--- A verdict's code: 0 for an accepted plan.
-unfoldable pub codeOf : Verdict → ℕ
-codeOf (refused code) = code
-codeOf (accepted p) = 0
-
 -- The numbers of an answer: none.
 abbrev pub noNumbers : ℕ → List ℕ
 noNumbers n = []
@@ -68,3 +63,10 @@ runNumbers r = cond (r .rested) 1 0 ∷ r .steps ∷ []
 -- Of a listing: the number of bytes written.
 abbrev pub sizeNumber : ℕ → List ℕ
 sizeNumber size = size ∷ []
+
+-- Of a reply: its kind (0 refused, 1 checked, 2 a step, 3 a run), then its own numbers.
+unfoldable pub replyNumbers : Reply → List ℕ
+replyNumbers (refusedBy code) = 0 ∷ code ∷ 0 ∷ 0 ∷ 0 ∷ 0 ∷ 0 ∷ []
+replyNumbers checked = 1 ∷ 0 ∷ 0 ∷ 0 ∷ 0 ∷ 0 ∷ 0 ∷ []
+replyNumbers (stepped step) = 2 ∷ stepNumbers step
+replyNumbers (ran r) = 3 ∷ cond (r .rested) 1 0 ∷ r .steps ∷ 0 ∷ 0 ∷ 0 ∷ 0 ∷ []

@@ -1,23 +1,26 @@
 // The functions that the archive exports to C: thin wrappers over the public entries, on numbers and slices alone.
 // Each returns 0 or the number of a refusal, and writes only where it returns 0.
-use counts::CountsAnswer;
-use inspection::CheckAnswer;
-use inspection::ReportAnswer;
 use listing::ListingAnswer;
-use placing::FirstAnswer;
 use plan::Reading;
+use script::LastReply;
 use search::Step;
+use service::CheckAnswer;
+use service::CountsAnswer;
+use service::FirstAnswer;
+use service::ReportAnswer;
 use service::RunAnswer;
 use service::StepAnswer;
 ghost use mathlib.Core.Path.{_≡_};
 ghost use mathlib.Core.List.{[]};
 ghost use Prim.Native.Nat.{_≤_};
 ghost use lib.ListN.{length};
-ghost use Rattle.model.specs.Refusal.{judge};
+ghost use Rattle.model.specs.Refusal.{verdictCode, judge};
 ghost use Rattle.model.specs.Calls.{countsCall, firstCall, checkCall, reportCall, stepCall, runCall};
 ghost use Rattle.model.specs.Listing.{listingCall};
 ghost use Rattle.search.specs.Scene.{stepOf};
-ghost use Rattle.capi.specs.Interface.{effectOf, effect, over, codeOf, noNumbers, reportNumbers, stepNumbers, runNumbers, sizeNumber};
+ghost use Rattle.script.specs.Script.{replyIs};
+ghost use Rattle.capi.specs.Interface.{effectOf, effect, over, noNumbers, reportNumbers, stepNumbers, runNumbers, sizeNumber, replyNumbers};
+ghost use Rattle.capi.specs.Script.{PlayedInto};
 
 // The code for an `out` that is shorter than what the call writes there, above all refusal numbers.
 const SHORT_OUT: u32 = 255;
@@ -57,7 +60,7 @@ fn step_numbers(step: Step) -> [u64; 6]
 // Judges a plan.
 #[no_mangle]
 pub extern "C" fn bpl_plan(plan: &[u8]) -> u32
-    ensures { λ r. ⌜ r ≡ codeOf (judge (now (plan .entry))) ⌝ }
+    ensures { λ r. ⌜ r ≡ verdictCode (judge (now (plan .entry))) ⌝ }
 {
     let reading = plan::read(plan);
     match reading {
@@ -72,7 +75,7 @@ pub extern "C" fn bpl_counts(plan: &[u8], counts: &mut [u8]) -> u32
     ensures { λ r. ⌜ effectOf r (now (counts .exit)) []
         ≡ effect 0 noNumbers (now (counts .entry)) [] (countsCall (now (plan .entry)) (now (counts .entry))) ⌝ }
 {
-    let answer = counts::counts(plan, counts);
+    let answer = service::counts(plan, counts);
     match answer {
         CountsAnswer::Refused(number) => code_of(number),
         CountsAnswer::Counted(_top) => 0,
@@ -85,7 +88,7 @@ pub extern "C" fn bpl_first(plan: &[u8], words: &mut [u64]) -> u32
     ensures { λ r. ⌜ effectOf r (now (words .exit)) []
         ≡ effect 0 noNumbers (now (words .entry)) [] (firstCall (now (plan .entry)) (now (words .entry))) ⌝ }
 {
-    let answer = placing::first(plan, words);
+    let answer = service::first(plan, words);
     match answer {
         FirstAnswer::Refused(number) => code_of(number),
         FirstAnswer::Placed(_blocks) => 0,
@@ -98,7 +101,7 @@ pub extern "C" fn bpl_check(plan: &[u8], words: &[u64]) -> u32
     ensures { λ r. ⌜ effectOf r (now (words .entry)) []
         ≡ effect 0 noNumbers (now (words .entry)) [] (checkCall (now (plan .entry)) (now (words .entry))) ⌝ }
 {
-    let answer = inspection::check(plan, words);
+    let answer = service::check(plan, words);
     match answer {
         CheckAnswer::Refused(number) => code_of(number),
         CheckAnswer::Feasible(_blocks) => 0,
@@ -114,16 +117,11 @@ pub extern "C" fn bpl_report(plan: &[u8], words: &[u64], out: &mut [u64]) -> u32
     if out.len() < 4 {
         return SHORT_OUT;
     }
-    let answer = inspection::report(plan, words);
+    let answer = service::report(plan, words);
     match answer {
         ReportAnswer::Refused(number) => code_of(number),
-        ReportAnswer::Reported(report) => {
-            let numbers = [
-                report.max_load,
-                report.min_load,
-                report.total_load,
-                report.max_share,
-            ];
+        ReportAnswer::Reported(report, top) => {
+            let numbers = [report.max_load, report.min_load, report.total_load, top];
             write_numbers(out, &numbers);
             0
         }
@@ -193,4 +191,41 @@ pub extern "C" fn bpl_listing(plan: &[u8], budget: u32, text: &mut [u8], out: &m
             0
         }
     }
+}
+
+// A reply as numbers: its kind (0 refused, 1 checked, 2 a step, 3 a run), then its own.
+fn reply_numbers(reply: LastReply) -> [u64; 7]
+    ensures { λ r. ⌜ r ≡ replyNumbers (replyIs reply) ⌝ }
+{
+    match reply {
+        LastReply::Refused(number) => [0, number as u64, 0, 0, 0, 0, 0],
+        LastReply::Checked => [1, 0, 0, 0, 0, 0, 0],
+        LastReply::Stepped(step) => {
+            let s = step_numbers(step);
+            [2, s[0], s[1], s[2], s[3], s[4], s[5]]
+        }
+        LastReply::Rested(steps) => [3, 1, steps as u64, 0, 0, 0, 0],
+        LastReply::Spent(steps) => [3, 0, steps as u64, 0, 0, 0, 0],
+    }
+}
+
+// Plays a script of checks, steps and runs over one plan and its words, and answers the last reply.
+#[no_mangle]
+pub extern "C" fn bpl_play(
+    plan: &[u8],
+    other: &[u8],
+    words: &mut [u64],
+    script: &[u64],
+    out: &mut [u64],
+) -> u32
+    ensures { λ r. ⌜ PlayedInto (now (plan .entry)) (now (other .entry)) (now (script .entry)) (now (words .entry)) (now (out .entry))
+        r (now (words .exit)) (now (out .exit)) ⌝ }
+{
+    if out.len() < 7 {
+        return SHORT_OUT;
+    }
+    let reply = script::play(plan, other, words, script);
+    let numbers = reply_numbers(reply);
+    write_numbers(out, &numbers);
+    0
 }

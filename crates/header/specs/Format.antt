@@ -1,6 +1,6 @@
 -- The format of a version's file, in the code's struct and in its ranges.
-use Prim.Native.Nat.{ℕ, _≤_}
-use Rattle.model.specs.Plan.{Format as ModelFormat}
+use Prim.Native.Nat.{_≤_}
+use Rattle.model.specs.Plan.{commonLength, Format as ModelFormat}
 use Rattle.theory.specs.Widths.{widestPopularity}
 use Rattle.header.specs.declared.Format.{Format}
 
@@ -14,8 +14,9 @@ asFormat f =
       minRacksWidth = f .«min_racks_width»;
     }
 
--- No version's header or field is wider.
+-- Every version's header has the common bytes, and no version's header or field is wider.
 pub record FormatFits (f : ModelFormat) : Type 0 where
+  pub header-min : commonLength ≤ f .headerLength
   pub header-max : f .headerLength ≤ 64
   pub popularity-max : f .popularityWidth ≤ widestPopularity
   pub replicas-max : f .minReplicasWidth ≤ 1

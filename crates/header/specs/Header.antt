@@ -1,9 +1,9 @@
 -- What the reader of the header says, in the model's terms.
 use mathlib.Core.Path.{_≡_}
 use mathlib.Core.List.{List}
-use Prim.Native.Nat.{ℕ, _<_, _≤_, _^_}
+use Prim.Native.Nat.{ℕ, _<_, _≤_}
 use lib.ListN.{length}
-use Rattle.model.specs.Plan.{markIn, versionIn, racksIn, rackSizeIn, capacityIn, budgetIn, blockCountIn, commonLength, formatOf, recordAt, planIn}
+use Rattle.model.specs.Plan.{markIn, versionIn, racksIn, rackSizeIn, capacityIn, budgetIn, blockCountIn, commonLength, formatIn, recordAt, planIn}
 use Rattle.model.specs.Refusal.{orElse, check1, check2, check3, planRefusal, refusal}
 use Rattle.cluster.specs.declared.Cluster.{Cluster}
 use Rattle.cluster.specs.Cluster.{InRange}
@@ -17,15 +17,12 @@ clusterIn bytes =
     record { racks = racksIn bytes; «rack_size» = rackSizeIn bytes; capacity = capacityIn bytes; blocks = blockCountIn bytes }
 
 unfoldable pub headerIn : List ℕ → Header
-headerIn bytes = record { version = versionIn bytes; cluster = clusterIn bytes; budget = budgetIn bytes }
+headerIn bytes = record { cluster = clusterIn bytes; budget = budgetIn bytes }
 
--- Each field fits its bytes.
+-- Each number that check 4 multiplies fits its byte.
 pub record Narrow (h : Header) : Type 0 where
-  pub racks-narrow : h .cluster .racks < 2 ^ 8
-  pub size-narrow : h .cluster .«rack_size» < 2 ^ 8
-  pub capacity-narrow : h .cluster .capacity < 2 ^ 16
-  pub budget-narrow : h .budget < 2 ^ 32
-  pub blocks-narrow : h .cluster .blocks < 2 ^ 16
+  pub racks-narrow : h .cluster .racks < 256
+  pub size-narrow : h .cluster .«rack_size» < 256
 
 -- The code r of checks 1 to 3, whatever the later rows say.
 pub record MarkChecked (bytes : List ℕ) (r : ℕ) : Type 0 where
@@ -37,8 +34,7 @@ pub record PassedAs (bytes : List ℕ) (h : Header) : Type 0 where
   pub fields : h ≡ headerIn bytes
   pub left : refusal bytes ≡ planRefusal (planIn bytes)
   pub in-range : InRange (h .cluster)
-  pub budget-narrow : h .budget < 2 ^ 32
-  pub length-is : length bytes ≡ recordAt (formatOf (h .version)) (h .cluster .blocks)
+  pub length-is : length bytes ≡ recordAt (formatIn bytes) (h .cluster .blocks)
 
 pub record RefusedAs (bytes : List ℕ) (code : ℕ) : Type 0 where
   pub is : refusal bytes ≡ code

@@ -5,7 +5,7 @@ use cluster::MAX_MACHINES;
 ghost use mathlib.Core.Path.{_≡_};
 ghost use Prim.Native.Nat.{ℕ, _+_, _<_, _≤_, _^_};
 ghost use lib.ListN.{length};
-ghost use Rattle.model.specs.Plan.{field, commonLength, formatOf, recordAt};
+ghost use Rattle.model.specs.Plan.{field, commonLength, formatOf, formatIn, recordAt};
 ghost use Rattle.model.specs.Refusal.{orElse, maxBlocks, check4, check5, check6, check7};
 ghost use Rattle.header.specs.Format.{asFormat, FormatFits};
 ghost use Rattle.header.specs.Header.{headerIn, Narrow, MarkChecked, HeaderChecked};
@@ -17,9 +17,8 @@ const MARK: usize = 0x42504C;
 
 const MAX_CAPACITY: usize = 1024;
 
-// The header's fields: the version, R, S, C and B, and the budget.
+// The header's fields: R, S, C and B, and the budget.
 pub struct Header {
-    pub version: usize,
     pub cluster: Cluster,
     pub budget: usize,
 }
@@ -35,18 +34,6 @@ pub struct Format {
 pub enum HeaderAnswer {
     Refused(u8),
     Passed(Header),
-}
-
-// The format of a version's file.
-pub fn format_of(version: usize) -> Format
-    ensures { λ r. ⌜ (asFormat r ≡ formatOf version) × FormatFits (asFormat r) ⌝ }
-{
-    Format {
-        header_length: COMMON_LENGTH,
-        popularity_width: 3,
-        min_replicas_width: 1,
-        min_racks_width: 1,
-    }
 }
 
 // Where record i stands.
@@ -76,6 +63,26 @@ pub fn field_at(bytes: &[u8], at: usize, width: usize) -> usize
         k += 1;
     }
     value
+}
+
+// The format of a version's file.
+fn format_of(version: usize) -> Format
+    ensures { λ r. ⌜ (asFormat r ≡ formatOf version) × FormatFits (asFormat r) ⌝ }
+{
+    Format {
+        header_length: COMMON_LENGTH,
+        popularity_width: 3,
+        min_replicas_width: 1,
+        min_racks_width: 1,
+    }
+}
+
+// The format of these bytes.
+pub fn format_in(bytes: &[u8]) -> Format
+    requires { ⌜ commonLength ≤ length (now bytes) ⌝ }
+    ensures { λ r. ⌜ (asFormat r ≡ formatIn (now (bytes .entry))) × FormatFits (asFormat r) ⌝ }
+{
+    format_of(field_at(bytes, 3, 2))
 }
 
 // Checks 1 to 3; 0 where all pass.
@@ -112,8 +119,9 @@ fn rack_refusal(racks: usize, rack_size: usize) -> u8
 }
 
 // Checks 5 to 7; 0 where all pass.
-fn size_refusal(version: usize, capacity: usize, blocks: usize, size: usize) -> u8
-    ensures { λ r. ⌜ ((later : ℕ) → check5 capacity (check6 blocks (check7 (formatOf version) size blocks later)) ≡ orElse r later) ⌝ }
+fn size_refusal(format: Format, capacity: usize, blocks: usize, size: usize) -> u8
+    requires { ⌜ FormatFits (asFormat format) ⌝ }
+    ensures { λ r. ⌜ ((later : ℕ) → check5 capacity (check6 blocks (check7 (asFormat format) size blocks later)) ≡ orElse r later) ⌝ }
 {
     if capacity == 0 {
         return 5;
@@ -124,7 +132,7 @@ fn size_refusal(version: usize, capacity: usize, blocks: usize, size: usize) -> 
     if blocks > MAX_BLOCKS {
         return 6;
     }
-    if size != record_at(format_of(version), blocks) {
+    if size != record_at(format, blocks) {
         return 7;
     }
     0
@@ -141,7 +149,6 @@ fn fields(bytes: &[u8]) -> Header
         blocks: field_at(bytes, 13, 2),
     };
     Header {
-        version: field_at(bytes, 3, 2),
         cluster,
         budget: field_at(bytes, 9, 4),
     }
@@ -161,7 +168,12 @@ pub fn read(bytes: &[u8]) -> HeaderAnswer
     if racked != 0 {
         return HeaderAnswer::Refused(racked);
     }
-    let sized = size_refusal(h.version, cluster.capacity, cluster.blocks, bytes.len());
+    let sized = size_refusal(
+        format_in(bytes),
+        cluster.capacity,
+        cluster.blocks,
+        bytes.len(),
+    );
     if sized != 0 {
         return HeaderAnswer::Refused(sized);
     }

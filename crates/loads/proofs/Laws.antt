@@ -1,14 +1,14 @@
 -- The sums over the words are the loads and copies of the plan's machines, and stay in their range.
 -- Assumes nothing.
-use mathlib.Core.Path.{_≡_, ap, sym, _∙_}
+use mathlib.Core.Path.{_≡_, ap, _∙_}
 use mathlib.Core.List.{List}
-use Prim.Native.Nat.{ℕ, _+_, _*_, _-_, _≤_, _<_}
+use Prim.Native.Nat.{ℕ, _*_, _-_, _≤_, _<_}
 use native.Mathlib.Nat.{mul-le-mul-right}
 use native.Mathlib.Omega.{arith}
 use lib.ListN.{getD}
 use Rattle.order.specs.Sum.{sum}
 use Rattle.order.proofs.Sums.{sum-cong, sum-mono, sum-const, sum-ones}
-use Rattle.model.specs.Plan.{Plan, blockCount}
+use Rattle.model.specs.Plan.{Plan}
 use Rattle.model.specs.Refusal.{maxMachines, maxBlocks}
 use Rattle.model.specs.Placement.{wordOf, held, used, shareOf, load}
 use Rattle.theory.specs.Widths.{shareBound, loadBound}

@@ -1,2 +1,3 @@
 pub mod Laws
 pub mod Adding
+pub mod PlanLoads

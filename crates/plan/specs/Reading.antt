@@ -4,9 +4,9 @@ use mathlib.Core.List.{List}
 use Prim.Native.Nat.{ℕ, _+_, _<_, _≤_}
 use lib.ListN.{length}
 use Rattle.order.specs.Table.{table, filled}
-use Rattle.model.specs.Plan.{Plan, blockOf, minTotal, Format, formatOf, recordLength, recordAt, blockIn, planIn}
+use Rattle.model.specs.Plan.{Plan, blockOf, minTotal, Format, formatIn, recordLength, recordAt, blockIn, planIn}
 use Rattle.model.specs.Refusal.{blocksRefusal, maxBlocks, Verdict, refused, accepted, judge}
-use Rattle.cluster.specs.Cluster.{InRange, ClusterOf}
+use Rattle.cluster.specs.Cluster.{ClusterOf}
 use Rattle.cluster.specs.Blocks.{demandOf, DemandsFit}
 use Rattle.header.specs.declared.Header.{Header}
 use Rattle.header.specs.Format.{FormatFits}
@@ -23,7 +23,7 @@ planOf bytes h =
       rackSize = h .cluster .«rack_size»;
       capacity = h .cluster .capacity;
       budget = h .budget;
-      blocks = table (h .cluster .blocks) (blockIn (formatOf (h .version)) bytes);
+      blocks = table (h .cluster .blocks) (blockIn (formatIn bytes) bytes);
     }
 
 -- The reader's answer on these bytes, as the model's verdict.
@@ -63,5 +63,5 @@ pub record Decoded (bytes : List ℕ) (h : Header) (demands₀ demands : List �
 -- What holds of a header that was accepted with its bytes.
 pub record AcceptedHeader (bytes : List ℕ) (h : Header) : Type 0 where
   pub cluster-of : ClusterOf (planOf bytes h) (h .cluster)
-  pub block-is : (i : ℕ) → i < h .cluster .blocks → blockOf (planOf bytes h) i ≡ blockIn (formatOf (h .version)) bytes i
-  pub length-is : length bytes ≡ recordAt (formatOf (h .version)) (h .cluster .blocks)
+  pub block-is : (i : ℕ) → i < h .cluster .blocks → blockOf (planOf bytes h) i ≡ blockIn (formatIn bytes) bytes i
+  pub length-is : length bytes ≡ recordAt (formatIn bytes) (h .cluster .blocks)

@@ -94,7 +94,7 @@ fn scan_records(bytes: &[u8], h: Header) -> Records
     requires { ⌜ PassedAs (now bytes) h ⌝ }
     ensures { λ r. ⌜ RecordsRead (now (bytes .entry)) r ⌝ }
 {
-    let format = header::format_of(h.version);
+    let format = header::format_in(bytes);
     let cluster = h.cluster;
     let mut total: usize = 0;
     let mut i: usize = 0;
@@ -148,7 +148,7 @@ pub fn decode(bytes: &[u8], h: Header, demands: &mut [u64])
     requires { ⌜ DecodeAsked (now bytes) h (now demands) ⌝ }
     ensures { λ r. ⌜ Decoded (now (bytes .entry)) h (now (demands .entry)) (now (demands .exit)) ⌝ }
 {
-    let format = header::format_of(h.version);
+    let format = header::format_in(bytes);
     let cluster = h.cluster;
     let mut i: usize = 0;
     while i < cluster.blocks {

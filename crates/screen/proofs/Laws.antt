@@ -1,30 +1,31 @@
--- Laws of the scan over ranks: one block of m's own, one of n's own, and blocks that both or neither have.
+-- Laws of the sweep over ranks: one block of m's own, one of n's own, and blocks that both or neither have.
 -- Assumes nothing.
-use mathlib.Core.Path.{_≡_, refl, sym, _∙_}
+use mathlib.Core.Path.{_≡_}
 use mathlib.Core.List.{List}
-use Prim.Native.Nat.{ℕ, _+_, _*_, _/_, _%_, _<_, _≤_}
+use Prim.Native.Nat.{ℕ, _+_, _*_, _/_, _%_, _<_, _≤_, _^_}
 use native.Mathlib.Decide.{decLt}
 use native.Mathlib.Omega.{arith}
 use lib.ListN.{getD}
 use Rattle.model.specs.Placement.{bit}
-use Rattle.candidates.specs.Index.{spot}
-use Rattle.screen.specs.Screen.{shareAt, Alone, Passed, Scanned, Rising}
+use Rattle.index.specs.Index.{byRank, spot, shareAt}
+use Rattle.ranking.specs.Ranks.{keyShare}
+use Rattle.screen.specs.Screen.{Alone, Passed, SweptTo, Rising}
 
--- shares rise with the keys
-pub rising : (keys : List ℕ) (blocks : ℕ) → ((r q : ℕ) → r ≤ q → q < blocks → getD keys r 0 ≤ getD keys q 0) → Rising keys blocks
-unfolding shareAt
-rising keys blocks sorted r q l h = let below = sorted r q l h in omega arith
+-- a share read from a 64-bit key
+pub keyShare-narrow : (key : ℕ) → key < 2 ^ 64 → keyShare key < 2 ^ 54
+unfolding keyShare
+keyShare-narrow key l = omega arith
 
 -- the bits of one word of the index
-pub spot-word : (by : List ℕ) (m base : ℕ) → base % 64 ≡ 0 → (t : ℕ) → t < 64
-    → spot by m (base + t) ≡ bit (getD by (m * 16 + base / 64) 0) t
+pub spot-word : (index : List ℕ) (m base : ℕ) → base % 64 ≡ 0 → (t : ℕ) → t < 64
+    → spot index byRank m (base + t) ≡ bit (getD index (byRank + base / 64 + m * 16) 0) t
 unfolding spot
-spot-word by m base e t l =
-    let at : (base + t) / 64 ≡ base / 64 = omega arith in
+spot-word index m base e t l =
+    let at : byRank + m * 16 + (base + t) / 64 ≡ byRank + base / 64 + m * 16 = omega arith in
     let in-word : (base + t) % 64 ≡ t = omega arith in
     rw (at, in-word)
 
-module _ (mine theirs : ℕ → ℕ) (keys : List ℕ) (gap blocks : ℕ) where
+module _ (mine theirs : ℕ → ℕ) (index : List ℕ) (margin blocks : ℕ) where
   -- a block on one machine alone is not on the other alone
   never-both : (k : ℕ) → Alone mine theirs k → Alone theirs mine k → ⊥
   never-both k a b = omega (arith, a .holds, b .lacks)
@@ -35,8 +36,19 @@ module _ (mine theirs : ℕ → ℕ) (keys : List ℕ) (gap blocks : ℕ) where
   never-equal-other : (k : ℕ) → mine k ≡ theirs k → Alone theirs mine k → ⊥
   never-equal-other k e a = omega (arith, a .holds, a .lacks)
 
+  -- where n has no block of its own more, what is known stays
+  carry : {k later ahead top reach under : ℕ} → ((q : ℕ) → q < later → Alone theirs mine q → q < k)
+      → Passed mine theirs index margin k ahead top reach under → Passed mine theirs index margin later ahead top reach under
+  carry old p =
+      record {
+        risen = p .risen;
+        within = λ q c a. p .within q (old q c a) a;
+        near = λ q c a. p .near q (old q c a) a;
+        next = λ q c a. p .next q (old q c a) a;
+      }
+
   -- at the start nothing is passed
-  pub start : Scanned mine theirs keys gap blocks 0 0 0 0
+  pub start : SweptTo mine theirs index margin blocks 0 0 0 0
   start =
       record {
         passed = λ x l h.
@@ -52,17 +64,10 @@ module _ (mine theirs : ℕ → ℕ) (keys : List ℕ) (gap blocks : ℕ) where
   module _ (top reach under : ℕ) where
     -- blocks that both machines or neither have change nothing
     pub skip : (k later : ℕ) → k ≤ later → ((j : ℕ) → k ≤ j → j < later → mine j ≡ theirs j)
-        → Scanned mine theirs keys gap blocks k top reach under → Scanned mine theirs keys gap blocks later top reach under
+        → SweptTo mine theirs index margin blocks k top reach under → SweptTo mine theirs index margin blocks later top reach under
     skip k later l same s =
         record {
-          passed = λ x b h.
-              let p = s .passed x (omega arith) h in
-              record {
-                risen = p .risen;
-                within = λ q c a. p .within q (old q c a) a;
-                near = λ q c a. p .near q (old q c a) a;
-                next = λ q c a. p .next q (old q c a) a;
-              };
+          passed = λ x b h. carry old (s .passed x (omega arith) h);
           barren = λ x q b c h g a o. s .barren x q (own x b a) (old q c o) h g a o;
         }
       where
@@ -80,18 +85,11 @@ module _ (mine theirs : ℕ → ℕ) (keys : List ℕ) (gap blocks : ℕ) where
 
     -- one of m's own, for which nothing can be returned
     pub own-block : (k : ℕ) → Alone mine theirs k
-        → (top < shareAt keys k → reach ≤ shareAt keys k) → (shareAt keys k ≤ top → under ≤ shareAt keys k)
-        → Scanned mine theirs keys gap blocks k top reach under → Scanned mine theirs keys gap blocks (k + 1) top reach under
+        → (top < shareAt index k → reach ≤ shareAt index k) → (shareAt index k ≤ top → under ≤ shareAt index k)
+        → SweptTo mine theirs index margin blocks k top reach under → SweptTo mine theirs index margin blocks (k + 1) top reach under
     own-block k here high low s =
         record {
-          passed = λ x b h.
-              let p = s .passed x (omega arith) h in
-              record {
-                risen = p .risen;
-                within = λ q c a. p .within q (old q c a) a;
-                near = λ q c a. p .near q (old q c a) a;
-                next = λ q c a. p .next q (old q c a) a;
-              };
+          passed = λ x b h. carry old (s .passed x (omega arith) h);
           barren = λ x q b c h g a o less. elim (decLt x k) [
             | yes m ↦ s .barren x q m (old q c o) h g a o less
             | no m ↦ let e : x ≡ k = omega arith in rw e (at-here q (old q c o) (rw e at h) o (rw e at less))
@@ -104,11 +102,11 @@ module _ (mine theirs : ℕ → ℕ) (keys : List ℕ) (gap blocks : ℕ) where
           | no m ↦ let e : q ≡ k = omega arith in absurd (never-both k here (rw e at a))
         ]
 
-        at-here : (q : ℕ) → q < k → k < blocks → Alone theirs mine q → shareAt keys q < shareAt keys k
-            → gap + shareAt keys q ≤ shareAt keys k
+        at-here : (q : ℕ) → q < k → k < blocks → Alone theirs mine q → shareAt index q < shareAt index k
+            → margin + shareAt index q ≤ shareAt index k
         at-here q l h o less =
             let p = s .passed k (omega arith) h in
-            elim (decLt top (shareAt keys k)) [
+            elim (decLt top (shareAt index k)) [
               | yes m ↦ let t = high m in omega (arith, p .near q l o)
               | no m ↦
                   let t = low (omega arith) in
@@ -117,14 +115,14 @@ module _ (mine theirs : ℕ → ℕ) (keys : List ℕ) (gap blocks : ℕ) where
             ]
 
     -- one of n's own: the sharper bounds
-    pub other-block : (k top′ under′ : ℕ) → Rising keys blocks → Alone theirs mine k
-        → (top < shareAt keys k → (top′ ≡ shareAt keys k) × (under′ ≡ reach))
-        → (shareAt keys k ≤ top → (top′ ≡ top) × (under′ ≡ under))
-        → Scanned mine theirs keys gap blocks k top reach under
-        → Scanned mine theirs keys gap blocks (k + 1) top′ (gap + shareAt keys k) under′
+    pub other-block : (k top′ under′ : ℕ) → Rising index blocks → Alone theirs mine k
+        → (top < shareAt index k → (top′ ≡ shareAt index k) × (under′ ≡ reach))
+        → (shareAt index k ≤ top → (top′ ≡ top) × (under′ ≡ under))
+        → SweptTo mine theirs index margin blocks k top reach under
+        → SweptTo mine theirs index margin blocks (k + 1) top′ (margin + shareAt index k) under′
     other-block k top′ under′ rises here high low s =
         record {
-          passed = λ x b h. elim (decLt top (shareAt keys k)) [
+          passed = λ x b h. elim (decLt top (shareAt index k)) [
             | yes m ↦ risen-to x b h m
             | no m ↦ stayed x b h (omega arith)
           ];
@@ -133,7 +131,7 @@ module _ (mine theirs : ℕ → ℕ) (keys : List ℕ) (gap blocks : ℕ) where
             | no m ↦
                 let e : q ≡ k = omega arith in
                 let below = old x b a in
-                let up : shareAt keys x ≤ shareAt keys q = rises x q (omega arith) g in
+                let up : shareAt index x ≤ shareAt index q = rises x q (omega arith) g in
                 absurd (omega arith)
           ];
         }
@@ -152,22 +150,22 @@ module _ (mine theirs : ℕ → ℕ) (keys : List ℕ) (gap blocks : ℕ) where
           | no m ↦ let e : q ≡ k = omega arith in rw e last
         ]
 
-        risen-to : (x : ℕ) → k + 1 ≤ x → x < blocks → top < shareAt keys k
-            → Passed mine theirs keys gap (k + 1) (shareAt keys x) top′ (gap + shareAt keys k) under′
+        risen-to : (x : ℕ) → k + 1 ≤ x → x < blocks → top < shareAt index k
+            → Passed mine theirs index margin (k + 1) (shareAt index x) top′ (margin + shareAt index k) under′
         risen-to x b h m =
             let p = s .passed k (omega arith) (omega arith) in
             let e = high m in
-            let up : shareAt keys k ≤ shareAt keys x = rises k x (omega arith) h in
+            let up : shareAt index k ≤ shareAt index x = rises k x (omega arith) h in
             record {
               risen = omega (arith, e .0);
-              within = each (λ q. shareAt keys q ≤ top′) (λ q l a. omega (arith, e .0, p .within q l a)) (omega (arith, e .0));
-              near = each (λ q. gap + shareAt keys q ≤ gap + shareAt keys k) (λ q l a. omega (arith, p .within q l a)) (omega arith);
-              next = each (λ q. shareAt keys q < top′ → gap + shareAt keys q ≤ under′) (λ q l a less. omega (arith, e .1, p .near q l a))
+              within = each (λ q. shareAt index q ≤ top′) (λ q l a. omega (arith, e .0, p .within q l a)) (omega (arith, e .0));
+              near = each (λ q. margin + shareAt index q ≤ margin + shareAt index k) (λ q l a. omega (arith, p .within q l a)) (omega arith);
+              next = each (λ q. shareAt index q < top′ → margin + shareAt index q ≤ under′) (λ q l a less. omega (arith, e .1, p .near q l a))
                   (λ less. absurd (omega (arith, e .0)));
             }
 
-        stayed : (x : ℕ) → k + 1 ≤ x → x < blocks → shareAt keys k ≤ top
-            → Passed mine theirs keys gap (k + 1) (shareAt keys x) top′ (gap + shareAt keys k) under′
+        stayed : (x : ℕ) → k + 1 ≤ x → x < blocks → shareAt index k ≤ top
+            → Passed mine theirs index margin (k + 1) (shareAt index x) top′ (margin + shareAt index k) under′
         stayed x b h m =
             let p = s .passed k (omega arith) (omega arith) in
             let ahead = s .passed x (omega arith) h in
@@ -175,8 +173,8 @@ module _ (mine theirs : ℕ → ℕ) (keys : List ℕ) (gap blocks : ℕ) where
             let level = p .risen in
             record {
               risen = omega (arith, e .0, ahead .risen);
-              within = each (λ q. shareAt keys q ≤ top′) (λ q l a. omega (arith, e .0, p .within q l a)) (omega (arith, e .0));
-              near = each (λ q. gap + shareAt keys q ≤ gap + shareAt keys k) (λ q l a. omega (arith, p .within q l a)) (omega arith);
-              next = each (λ q. shareAt keys q < top′ → gap + shareAt keys q ≤ under′)
+              within = each (λ q. shareAt index q ≤ top′) (λ q l a. omega (arith, e .0, p .within q l a)) (omega (arith, e .0));
+              near = each (λ q. margin + shareAt index q ≤ margin + shareAt index k) (λ q l a. omega (arith, p .within q l a)) (omega arith);
+              next = each (λ q. shareAt index q < top′ → margin + shareAt index q ≤ under′)
                   (λ q l a less. omega (arith, e .1, p .next q l a (omega (arith, e .0)))) (λ less. absurd (omega (arith, e .0)));
             }

@@ -1,30 +1,36 @@
 -- What is ruled out by rank, said of the blocks.
 -- Assumes nothing.
-use mathlib.Core.Path.{_≡_, refl, _∙_}
-use mathlib.Core.Bool.{true}
+use mathlib.Core.Path.{_≡_, _∙_}
 use mathlib.Core.List.{List}
 use Prim.Native.Nat.{ℕ, _+_, _<_, _≤_}
 use lib.ListN.{getD}
 use Rattle.model.specs.Refusal.{maxMachines}
 use Rattle.model.specs.Placement.{held}
-use Rattle.screen.specs.Screen.{RankIndexed, NoMove, NoExchange}
+use Rattle.cluster.specs.declared.Cluster.{Cluster}
+use Rattle.cluster.specs.Blocks.{shareIn}
+use Rattle.index.specs.declared.Pair.{Pair}
+use Rattle.index.specs.Index.{rankAt, Indexed}
+use Rattle.screen.specs.Screen.{rankedOn, Alone, NoMove, NoExchange}
 
-module _ (words shares keys by : List ℕ) (blocks : ℕ) (indexed : RankIndexed words shares keys blocks by)
-    (m n gap : ℕ) (ml : m < maxMachines) (nl : n < maxMachines) where
-  pub ruled-move : NoMove by keys m n gap blocks true
-      → (i : ℕ) → i < blocks → held words m i ≡ 1 → held words n i ≡ 0 → 0 < getD shares i 0 → gap ≤ getD shares i 0
+module _ (c : Cluster) (words profiles index : List ℕ) (indexed : Indexed c words profiles index)
+    (pair : Pair) (ml : pair .m < maxMachines) (nl : pair .n < maxMachines) where
+  -- a block on one machine alone is so at its rank
+  alone : (m n : ℕ) → m < maxMachines → n < maxMachines → (i : ℕ) → i < c .blocks → held words m i ≡ 1 → held words n i ≡ 0
+      → Alone (rankedOn index m) (rankedOn index n) (rankAt index i)
+  alone m n ml nl i l on off = record { holds = indexed .by-rank m i ml l ∙ on; lacks = indexed .by-rank n i nl l ∙ off }
+
+  pub ruled-move : NoMove c index pair → (i : ℕ) → i < c .blocks → held words (pair .m) i ≡ 1 → held words (pair .n) i ≡ 0
+      → 0 < shareIn (getD profiles i 0) → pair .margin ≤ shareIn (getD profiles i 0)
   ruled-move ruled i l on off positive =
-      let r = indexed .at i l in
-      rw (r .2) at (ruled refl (r .0) (r .1) (record { holds = r .3 m ml ∙ on; lacks = r .3 n nl ∙ off }) (rw (r .2) positive))
+      let at = indexed .ordered .rank-share i l in
+      rw at at (ruled (rankAt index i) (indexed .ordered .rank-below i l) (alone (pair .m) (pair .n) ml nl i l on off) (rw at positive))
 
-  pub ruled-exchange : NoExchange by keys m n gap blocks true
-      → (i j : ℕ) → i < blocks → j < blocks → held words m i ≡ 1 → held words n i ≡ 0 → held words n j ≡ 1 → held words m j ≡ 0
-      → getD shares j 0 < getD shares i 0 → gap + getD shares j 0 ≤ getD shares i 0
+  pub ruled-exchange : NoExchange c index pair → (i j : ℕ) → i < c .blocks → j < c .blocks
+      → held words (pair .m) i ≡ 1 → held words (pair .n) i ≡ 0 → held words (pair .n) j ≡ 1 → held words (pair .m) j ≡ 0
+      → shareIn (getD profiles j 0) < shareIn (getD profiles i 0) → pair .margin + shareIn (getD profiles j 0) ≤ shareIn (getD profiles i 0)
   ruled-exchange ruled i j il jl on off other lacks less =
-      let r = indexed .at i il in
-      let q = indexed .at j jl in
-      rw (r .2, q .2)
-      at (ruled refl (r .0) (q .0) (r .1) (q .1)
-      (record { holds = r .3 m ml ∙ on; lacks = r .3 n nl ∙ off })
-      (record { holds = q .3 n nl ∙ other; lacks = q .3 m ml ∙ lacks })
-      (rw (r .2, q .2) less))
+      let o = indexed .ordered in
+      rw (o .rank-share i il, o .rank-share j jl)
+      at (ruled (rankAt index i) (rankAt index j) (o .rank-below i il) (o .rank-below j jl)
+      (alone (pair .m) (pair .n) ml nl i il on off) (alone (pair .n) (pair .m) nl ml j jl other lacks)
+      (rw (o .rank-share i il, o .rank-share j jl) less))

@@ -3,6 +3,7 @@ use mathlib.Core.Path.{_≡_}
 use mathlib.Core.List.{List, _++_}
 use Prim.Native.Nat.{ℕ, _+_, _≤_}
 use lib.ListN.{length, take, drop}
+use Rattle.model.specs.Refusal.{maxBlocks}
 
 -- The text with the piece from position `at` on; the bytes before and behind it stay.
 unfoldable pub pasted : ℕ → List ℕ → List ℕ → List ℕ
@@ -15,7 +16,7 @@ pub record Room (at : ℕ) (piece text : List ℕ) : Type 0 where
 -- Few numbers, whose piece fits.
 pub record FieldsAsked (at : ℕ) (piece numbers text : List ℕ) : Type 0 where
   pub room : Room at piece text
-  pub few : length numbers ≤ 1024
+  pub numbers-max : length numbers ≤ maxBlocks
 
 -- The text at exit has the piece pasted, and `next` is the position past it.
 pub record Put (at : ℕ) (piece old text : List ℕ) (next : ℕ) : Type 0 where

@@ -13,12 +13,20 @@ use Rattle.order.proofs.Sums.{sum-cong, sum-none}
 use Rattle.order.proofs.Ranges.{sum-append}
 use Rattle.order.proofs.Extremes.{allb-cong, allb-step}
 use Rattle.model.specs.Plan.{Plan, machines, domains, blockCount}
+use Rattle.model.specs.Refusal.{maxMachines}
+use Rattle.model.specs.Replication.{FeasibleCounts, chosen}
 use Rattle.model.specs.Placement.{bit, wordOf, replicas, domainsUsed, allWithin, allSpread, allFit}
 use Rattle.model.specs.Calls.{allCounted}
 use Rattle.theory.proofs.Bits.{bit-above-from}
 use Rattle.theory.proofs.Domains.{member, replicas-members}
 use Rattle.theory.proofs.FeasibleTests.{within-iff}
-use Rattle.review.specs.Handed.{Sizes, Counts, Spreads, Uses}
+use Rattle.theory.proofs.Counts.{chosen-laws}
+use Rattle.cluster.specs.declared.Cluster.{Cluster}
+use Rattle.cluster.specs.Cluster.{machinesIn, ClusterOf}
+use Rattle.cluster.specs.Blocks.{countIn, spreadIn, ProfilesOf}
+use Rattle.cluster.proofs.Laws.{cluster-racks, cluster-size, cluster-capacity, cluster-blocks, cluster-machines, profiles-count, profiles-spread}
+use Rattle.loads.specs.declared.Loads.{Loads}
+use Rattle.validation.specs.Validation.{CopiesOf}
 
 -- a loop that tests: none yet, and one more that passes
 pub allb-none : (test : ℕ → Bool) → allb 0 test ≡ true
@@ -48,43 +56,51 @@ isWithin words M i = ltb (wordOf words i) (2 ^ M)
 
 -- row 14
 abbrev pub isCounted : List ℕ → List ℕ → ℕ → Bool
-isCounted words counts i = eqb (sum 64 (bit (wordOf words i))) (getD counts i 0)
+isCounted words profiles i = eqb (sum maxMachines (bit (wordOf words i))) (countIn (getD profiles i 0))
 
 -- row 15
-abbrev pub isSpread : List ℕ → List ℕ → ℕ → ℕ → ℕ → Bool
-isSpread words spreads racks size i =
-    leb (getD spreads i 0) (sum racks (λ d. min 1 (sum size (λ x. bit (wordOf words i) (d * size + x)))))
+abbrev pub isSpread : List ℕ → List ℕ → Cluster → ℕ → Bool
+isSpread words profiles c i =
+    leb (spreadIn (getD profiles i 0))
+    (sum (c .racks) (λ d. min 1 (sum (c .«rack_size») (λ x. bit (wordOf words i) (d * c .«rack_size» + x)))))
 
 -- row 16
 abbrev pub isFit : List ℕ → ℕ → ℕ → Bool
-isFit used capacity m = leb (getD used m 0) capacity
+isFit copies capacity m = leb (getD copies m 0) capacity
 
-module _ (p : Plan) (words : List ℕ) where
-  pub within-row : {M B : ℕ} → Sizes p M B → allb B (isWithin words M) ≡ allWithin p words
+module _ (p : Plan) (words : List ℕ) (c : Cluster) where
+  pub within-row : ClusterOf p c → allb (c .blocks) (isWithin words (machinesIn c)) ≡ allWithin p words
   unfolding allWithin
-  within-row s = rw (s .blocks-is, s .machines-is)
+  within-row of = rw (cluster-blocks p c of, cluster-machines p c of)
 
-  pub counted-row : {M B : ℕ} (counts : List ℕ) → Sizes p M B → Counts p counts B → allWithin p words ≡ true
-      → allb B (isCounted words counts) ≡ allCounted p words
-  unfolding allCounted replicas
-  counted-row counts s counts-are within =
-      rw (s .blocks-is)
-      (allb-cong (blockCount p) _ _
-      (λ i l.
-      ap₂ eqb
-      (bits-within 64 (machines p) (wordOf words i) (s .valid .shaped .machines-max) (within-iff p words .0 within i l))
-      (counts-are i (rw (s .blocks-is) l))))
+  module _ (profiles : List ℕ) (of : ProfilesOf p (chosen p) c profiles) where
+    counts : FeasibleCounts p (chosen p)
+    counts = chosen-laws p (of .cluster .valid) .feasible
 
-  pub spread-row : {M B racks size : ℕ} (spreads : List ℕ) → Sizes p M B → Spreads p racks size spreads B
-      → allb B (isSpread words spreads racks size) ≡ allSpread p words
-  unfolding allSpread
-  spread-row spreads s are =
-      rw (s .blocks-is, are .racks-is, are .size-is)
-      (allb-cong (blockCount p) _ _
-      (λ i l. ap₂ leb (are .spread-is i (rw (s .blocks-is) l)) (sym (domains-members p (wordOf words i)))))
+    in-cluster : (i : ℕ) → i < blockCount p → i < c .blocks
+    in-cluster i l = rw (cluster-blocks p c (of .cluster)) l
 
-  pub fit-row : {M capacity : ℕ} (used : List ℕ) → Uses p words used M capacity → allb M (isFit used capacity) ≡ allFit p words
+    pub counted-row : allWithin p words ≡ true → allb (c .blocks) (isCounted words profiles) ≡ allCounted p words
+    unfolding allCounted replicas
+    counted-row within =
+        rw (cluster-blocks p c (of .cluster))
+        (allb-cong (blockCount p) _ _
+        (λ i l.
+        ap₂ eqb
+        (bits-within maxMachines (machines p) (wordOf words i) (of .cluster .valid .shaped .machines-max) (within-iff p words .0 within i l))
+        (profiles-count p (chosen p) c profiles of counts i (in-cluster i l))))
+
+    pub spread-row : allb (c .blocks) (isSpread words profiles c) ≡ allSpread p words
+    unfolding allSpread
+    spread-row =
+        rw (cluster-blocks p c (of .cluster), cluster-racks p c (of .cluster), cluster-size p c (of .cluster))
+        (allb-cong (blockCount p) _ _
+        (λ i l.
+        ap₂ leb (profiles-spread p (chosen p) c profiles of counts i (in-cluster i l)) (sym (domains-members p (wordOf words i)))))
+
+  pub fit-row : (loads : Loads) → CopiesOf p words c loads → allb (machinesIn c) (isFit (loads .copies) (c .capacity)) ≡ allFit p words
   unfolding allFit
-  fit-row used u =
-      rw (u .machines-is, u .capacity-is)
-      (allb-cong (machines p) _ _ (λ m l. ap (λ (x : ℕ). leb x (p .capacity)) (u .used-is m (rw (u .machines-is) l))))
+  fit-row loads of =
+      let cluster = of .cluster-of in
+      rw (cluster-machines p c cluster, cluster-capacity p c cluster)
+      (allb-cong (machines p) _ _ (λ m l. ap (λ (x : ℕ). leb x (p .capacity)) (of .copies-are m (rw (cluster-machines p c cluster) l))))

@@ -4,7 +4,7 @@ use borrow.Author.Needs.{needs}
 use mathlib.Core.Path.{refl}
 use mathlib.Core.List.{[]}
 use native.Mathlib.Omega.{arith}
-use Rattle.counts.specs.Entry.{outcomeOf}
+use Rattle.service.specs.Entries.{countsOutcome}
 use Rattle.capi.specs.Interface.{over, noNumbers}
 use Rattle.capi.proofs.Laws.{turned-back, answers}
 use Rattle.capi.proofs.bpl_counts.Statement.{statement}
@@ -26,7 +26,7 @@ same-length : tie.Need-same-length
 same-length c = search needs
 
 returns : tie.Need-returns
-unfolding outcomeOf
+unfolding countsOutcome
 returns c =
     let told = c .before .before in
     turned-back 0 noNumbers _ [] _ _ _ _ (omega arith) (c .code-of .ensures)
@@ -36,7 +36,7 @@ same-length-2 : tie.Need-same-length-2
 same-length-2 c = search needs
 
 returns-2 : tie.Need-returns-2
-unfolding outcomeOf over
+unfolding countsOutcome over
 returns-2 c =
     let told = c .before in
     answers 0 noNumbers _ [] _ _ _ _ (omega arith) refl

@@ -4,7 +4,7 @@ use borrow.Author.Needs.{needs}
 use mathlib.Core.Path.{refl}
 use mathlib.Core.List.{[]}
 use native.Mathlib.Omega.{arith}
-use Rattle.placing.specs.Entry.{firstOutcome}
+use Rattle.service.specs.Entries.{firstOutcome}
 use Rattle.capi.specs.Interface.{over, noNumbers}
 use Rattle.capi.proofs.Laws.{turned-back, answers}
 use Rattle.capi.proofs.bpl_first.Statement.{statement}

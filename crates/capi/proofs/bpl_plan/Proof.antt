@@ -3,7 +3,7 @@
 use borrow.Author.Needs.{needs}
 use mathlib.Core.Path.{ap, _∙_}
 use Rattle.plan.specs.Reading.{verdictOf}
-use Rattle.capi.specs.Interface.{codeOf}
+use Rattle.model.specs.Refusal.{verdictCode}
 use Rattle.capi.proofs.bpl_plan.Statement.{statement}
 use Rattle.capi.proofs.bpl_plan.Tie as tie
 
@@ -20,16 +20,16 @@ enum-known-reading-2 : tie.Need-enum-known-reading-2
 enum-known-reading-2 c = search needs
 
 returns : tie.Need-returns
-unfolding codeOf verdictOf
+unfolding verdictCode verdictOf
 returns c =
     let reading = c .before .before in
-    c .code-of .ensures ∙ ap codeOf (rw (reading .reading .given .1) at (reading .before .before .read .ensures))
+    c .code-of .ensures ∙ ap verdictCode (rw (reading .reading .given .1) at (reading .before .before .read .ensures))
 
 returns-2 : tie.Need-returns-2
-unfolding codeOf verdictOf
+unfolding verdictCode verdictOf
 returns-2 c =
     let reading = c .before in
-    ap codeOf (rw (reading .reading2 .given .1) at (reading .before .before .read .ensures))
+    ap verdictCode (rw (reading .reading2 .given .1) at (reading .before .before .read .ensures))
 
 pub bpl-plan-spec : {M : Type 1} → statement M
 bpl-plan-spec =

@@ -1,7 +1,7 @@
 -- `capi::bpl_report` meets its contract: a short out first, then the entry's outcome, as a code and numbers over out.
 -- Assumes nothing.
 use borrow.Author.Needs.{needs}
-use Rattle.inspection.specs.Entries.{reportOutcome}
+use Rattle.service.specs.Entries.{reportOutcome}
 use Rattle.capi.specs.Interface.{reportNumbers}
 use Rattle.capi.proofs.Laws.{out-short, turned-back, answers}
 use Rattle.capi.proofs.bpl_report.Statement.{statement}

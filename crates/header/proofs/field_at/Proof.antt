@@ -1,14 +1,13 @@
 -- `header::field_at` meets its contract. The loop's invariant: the value is the field of the bytes passed, and below 256 for each of them.
 -- Assumes nothing.
-use mathlib.Core.Path.{_≡_, refl, ap, ap₂, _∙_}
+use mathlib.Core.Path.{_≡_, refl, ap₂}
 use Prim.Native.Nat.{ℕ, _+_, _*_, _-_, _<_, _≤_, _^_}
-use native.Mathlib.Nat.{pow-suc, pow-le-pow-right, mul-le-mul-right}
+use native.Mathlib.Nat.{pow-suc}
 use native.Mathlib.Numerals.{add-one}
 use native.Mathlib.Omega.{arith}
 use borrow.Author.Needs.{needs}
-use lib.Dec.{lit<}
-use lib.ListN.{length, getD}
 use Rattle.model.specs.Plan.{field}
+use Rattle.header.proofs.Laws.{field-narrow}
 use Rattle.header.proofs.field_at.Statement.{statement}
 use Rattle.header.proofs.field_at.Tie as tie
 
@@ -18,10 +17,6 @@ Inv-loop bytes at width value₀ k₀ value k = (k ≤ width) × (value ≡ fiel
 abbrev μ-loop : tie.MeasureT-loop
 μ-loop bytes at width value₀ k₀ value k = width - k
 
--- what fits before the last of four bytes fits a machine word with room to spare
-small : {k value : ℕ} → k < 4 → value < 256 ^ k → value < 256 ^ 3
-small {k} {value} l h = omega (arith, pow-le-pow-right {n = 256} (lit< tt) {i = k} {j = 3} (omega arith))
-
 loop-holds : tie.Need-loop-holds Inv-loop μ-loop
 unfolding field
 loop-holds c = (omega arith, refl, omega arith)
@@ -29,7 +24,7 @@ loop-holds c = (omega arith, refl, omega arith)
 mul-value : tie.Need-mul-value Inv-loop μ-loop
 mul-value c =
     let at = c .before in
-    let s = small {k = at .loop .k} (omega arith) (at .loop .inv .2) in
+    let few = field-narrow _ _ 3 (at .loop .inv .2) (omega arith) in
     omega arith
 
 add-wide : tie.Need-add-wide Inv-loop μ-loop
@@ -44,7 +39,7 @@ wide-requires c κs = search needs
 add-value : tie.Need-add-value Inv-loop μ-loop
 add-value c =
     let at = c .before .before .before in
-    let s = small {k = at .loop .k} (omega arith) (at .loop .inv .2) in
+    let few = field-narrow _ _ 3 (at .loop .inv .2) (omega arith) in
     omega arith
 
 add-k : tie.Need-add-k Inv-loop μ-loop

@@ -45,7 +45,7 @@ put-line-requires c κs =
     let code = c .before .before .before in
     let short = refused-length (code .refusal-code .result) (omega (arith, code .refusal-code .ok)) in
     let long = code .before .before .before .before .if1 .left in
-    record { room = record { fits = omega arith }; few = omega arith }
+    record { room = record { fits = omega arith }; numbers-max = omega arith }
 
 same-length : tie.Need-same-length
 same-length c = search needs

@@ -31,7 +31,7 @@ slice-aggregate-put-fields c = search needs
 
 put-fields-requires : tie.Need-put-fields-requires
 put-fields-requires c κs =
-    record { room = three-room _ _ _ _ _ _ (asked (c .before .before .before .before .before .before .before)) (c .before .before .before .before .put-word .ensures); few = omega arith }
+    record { room = three-room _ _ _ _ _ _ (asked (c .before .before .before .before .before .before .before)) (c .before .before .before .before .put-word .ensures); numbers-max = omega arith }
 
 put-holders-requires : tie.Need-put-holders-requires
 put-holders-requires c κs = machines-room _ _ _ _ _ _ (asked (c .before .before .before .before .before .before .before .before .before .before .before)) (c .before .before .before .before .before .before .before .before .put-word .ensures) (c .before .before .before .put-fields .ensures)
@@ -45,8 +45,11 @@ same-length c = search needs
 
 returns : tie.Need-returns
 returns c =
-    block-put _ _ _ _ _ _ (asked (c .before .before .before .before .before .before .before .before .before .before .before .before .before .before .before .before .before .before)) (c .before .before .before .before .before .before .before .before .before .before .before .before .before .before .before .put-word .ensures) (c .before .before .before .before .before .before .before .before .before .before .put-fields .ensures) (c .before .before .before .before .before .before .put-holders .ensures)
-    (c .before .before .put-byte .ensures)
+    let share = c .before .before .before .before .before .before .before .before .before .before .before .before .before .before .before .before .before .before in
+    rw (← (share .before .count-of .ensures), ← (share .share-of .ensures))
+    (block-put _ _ _ _ _ _ (asked share) (c .before .before .before .before .before .before .before .before .before .before .before .before .before .before .before .put-word .ensures)
+    (c .before .before .before .before .before .before .before .before .before .before .put-fields .ensures)
+    (c .before .before .before .before .before .before .put-holders .ensures) (c .before .before .put-byte .ensures))
 
 pub put-block-spec : {M : Type 1} → statement M
 put-block-spec =

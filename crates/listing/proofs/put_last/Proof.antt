@@ -16,7 +16,7 @@ slice-aggregate-put-line-2 : tie.Need-slice-aggregate-put-line-2
 slice-aggregate-put-line-2 c = search needs
 
 put-line-requires : tie.Need-put-line-requires
-put-line-requires c κs = record { room = end-room _ _ _ (c .before .before .before .if1 .taken) (c .before .before .before .before .before .before .before .before .pre); few = omega arith }
+put-line-requires c κs = record { room = end-room _ _ _ (c .before .before .before .if1 .taken) (c .before .before .before .before .before .before .before .before .pre); numbers-max = omega arith }
 
 same-length : tie.Need-same-length
 same-length c = search needs
@@ -31,7 +31,7 @@ slice-aggregate-put-line-4 : tie.Need-slice-aggregate-put-line-4
 slice-aggregate-put-line-4 c = search needs
 
 put-line-requires-2 : tie.Need-put-line-requires-2
-put-line-requires-2 c κs = record { room = end-room _ _ _ (c .before .before .before .if1 .left) (c .before .before .before .before .before .before .before .before .pre); few = omega arith }
+put-line-requires-2 c κs = record { room = end-room _ _ _ (c .before .before .before .if1 .left) (c .before .before .before .before .before .before .before .before .pre); numbers-max = omega arith }
 
 same-length-2 : tie.Need-same-length-2
 same-length-2 c = search needs

@@ -1,39 +1,39 @@
+-- `listing::put_lines` meets its contract: each line behind the one before it.
+-- Assumes nothing.
 use borrow.Author.Needs.{needs}
+use native.Mathlib.Omega.{arith}
+use Rattle.text.proofs.Laws.{room-first, room-next, put-then}
 use Rattle.listing.proofs.put_lines.Statement.{statement}
 use Rattle.listing.proofs.put_lines.Tie as tie
-use Rattle.listing.proofs.put_lines.Reads as reads
-use Rattle.listing.proofs.put_lines.Lts as lts
-use Rattle.listing.proofs.put_blocks.Reads as put-blocks-reads
-use Rattle.listing.proofs.put_last.Reads as put-last-reads
-use Rattle.text.proofs.put_line.Reads as put-line-reads
 
--- src/lib.rt:105:41
 slice-aggregate-put-line : tie.Need-slice-aggregate-put-line
 slice-aggregate-put-line c = search needs
 
--- src/lib.rt:105:50
 slice-aggregate-put-line-2 : tie.Need-slice-aggregate-put-line-2
 slice-aggregate-put-line-2 c = search needs
 
--- src/lib.rt:105:9
 put-line-requires : tie.Need-put-line-requires
-put-line-requires c κs = ?
+put-line-requires c κs = record { room = room-first _ _ _ _ (room-first _ _ _ _ (c .before .before .before .before .before .before .pre .room)); numbers-max = omega arith }
 
--- src/lib.rt:106:9
 put-blocks-requires : tie.Need-put-blocks-requires
-put-blocks-requires c κs = ?
+put-blocks-requires c κs =
+    let pre = c .before .before .before .before .before .before .before .before .before .before .pre in
+    record { fits = pre .fits; room = room-next _ _ _ _ (room-first _ _ _ _ (pre .room)) _ _ (c .before .before .before .put-line .ensures) }
 
--- src/lib.rt:107:5
 put-last-requires : tie.Need-put-last-requires
-put-last-requires c κs = ?
+put-last-requires c κs =
+    let pre = c .before .before .before .before .before .before .before .before .before .before .before .before .before .before .pre in
+    room-next _ _ _ _ (pre .room) _ _ (put-then _ _ _ _ (room-first _ _ _ _ (pre .room)) _ _ _ _ (c .before .before .before .before .before .before .before .put-line .ensures) (c .before .before .before .put-blocks .ensures))
 
--- src/lib.rt:96:1
 same-length : tie.Need-same-length
 same-length c = search needs
 
--- src/lib.rt:96:1
 returns : tie.Need-returns
-returns c = ?
+returns c =
+    let pre = c .before .before .before .before .before .before .before .before .before .before .before .before .before .before .before .before .before .pre in
+    put-then _ _ _ _ (pre .room) _ _ _ _
+    (put-then _ _ _ _ (room-first _ _ _ _ (pre .room)) _ _ _ _ (c .before .before .before .before .before .before .before .before .before .before .put-line .ensures) (c .before .before .before .before .before .before .put-blocks .ensures))
+    (c .before .before .put-last .ensures)
 
 pub put-lines-spec : {M : Type 1} → statement M
 put-lines-spec =

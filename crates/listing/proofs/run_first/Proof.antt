@@ -52,7 +52,7 @@ returns c =
     let placement = run-placement _ _ _ _ (prepared .profiles-of) _ _ ran in
     let loads = c .before .sum-words2 .ensures in
     record {
-      fits = search needs;
+      fits = record { profiles-fit = prepared .fit; word-room = le-of-eq (sym (c .before .before .before .before .before .before .run .kept .0 ∙ c .before .before .before .before .before .before .before .before .before .before .before .before .before .before .lay-all .kept .1 .1 .0 ∙ start .pre .words-are)) };
       profiles-of = prepared .profiles-of;
       run-is = ran;
       max-is = report-max _ _ _ _ _ _ _ placement loads (c .report .ensures);

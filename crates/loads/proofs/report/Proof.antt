@@ -1,85 +1,112 @@
+-- `loads::report` meets its contract. The loop's invariant: the three numbers are those of the loads passed.
+-- Assumes nothing.
+use mathlib.Core.Path.{_≡_, refl, sym}
+use mathlib.Core.Logic.{⊎-elim}
+use mathlib.Core.List.{List}
+use Prim.Native.Nat.{ℕ, _*_, _-_, _≤_}
+use native.Mathlib.Omega.{arith}
+use borrow.Author.Needs.{needs}
+use lib.ListN.{getD}
+use Rattle.order.specs.Sum.{sum}
+use Rattle.order.specs.Search.{largest, smallest}
+use Rattle.order.proofs.Sums.{sum-zero, sum-step}
+use Rattle.order.proofs.Extremes.{largest-zero, largest-step, smallest-step}
+use Rattle.theory.specs.Widths.{loadBound}
 use Rattle.loads.proofs.report.Statement.{statement}
 use Rattle.loads.proofs.report.Tie as tie
-use Rattle.loads.proofs.report.Reads as reads
-use Rattle.loads.proofs.report.Lts as lts
+
+-- the report of the first m loads
+record Upto (load : List ℕ) (m max-load min-load total-load : ℕ) : Type 0 where
+  max-is : max-load ≡ largest m (λ k. getD load k 0)
+  min-is : min-load ≡ smallest m (λ k. getD load k 0)
+  total-is : total-load ≡ sum m (λ k. getD load k 0)
+  total-max : total-load ≤ loadBound * m
 
 abbrev Inv-loop : tie.InvT-loop
-Inv-loop load machines max-load₀ min-load₀ total-load₀ m₀ max-load min-load total-load m = ?
+Inv-loop load machines max-load₀ min-load₀ total-load₀ m₀ max-load min-load total-load m =
+    (m ≤ machines) × Upto load m max-load min-load total-load
 
 abbrev μ-loop : tie.MeasureT-loop
-μ-loop load machines max-load₀ min-load₀ total-load₀ m₀ max-load min-load total-load m = ?
+μ-loop load machines max-load₀ min-load₀ total-load₀ m₀ max-load min-load total-load m = machines - m
 
--- src/lib.rt:69:20
 mul-machines : tie.Need-mul-machines Inv-loop μ-loop
-mul-machines c = ?
+mul-machines c = search needs
 
--- src/lib.rt:71:24
 array-read-min-load : tie.Need-array-read-min-load Inv-loop μ-loop
-array-read-min-load c = ?
+array-read-min-load c = search needs
 
--- src/lib.rt:74:5
 loop-holds : tie.Need-loop-holds Inv-loop μ-loop
-loop-holds c = ?
+unfolding smallest
+loop-holds c = (omega arith, record { max-is = sym (largest-zero _); min-is = refl; total-is = sym (sum-zero _); total-max = omega arith })
 
--- src/lib.rt:75:23
 mul-if1 : tie.Need-mul-if1 Inv-loop μ-loop
-mul-if1 c = ?
+mul-if1 c = search needs
 
--- src/lib.rt:75:23
 array-read-if1 : tie.Need-array-read-if1 Inv-loop μ-loop
-array-read-if1 c = ?
+array-read-if1 c = search needs
 
--- src/lib.rt:76:24
 mul-max-load : tie.Need-mul-max-load Inv-loop μ-loop
-mul-max-load c = ?
+mul-max-load c = search needs
 
--- src/lib.rt:76:24
 array-read-max-load : tie.Need-array-read-max-load Inv-loop μ-loop
-array-read-max-load c = ?
+array-read-max-load c = search needs
 
--- src/lib.rt:78:12
 mul-if2 : tie.Need-mul-if2 Inv-loop μ-loop
-mul-if2 c = ?
+mul-if2 c = search needs
 
--- src/lib.rt:78:12
 array-read-if2 : tie.Need-array-read-if2 Inv-loop μ-loop
-array-read-if2 c = ?
+array-read-if2 c = search needs
 
--- src/lib.rt:79:24
 mul-min-load : tie.Need-mul-min-load Inv-loop μ-loop
-mul-min-load c = ?
+mul-min-load c = search needs
 
--- src/lib.rt:79:24
 array-read-min-load-2 : tie.Need-array-read-min-load-2 Inv-loop μ-loop
-array-read-min-load-2 c = ?
+array-read-min-load-2 c = search needs
 
--- src/lib.rt:81:23
 mul-total-load : tie.Need-mul-total-load Inv-loop μ-loop
-mul-total-load c = ?
+mul-total-load c = search needs
 
--- src/lib.rt:81:23
 array-read-total-load : tie.Need-array-read-total-load Inv-loop μ-loop
-array-read-total-load c = ?
+array-read-total-load c = search needs
 
--- src/lib.rt:81:9
 add-total-load : tie.Need-add-total-load Inv-loop μ-loop
-add-total-load c = ?
+add-total-load c =
+    let at = c .before .before .before in
+    let asked = at .before .before .before .pre in
+    omega (arith, at .loop .inv .1 .total-max, asked .load-narrow (at .loop .m) (omega (arith, asked .machines-max)))
 
--- src/lib.rt:82:9
 add-m : tie.Need-add-m Inv-loop μ-loop
-add-m c = ?
+add-m c = search needs
 
--- src/lib.rt:74:5
 loop-less : tie.Need-loop-less Inv-loop μ-loop
-loop-less c = ?
+loop-less c = search needs
 
--- src/lib.rt:74:5
 loop-again : tie.Need-loop-again Inv-loop μ-loop
-loop-again c = ?
+loop-again c =
+    let at = c .before .before .before in
+    let start = at .before .before .before in
+    let m = at .loop .m in
+    let load = start .args .loads .load in
+    let inv = at .loop .inv .1 in
+    let f : ℕ → ℕ = λ k. getD load k 0 in
+    let top = largest-step m f in
+    let low = smallest-step m f in (
+      omega arith,
+      record {
+        max-is = ⊎-elim (λ w. omega (arith, top, inv .max-is)) (λ w. omega (arith, top, inv .max-is)) (c .before .if1 .came);
+        min-is = ⊎-elim (λ w. omega (arith, low, inv .min-is)) (λ w. omega (arith, low, inv .min-is)) (c .if2 .came);
+        total-is = omega (arith, sum-step m f, inv .total-is);
+        total-max = omega (arith, inv .total-max, start .pre .load-narrow m (omega (arith, start .pre .machines-max)));
+      },
+    )
 
--- src/lib.rt:64:1
 returns : tie.Need-returns Inv-loop μ-loop
-returns c = ?
+returns c =
+    let at = c .before in
+    let start = at .before .before .before in
+    let done : at .loop .m ≡ start .args .cluster .racks * start .args .cluster .«rack_size» = omega arith in
+    let upto = rw done at (at .loop .inv .1) in
+    record { max-is = upto .max-is; min-is = upto .min-is; total-is = upto .total-is }
 
 pub report-spec : {M : Type 1} → statement M
 report-spec =

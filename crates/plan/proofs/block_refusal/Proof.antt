@@ -1,8 +1,6 @@
 -- `plan::block_refusal` meets its contract: each return rewrites with the tests that led there.
 -- Assumes nothing.
 use borrow.Author.Tests.{eq-eqb, ne-eqb, lt-ltb, le-ltb}
-use mathlib.Core.Path.{_≡_, sym}
-use Prim.Native.Nat.{ℕ}
 use Rattle.model.specs.Refusal.{check8, check9}
 use Rattle.plan.proofs.block_refusal.Statement.{statement}
 use Rattle.plan.proofs.block_refusal.Tie as tie

@@ -1,98 +1,141 @@
--- `plan::decode` meets its contract. The loop's invariant: each list is filled as far as the loop has come.
+-- `plan::decode` meets its contract. The loop's invariant: the demands are filled as far as the loop has come, and these blocks'
+-- popularities fit.
 -- Assumes nothing.
-use mathlib.Core.Path.{_≡_, refl, ap, sym, _∙_}
-use Prim.Native.Nat.{ℕ, _+_, _-_, _<_, _≤_, _^_}
+use mathlib.Core.Path.{_≡_, refl}
+use mathlib.Core.List.{List}
+use Prim.Native.Nat.{ℕ, _-_, _<_, _≤_}
 use native.Mathlib.Omega.{arith}
+use borrow.Author.Needs.{needs}
 use borrow.Author.Count.{below-none, below-more}
-use lib.ListN.{length, set, length-set}
+use denote.Ref.{now}
+use lib.ListN.{length, length-set}
 use Rattle.order.specs.Table.{filled}
-use Rattle.order.proofs.Tables.{filled-none, filled-more, length-filled}
-use Rattle.model.specs.Plan.{blockIn}
+use Rattle.order.proofs.Tables.{filled-none, filled-more}
+use Rattle.model.specs.Plan.{Plan, blockOf}
+use Rattle.theory.specs.Widths.{popularityBound}
+use Rattle.theory.proofs.Shares.{upper-max}
+use Rattle.cluster.specs.declared.Cluster.{Cluster}
+use Rattle.cluster.specs.Blocks.{demandOf, DemandInRange, DemandsFit, DemandsOf}
+use Rattle.cluster.proofs.Laws.{cluster-range, cluster-block, demandOf-popularity, demandOf-least, demandOf-most}
+use Rattle.header.specs.Format.{asFormat}
+use Rattle.plan.specs.Reading.{planOf}
+use Rattle.plan.proofs.Laws.{accepted-header, demands-of, BlockAt, common-in, block-at}
 use Rattle.plan.proofs.decode.Statement.{statement}
 use Rattle.plan.proofs.decode.Tie as tie
 
 abbrev Inv-loop : tie.InvT-loop
-Inv-loop bytes blocks popularities₀ least₀ spreads₀ i₀ popularities least spreads i =
-    (i ≤ blocks)
-    × (popularities ≡ filled i (λ k. blockIn bytes k .popularity) popularities₀)
-    × (least ≡ filled i (λ k. blockIn bytes k .minReplicas) least₀)
-    × (spreads ≡ filled i (λ k. blockIn bytes k .minRacks) spreads₀)
-    × ((k : ℕ) → k < i → blockIn bytes k .popularity < 2 ^ 24)
-    × (length popularities ≡ length popularities₀)
-    × (length least ≡ length least₀)
-    × (length spreads ≡ length spreads₀)
+Inv-loop bytes h demands₀ format cluster i₀ demands i =
+    (i ≤ h .cluster .blocks)
+    × (demands ≡ filled i (demandOf (planOf bytes h)) demands₀)
+    × ((k : ℕ) → k < i → blockOf (planOf bytes h) k .popularity < popularityBound)
+    × (length demands ≡ length demands₀)
 
 abbrev μ-loop : tie.MeasureT-loop
-μ-loop bytes blocks popularities₀ least₀ spreads₀ i₀ popularities least spreads i = blocks - i
+μ-loop bytes h demands₀ format cluster i₀ demands i = cluster .blocks - i
+
+-- the demands of a plan whose popularities fit are in their ranges
+demands-fit : (p : Plan) (c : Cluster) (demands : List ℕ) → DemandsOf p c demands → c .blocks ≤ length demands
+    → ((i : ℕ) → i < c .blocks → blockOf p i .popularity < popularityBound) → DemandsFit c demands
+demands-fit p c demands of room narrow =
+    record { in-range = cluster-range p c (of .cluster); room = room; each = λ i l. rw (of .are i l) (each i l) }
+  where
+    each : (i : ℕ) → i < c .blocks → DemandInRange (demandOf p i)
+    each i l =
+        let b = cluster-block p c (of .cluster) i l in
+        record {
+          popularity-narrow = rw (demandOf-popularity p i b) (narrow i l);
+          least-pos = rw (demandOf-least p i b) (b .min-pos);
+          least-most = rw (demandOf-least p i b, demandOf-most p i b) (b .min-upper);
+          most-max = rw (demandOf-most p i b) (upper-max p i);
+        }
+
+-- the block at hand
+here : (c : tie.Then1 Inv-loop μ-loop)
+    → let at = c .before .before in
+    let start = at .before .before .before .before .before in
+    BlockAt (now (start .args .bytes)) (start .args .h) (asFormat (at .before .before .format-in .result)) (at .loop .i)
+here c =
+    let at = c .before .before in
+    let laws = accepted-header _ _ (at .before .before .before .before .before .pre .accepts) in
+    let format = at .before .before .format-in .ensures in
+    block-at _ _ (laws .length-is) (cluster-range _ _ (laws .cluster-of)) _ (format .0) (format .1) _ (c .if1 .taken)
+
+-- its demand, as the model has it
+demand-is : (c : tie.After-demand Inv-loop μ-loop)
+    → let at = c .before .before .before .before .before .before .before in
+    let start = at .before .before .before .before .before in
+    c .demand .result ≡ demandOf (planOf (now (start .args .bytes)) (start .args .h)) (at .loop .i)
+unfolding demandOf
+demand-is c =
+    let racks = c .before .before in
+    let read = racks .before .before in
+    rw (
+      here (read .before) .is,
+      ← (read .popularity .ensures .0),
+      ← (racks .before .min-replicas .ensures .0),
+      ← (racks .min-racks .ensures .0),
+      ← (c .before .upper-count .ensures .0),
+    ) (c .demand .ensures)
+
+format-in-requires : tie.Need-format-in-requires Inv-loop μ-loop
+format-in-requires c κs =
+    let start = c .before .before in
+    common-in _ (start .args .h) (accepted-header _ _ (start .pre .accepts) .length-is)
 
 loop-holds : tie.Need-loop-holds Inv-loop μ-loop
-loop-holds c =
-    (omega arith, filled-none _ _, filled-none _ _, filled-none _ _, below-none _, refl, refl, refl)
+loop-holds c = (omega arith, filled-none _ _, below-none _, refl)
 
 popularity-requires : tie.Need-popularity-requires Inv-loop μ-loop
-popularity-requires c κs = omega arith
-
-mul-popularities : tie.Need-mul-popularities Inv-loop μ-loop
-mul-popularities c = omega arith
-
-slice-write-popularities : tie.Need-slice-write-popularities Inv-loop μ-loop
-slice-write-popularities c = omega arith
+popularity-requires c κs = here c .inside
 
 min-replicas-requires : tie.Need-min-replicas-requires Inv-loop μ-loop
-min-replicas-requires c κs = omega arith
-
-cast-least : tie.Need-cast-least Inv-loop μ-loop
-cast-least c = omega arith
-
-slice-write-least : tie.Need-slice-write-least Inv-loop μ-loop
-slice-write-least c = omega arith
+min-replicas-requires c κs = here (c .before) .inside
 
 min-racks-requires : tie.Need-min-racks-requires Inv-loop μ-loop
-min-racks-requires c κs = omega arith
+min-racks-requires c κs = here (c .before .before) .inside
 
-cast-spreads : tie.Need-cast-spreads Inv-loop μ-loop
-cast-spreads c = omega arith
+upper-count-requires : tie.Need-upper-count-requires Inv-loop μ-loop
+upper-count-requires c κs =
+    let start = c .before .before .before .before .before .before .before .before .before .before in
+    cluster-range _ _ (accepted-header _ _ (start .pre .accepts) .cluster-of)
 
-slice-write-spreads : tie.Need-slice-write-spreads Inv-loop μ-loop
-slice-write-spreads c = omega arith
+demand-requires : tie.Need-demand-requires Inv-loop μ-loop
+demand-requires c κs = search needs
+
+mul-demands : tie.Need-mul-demands Inv-loop μ-loop
+mul-demands c = let block = here (c .before .before .before .before .before) .inside in omega arith
+
+slice-write-demands : tie.Need-slice-write-demands Inv-loop μ-loop
+slice-write-demands c = omega arith
 
 add-i : tie.Need-add-i Inv-loop μ-loop
-add-i c = omega arith
+add-i c = let block = here (c .before .before .before .before .before) .inside in omega arith
 
 loop-less : tie.Need-loop-less Inv-loop μ-loop
 loop-less c = omega arith
 
 loop-again : tie.Need-loop-again Inv-loop μ-loop
 loop-again c =
-    let at = c .before .before .before .before in
-    let i = at .loop .i in
-    let inv = at .loop .inv in
-    let popularity = c .before .before .popularity .ensures in (
+    let read = c .before .before .before .before in
+    let at = read .before .before .before in (
       omega arith,
-      filled-more i _ _ _ _ (inv .1) (omega arith) (popularity .0),
-      filled-more i _ _ _ _ (inv .2) (omega arith) (c .before .min-replicas .ensures .0),
-      filled-more i _ _ _ _ (inv .3) (omega arith) (c .min-racks .ensures .0),
-      below-more _ i (inv .4) (rw (popularity .0) at (popularity .1)),
-      simp length-set (inv .5),
-      simp length-set (inv .6),
-      simp length-set (inv .7),
+      filled-more (at .loop .i) _ _ _ _ (at .loop .inv .1) (omega arith) (demand-is c),
+      below-more _ (at .loop .i) (at .loop .inv .2)
+          (rw (read .popularity .ensures .0, ← (here (read .before) .is)) at (read .popularity .ensures .1)),
+      simp length-set (at .loop .inv .3),
     )
 
 same-length : tie.Need-same-length Inv-loop μ-loop
-same-length c = c .before .loop .inv .5
-
-same-length-2 : tie.Need-same-length-2 Inv-loop μ-loop
-same-length-2 c = c .before .loop .inv .6
-
-same-length-3 : tie.Need-same-length-3 Inv-loop μ-loop
-same-length-3 c = c .before .loop .inv .7
+same-length c = c .before .before .loop .inv .3
 
 returns : tie.Need-returns Inv-loop μ-loop
 returns c =
-    let at = c .before in
-    let all : at .loop .i ≡ at .before .before .before .before .before .args .blocks = omega arith in
+    let at = c .before .before in
+    let start = at .before .before .before .before .before in
+    let all : at .loop .i ≡ start .args .h .cluster .blocks = omega arith in
     let inv = rw all at (at .loop .inv) in
-    record { popularity-is = inv .1; least-is = inv .2; spread-is = inv .3; narrow = inv .4 }
+    let of = demands-of _ _ _ _ (accepted-header _ _ (start .pre .accepts) .cluster-of) (inv .1) in
+    record { are = inv .1; fit = demands-fit _ _ _ of (omega arith) (inv .2) }
 
 pub decode-spec : {M : Type 1} → statement M
 decode-spec =
@@ -100,20 +143,17 @@ decode-spec =
     (tie.spec
     Inv-loop
     μ-loop
+    format-in-requires
     loop-holds
     popularity-requires
-    mul-popularities
-    slice-write-popularities
     min-replicas-requires
-    cast-least
-    slice-write-least
     min-racks-requires
-    cast-spreads
-    slice-write-spreads
+    upper-count-requires
+    demand-requires
+    mul-demands
+    slice-write-demands
     add-i
     loop-less
     loop-again
     same-length
-    same-length-2
-    same-length-3
     returns)

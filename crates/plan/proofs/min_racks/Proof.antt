@@ -1,27 +1,34 @@
--- `plan::min_racks` meets its contract: it is the record's last byte.
+-- `plan::min_racks` meets its contract: it is the record's last field.
 -- Assumes nothing.
+use native.Mathlib.Nat.{add-assoc}
 use borrow.Author.Needs.{needs}
-use native.Mathlib.Omega.{arith}
 use Rattle.model.specs.Plan.{blockIn}
+use Rattle.header.proofs.Laws.{field-narrow}
 use Rattle.plan.proofs.min_racks.Statement.{statement}
 use Rattle.plan.proofs.min_racks.Tie as tie
 
-mul-field-at : tie.Need-mul-field-at
-mul-field-at c = search needs
+record-at-requires : tie.Need-record-at-requires
+record-at-requires c κs = search needs
 
-add-field-at : tie.Need-add-field-at
-add-field-at c = search needs
+add-at : tie.Need-add-at
+add-at c = search needs
 
-add-field-at-2 : tie.Need-add-field-at-2
-add-field-at-2 c = search needs
+add-at-2 : tie.Need-add-at-2
+add-at-2 c = search needs
 
 field-at-requires : tie.Need-field-at-requires
 field-at-requires c κs = search needs
 
 returns : tie.Need-returns
 unfolding blockIn
-returns c = c .field-at .ensures
+returns c =
+    let r = c .field-at .ensures in
+    let at = c .before .before .before in
+    let format = at .before .before .args .format in (
+      rw (← (at .record-at .ensures .0), ← (add-assoc (at .record-at .result) (format .«popularity_width») (format .«min_replicas_width»)))
+          (r .0),
+      field-narrow _ _ 1 (r .1) (at .before .before .pre .fits .racks-max),
+    )
 
 pub min-racks-spec : {M : Type 1} → statement M
-min-racks-spec =
-    tie.close (tie.spec mul-field-at add-field-at add-field-at-2 field-at-requires returns)
+min-racks-spec = tie.close (tie.spec record-at-requires add-at add-at-2 field-at-requires returns)

@@ -1,27 +1,26 @@
--- `plan::min_replicas` meets its contract: it is the byte after the popularity.
+-- `plan::min_replicas` meets its contract: it is the field after the popularity.
 -- Assumes nothing.
 use borrow.Author.Needs.{needs}
-use native.Mathlib.Omega.{arith}
 use Rattle.model.specs.Plan.{blockIn}
+use Rattle.header.proofs.Laws.{field-narrow}
 use Rattle.plan.proofs.min_replicas.Statement.{statement}
 use Rattle.plan.proofs.min_replicas.Tie as tie
 
-mul-field-at : tie.Need-mul-field-at
-mul-field-at c = search needs
+record-at-requires : tie.Need-record-at-requires
+record-at-requires c κs = search needs
 
-add-field-at : tie.Need-add-field-at
-add-field-at c = search needs
-
-add-field-at-2 : tie.Need-add-field-at-2
-add-field-at-2 c = search needs
+add-at : tie.Need-add-at
+add-at c = search needs
 
 field-at-requires : tie.Need-field-at-requires
 field-at-requires c κs = search needs
 
 returns : tie.Need-returns
 unfolding blockIn
-returns c = c .field-at .ensures
+returns c =
+    let r = c .field-at .ensures in
+    let at = c .before .before in
+    (rw (← (at .record-at .ensures .0)) (r .0), field-narrow _ _ 1 (r .1) (at .before .before .pre .fits .replicas-max))
 
 pub min-replicas-spec : {M : Type 1} → statement M
-min-replicas-spec =
-    tie.close (tie.spec mul-field-at add-field-at add-field-at-2 field-at-requires returns)
+min-replicas-spec = tie.close (tie.spec record-at-requires add-at field-at-requires returns)

@@ -1,23 +1,23 @@
 -- `plan::popularity` meets its contract: it is the field at the record's start.
 -- Assumes nothing.
 use borrow.Author.Needs.{needs}
-use native.Mathlib.Omega.{arith}
 use Rattle.model.specs.Plan.{blockIn}
+use Rattle.header.proofs.Laws.{field-narrow}
 use Rattle.plan.proofs.popularity.Statement.{statement}
 use Rattle.plan.proofs.popularity.Tie as tie
 
-mul-field-at : tie.Need-mul-field-at
-mul-field-at c = search needs
-
-add-field-at : tie.Need-add-field-at
-add-field-at c = search needs
+record-at-requires : tie.Need-record-at-requires
+record-at-requires c κs = search needs
 
 field-at-requires : tie.Need-field-at-requires
 field-at-requires c κs = search needs
 
 returns : tie.Need-returns
 unfolding blockIn
-returns c = c .field-at .ensures
+returns c =
+    let r = c .field-at .ensures in
+    let fits = c .before .before .before .pre .fits in
+    (rw (← (c .before .record-at .ensures .0)) (r .0), field-narrow _ _ _ (r .1) (fits .popularity-max))
 
 pub popularity-spec : {M : Type 1} → statement M
-popularity-spec = tie.close (tie.spec mul-field-at add-field-at field-at-requires returns)
+popularity-spec = tie.close (tie.spec record-at-requires field-at-requires returns)

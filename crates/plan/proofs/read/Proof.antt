@@ -1,7 +1,7 @@
 -- `plan::read` meets its contract: what the header's reader and the records' judge say is the verdict.
 -- Assumes nothing.
 use borrow.Author.Needs.{needs}
-use mathlib.Core.Path.{_≡_, sym}
+use mathlib.Core.Path.{sym}
 use Rattle.plan.specs.Reading.{verdictOf}
 use Rattle.theory.proofs.Accepted.{judge-refused}
 use Rattle.plan.proofs.read.Statement.{statement}

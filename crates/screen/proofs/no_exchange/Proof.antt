@@ -1,95 +1,98 @@
--- `screen::no_exchange` meets its contract. The loop's invariant: the ranks below `base`, a multiple of 64, are scanned.
+-- `screen::no_exchange` meets its contract. The loop's invariant: the ranks below `base`, a multiple of 64, are swept.
 -- Assumes nothing.
-use mathlib.Core.Path.{_≡_, refl, sym, _∙_}
-use mathlib.Core.Bool.{true, false}
-use mathlib.Core.List.{List}
-use Prim.Native.Nat.{ℕ, _+_, _*_, _-_, _/_, _%_, _<_, _≤_}
+use mathlib.Core.Path.{_≡_, refl, sym}
+use Prim.Native.Nat.{_-_, _%_}
 use native.Mathlib.Omega.{arith}
 use borrow.Author.Needs.{needs}
 use denote.Ref.{now}
-use lib.ListN.{getD}
 use Rattle.order.proofs.Booleans.{no-contradiction}
-use Rattle.candidates.specs.Index.{spot}
-use Rattle.screen.specs.Screen.{Scanned, Bits}
-use Rattle.screen.proofs.Laws.{rising, start, spot-word}
+use Rattle.screen.specs.Screen.{rankedOn, SweptTo}
+use Rattle.screen.proofs.Laws.{start, spot-word}
 use Rattle.screen.proofs.no_exchange.Statement.{statement}
 use Rattle.screen.proofs.no_exchange.Tie as tie
 
 abbrev Inv-loop : tie.InvT-loop
-Inv-loop by keys m n gap blocks scan₀ base₀ scan base =
-    (base % 64 ≡ 0) × Scanned (spot by m) (spot by n) keys gap blocks base (scan .top) (scan .reach) (scan .under)
+Inv-loop index cluster pair m n sweep₀ base₀ sweep base =
+    (base % 64 ≡ 0)
+    × SweptTo (rankedOn index (pair .m)) (rankedOn index (pair .n)) index (pair .margin) (cluster .blocks) base (sweep .top) (sweep .reach) (sweep .under)
 
 abbrev μ-loop : tie.MeasureT-loop
-μ-loop by keys m n gap blocks scan₀ base₀ scan base = blocks - base
+μ-loop index cluster pair m n sweep₀ base₀ sweep base = cluster .blocks - base
 
 loop-holds : tie.Need-loop-holds Inv-loop μ-loop
-loop-holds c = let a = c .before .before .args in (refl, start (spot (now (a .by)) (a .m)) (spot (now (a .by)) (a .n)) (now (a .keys)) (a .gap) (a .blocks))
+loop-holds c = (refl, start _ _ _ _ _)
 
-mul-scan-word : tie.Need-mul-scan-word Inv-loop μ-loop
-mul-scan-word c = omega (arith, c .before .before .before .before .pre .m-below)
+add-at : tie.Need-add-at Inv-loop μ-loop
+add-at c = search needs
 
-add-scan-word : tie.Need-add-scan-word Inv-loop μ-loop
-add-scan-word c = let asked = c .before .before .before .before .pre in omega (arith, asked .m-below, asked .few)
+mul-sweep-word : tie.Need-mul-sweep-word Inv-loop μ-loop
+mul-sweep-word c = omega (arith, c .before .before .before .before .pre .m-below)
 
-mul-scan-word-2 : tie.Need-mul-scan-word-2 Inv-loop μ-loop
-mul-scan-word-2 c = search needs
+add-sweep-word : tie.Need-add-sweep-word Inv-loop μ-loop
+add-sweep-word c = let asked = c .before .before .before .before .pre in omega (arith, asked .m-below, asked .in-range .blocks-max, c .if1 .taken)
 
-shared-slice-read-scan-word : tie.Need-shared-slice-read-scan-word Inv-loop μ-loop
-shared-slice-read-scan-word c =
+mul-sweep-word-2 : tie.Need-mul-sweep-word-2 Inv-loop μ-loop
+mul-sweep-word-2 c = search needs
+
+shared-slice-read-sweep-word : tie.Need-shared-slice-read-sweep-word Inv-loop μ-loop
+shared-slice-read-sweep-word c =
     let asked = c .before .before .before .before .before .pre in
-    omega (arith, asked .sized, asked .m-below, asked .few, c .before .loop-test .taken)
+    omega (arith, asked .sized, asked .m-below, asked .in-range .blocks-max, c .before .if1 .taken)
 
-mul-scan-word-3 : tie.Need-mul-scan-word-3 Inv-loop μ-loop
-mul-scan-word-3 c = omega (arith, c .before .before .before .before .before .pre .n-below)
+mul-sweep-word-3 : tie.Need-mul-sweep-word-3 Inv-loop μ-loop
+mul-sweep-word-3 c = omega (arith, c .before .before .before .before .before .pre .n-below)
 
-add-scan-word-2 : tie.Need-add-scan-word-2 Inv-loop μ-loop
-add-scan-word-2 c = let asked = c .before .before .before .before .before .pre in omega (arith, asked .n-below, asked .few)
+add-sweep-word-2 : tie.Need-add-sweep-word-2 Inv-loop μ-loop
+add-sweep-word-2 c = let asked = c .before .before .before .before .before .pre in omega (arith, asked .n-below, asked .in-range .blocks-max, c .before .if1 .taken)
 
-mul-scan-word-4 : tie.Need-mul-scan-word-4 Inv-loop μ-loop
-mul-scan-word-4 c = search needs
+mul-sweep-word-4 : tie.Need-mul-sweep-word-4 Inv-loop μ-loop
+mul-sweep-word-4 c = search needs
 
-shared-slice-read-scan-word-2 : tie.Need-shared-slice-read-scan-word-2 Inv-loop μ-loop
-shared-slice-read-scan-word-2 c =
+shared-slice-read-sweep-word-2 : tie.Need-shared-slice-read-sweep-word-2 Inv-loop μ-loop
+shared-slice-read-sweep-word-2 c =
     let asked = c .before .before .before .before .before .before .pre in
-    omega (arith, asked .sized, asked .n-below, asked .few, c .before .before .loop-test .taken)
+    omega (arith, asked .sized, asked .n-below, asked .in-range .blocks-max, c .before .before .if1 .taken)
 
-scan-word-requires : tie.Need-scan-word-requires Inv-loop μ-loop
-scan-word-requires c κs =
-    let asked = c .before .before .before .before .before .before .pre in
-    let at = c .before .before .before in
+sweep-word-requires : tie.Need-sweep-word-requires Inv-loop μ-loop
+sweep-word-requires c κs =
+    let inside = c .before .before in
+    let at = inside .before .before in
+    let asked = at .before .before .pre in
     record {
-      sized = asked .keys-sized;
-      room = omega (arith, asked .few, at .loop .inv .0, c .before .before .loop-test .taken);
-      gap-narrow = asked .gap-narrow;
+      sized = asked .sized;
+      room = omega (arith, asked .in-range .blocks-max, at .loop .inv .0, inside .if1 .taken);
+      margin-narrow = asked .margin-narrow;
     }
 
 returns : tie.Need-returns Inv-loop μ-loop
 returns c e = no-contradiction (sym e)
 
 add-base : tie.Need-add-base Inv-loop μ-loop
-add-base c = omega (arith, c .before .before .before .before .before .before .before .before .pre .few, c .before .before .before .before .loop-test .taken)
+add-base c = search needs
 
 loop-less : tie.Need-loop-less Inv-loop μ-loop
-loop-less c = omega (arith, c .before .before .before .before .loop-test .taken)
+loop-less c = omega (arith, c .before .before .before .before .if1 .taken)
 
 loop-again : tie.Need-loop-again Inv-loop μ-loop
 loop-again c =
-    let at = c .before .before .before .before .before in
-    let a = c .before .before .before .before .before .before .before .before .args in
-    let asked = c .before .before .before .before .before .before .before .before .pre in
+    let at = c .before .before .before .before .before .before in
+    let start = at .before .before in
+    let a = start .args in
     let inv = at .loop .inv in
-    let by = now (a .by) in
-    let keys = now (a .keys) in (
+    let index = now (a .index) in (
       omega (arith, inv .0),
-      c .before .scan-word .ensures (spot by (a .m)) (spot by (a .n)) (a .blocks) (rising keys (a .blocks) (asked .sorted))
-          (record { of-mine = spot-word by (a .m) (at .loop .base) (inv .0); of-theirs = spot-word by (a .n) (at .loop .base) (inv .0) })
-          (inv .1) (c .if1 .left),
+      c .before .sweep-word .ensures (rankedOn index (a .pair .m)) (rankedOn index (a .pair .n)) (a .cluster .blocks) (start .pre .rising)
+          (record {
+            of-mine = spot-word index (a .pair .m) (at .loop .base) (inv .0);
+            of-theirs = spot-word index (a .pair .n) (at .loop .base) (inv .0);
+          })
+          (inv .1) (c .if2 .left),
     )
 
 returns-2 : tie.Need-returns-2 Inv-loop μ-loop
 returns-2 c e k q l h own other less =
-    let past = c .loop-test .left in
-    c .before .loop .inv .1 .barren k q (omega arith) (omega arith) l h own other less
+    let past = c .if1 .left in
+    c .before .before .loop .inv .1 .barren k q (omega arith) (omega arith) l h own other less
 
 pub no-exchange-spec : {M : Type 1} → statement M
 no-exchange-spec =
@@ -98,15 +101,16 @@ no-exchange-spec =
     Inv-loop
     μ-loop
     loop-holds
-    mul-scan-word
-    add-scan-word
-    mul-scan-word-2
-    shared-slice-read-scan-word
-    mul-scan-word-3
-    add-scan-word-2
-    mul-scan-word-4
-    shared-slice-read-scan-word-2
-    scan-word-requires
+    add-at
+    mul-sweep-word
+    add-sweep-word
+    mul-sweep-word-2
+    shared-slice-read-sweep-word
+    mul-sweep-word-3
+    add-sweep-word-2
+    mul-sweep-word-4
+    shared-slice-read-sweep-word-2
+    sweep-word-requires
     returns
     add-base
     loop-less

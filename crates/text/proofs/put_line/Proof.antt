@@ -12,7 +12,7 @@ put-fields-requires : tie.Need-put-fields-requires
 put-fields-requires c κs =
     let word = c .before .before .before in
     let asked = word .before .before .before .before .before .pre in
-    record { room = fields-room _ _ _ _ (asked .room) (word .put-word .ensures); few = asked .few }
+    record { room = fields-room _ _ _ _ (asked .room) (word .put-word .ensures); numbers-max = asked .numbers-max }
 
 put-byte-requires : tie.Need-put-byte-requires
 put-byte-requires c κs =

@@ -1,50 +1,57 @@
--- `review::all_spread` meets its contract. The loop's invariant: every block passed lies in as many racks as its spread says.
+-- `validation::all_spread` meets its contract. The loop's invariant: every block passed lies in as many racks as its spread says.
 -- Assumes nothing.
 use mathlib.Core.Path.{_≡_, sym, _∙_}
 use mathlib.Core.Bool.{true}
 use Prim.Native.Nat.{_-_, _≤_}
 use native.Mathlib.Omega.{arith}
+use borrow.Author.Needs.{needs}
 use borrow.Author.Tests.{lt-leb, le-leb}
 use denote.Ref.{now}
 use Rattle.order.specs.Search.{allb}
 use Rattle.order.proofs.Extremes.{allb-false}
-use Rattle.review.proofs.Laws.{allb-none, allb-more, isSpread, spread-row}
-use Rattle.review.proofs.all_spread.Statement.{statement}
-use Rattle.review.proofs.all_spread.Tie as tie
+use Rattle.validation.proofs.Laws.{allb-none, allb-more, isSpread, spread-row}
+use Rattle.validation.proofs.all_spread.Statement.{statement}
+use Rattle.validation.proofs.all_spread.Tie as tie
 
 abbrev Inv-loop : tie.InvT-loop
-Inv-loop words spreads racks rack-size blocks i₀ i = (i ≤ blocks) × (allb i (isSpread words spreads racks rack-size) ≡ true)
+Inv-loop words profiles cluster i₀ i = (i ≤ cluster .blocks) × (allb i (isSpread words profiles cluster) ≡ true)
 
 abbrev μ-loop : tie.MeasureT-loop
-μ-loop words spreads racks rack-size blocks i₀ i = blocks - i
+μ-loop words profiles cluster i₀ i = cluster .blocks - i
 
 loop-holds : tie.Need-loop-holds Inv-loop μ-loop
 loop-holds c = (omega arith, allb-none _)
 
 mul-groups-used : tie.Need-mul-groups-used Inv-loop μ-loop
-mul-groups-used c = omega arith
+mul-groups-used c = search needs
 
 shared-slice-read-groups-used : tie.Need-shared-slice-read-groups-used Inv-loop μ-loop
 shared-slice-read-groups-used c = omega arith
 
 groups-used-requires : tie.Need-groups-used-requires Inv-loop μ-loop
-groups-used-requires c κs = (omega arith, omega arith)
+groups-used-requires c κs =
+    let range = c .before .before .before .before .before .before .pre .profiles-fit .in-range in
+    (range .machines-max, range .size-pos)
 
-shared-slice-read-if1 : tie.Need-shared-slice-read-if1 Inv-loop μ-loop
-shared-slice-read-if1 c = omega arith
+mul-spread-of : tie.Need-mul-spread-of Inv-loop μ-loop
+mul-spread-of c = search needs
 
-cast-if1 : tie.Need-cast-if1 Inv-loop μ-loop
-cast-if1 c = omega (arith, c .shared-slice-known4 .given (c .before .before .before .before .loop .i))
+shared-slice-read-spread-of : tie.Need-shared-slice-read-spread-of Inv-loop μ-loop
+shared-slice-read-spread-of c = omega arith
+
+spread-of-requires : tie.Need-spread-of-requires Inv-loop μ-loop
+spread-of-requires c κs = search needs
 
 returns : tie.Need-returns Inv-loop μ-loop
-returns c p s spreads-are =
-    let at = c .before .before .before .before .before in
+returns c p of =
+    let called = c .before in
+    let at = called .before .before .before .before .before .before in
     let a = at .before .before .before .args in
     let words = now (a .words) in
-    let spreads = now (a .spreads) in
-    let here = lt-leb _ _ (rw (c .before .before .groups-used .ensures) at (c .if1 .taken)) in
-    sym (allb-false (a .blocks) (isSpread words spreads (a .racks) (a .rack-size)) (at .loop .i) (omega arith) here)
-    ∙ spread-row p words spreads s spreads-are
+    let profiles = now (a .profiles) in
+    let here = lt-leb _ _ (rw (called .before .before .groups-used .ensures, called .spread-of .ensures) at (c .if2 .taken)) in
+    sym (allb-false (a .cluster .blocks) (isSpread words profiles (a .cluster)) (at .loop .i) (omega arith) here)
+    ∙ spread-row p words (a .cluster) profiles of
 
 add-i : tie.Need-add-i Inv-loop μ-loop
 add-i c = omega arith
@@ -54,16 +61,17 @@ loop-less c = omega arith
 
 loop-again : tie.Need-loop-again Inv-loop μ-loop
 loop-again c =
-    let at = c .before .before .before .before .before in
-    let here = le-leb _ _ (rw (c .before .before .groups-used .ensures) at (c .if1 .left)) in
+    let called = c .before in
+    let at = called .before .before .before .before .before .before in
+    let here = le-leb _ _ (rw (called .before .before .groups-used .ensures, called .spread-of .ensures) at (c .if2 .left)) in
     (omega arith, allb-more (at .loop .i) _ (at .loop .inv .1) here)
 
 returns-2 : tie.Need-returns-2 Inv-loop μ-loop
-returns-2 c p s spreads-are =
-    let at = c .before in
+returns-2 c p of =
+    let at = c .before .before in
     let a = at .before .before .before .args in
-    let done : at .loop .i ≡ a .blocks = omega arith in
-    sym (rw done at (at .loop .inv .1)) ∙ spread-row p (now (a .words)) (now (a .spreads)) s spreads-are
+    let done : at .loop .i ≡ a .cluster .blocks = omega arith in
+    sym (rw done at (at .loop .inv .1)) ∙ spread-row p (now (a .words)) (a .cluster) (now (a .profiles)) of
 
 pub all-spread-spec : {M : Type 1} → statement M
 all-spread-spec =
@@ -75,8 +83,9 @@ all-spread-spec =
     mul-groups-used
     shared-slice-read-groups-used
     groups-used-requires
-    shared-slice-read-if1
-    cast-if1
+    mul-spread-of
+    shared-slice-read-spread-of
+    spread-of-requires
     returns
     add-i
     loop-less
