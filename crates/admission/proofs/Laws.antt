@@ -11,7 +11,7 @@ use Rattle.model.specs.Plan.{Plan, blockCount, planIn}
 use Rattle.model.specs.Refusal.{check12, Verdict, refused, accepted, refusal, verdict, judge}
 use Rattle.model.specs.Replication.{limit as limitOf, chosen}
 use Rattle.model.specs.Calls.{callRefusal}
-use Rattle.theory.proofs.Outcomes.{check12-short, check12-enough}
+use Rattle.theory.proofs.Refusal.{check12-short, check12-enough}
 use Rattle.cluster.specs.declared.Cluster.{Cluster}
 use Rattle.cluster.specs.Cluster.{machinesIn, ClusterOf}
 use Rattle.cluster.specs.Blocks.{PlacementFits}

@@ -1,223 +1,230 @@
--- What a step that was found lets the words be shifted by, and what a census adds to a standing placement.
+-- What a step that was found lets the words be shifted by, and what a step keeps: the loads as they follow, the placement, the run.
 -- Assumes nothing.
 use mathlib.Core.Path.{_≡_, refl, ap, sym, _∙_}
 use mathlib.Core.Bool.{true, false, not}
 use mathlib.Core.List.{List}
 use Prim.Native.Nat.{ℕ, suc, _+_, _*_, _-_, _<_, _≤_}
-use native.Mathlib.Nat.{add-zero, zero-add, sub-zero, sub-self}
+use native.Mathlib.Nat.{add-zero, zero-add, sub-zero}
 use native.Mathlib.Omega.{arith}
 use lib.ListN.{length, getD}
-use Rattle.order.specs.Sum.{sum}
-use Rattle.model.specs.Plan.{Plan, machines, blockCount}
+use Rattle.order.specs.Sum.{delta}
+use Rattle.order.proofs.Sums.{sum-term}
+use Rattle.order.proofs.SumChanges.{sum-change}
+use Rattle.model.specs.Plan.{Plan}
 use Rattle.model.specs.Refusal.{maxMachines}
-use Rattle.model.specs.Placement.{bit, held, used}
-use Rattle.model.specs.Steps.{none, isStep, nextStep, afterMove, after, Run, run}
-use Rattle.theory.proofs.Held.{load-held, share-held}
-use Rattle.theory.proofs.NextStep.{step-keeps}
-use Rattle.theory.proofs.Runs.{run-zero, run-none, run-suc}
-use Rattle.theory.proofs.Transfer.{move-other, move-length, swap-apart}
-use Rattle.ranking.specs.Ranks.{RankAsked}
-use Rattle.ranking.proofs.Laws.{named-share, places-apart}
-use Rattle.screen.specs.Screen.{shareAt, RankIndexed}
-use Rattle.census.specs.declared.Census.{Census}
-use Rattle.census.specs.Census.{TakeAsked as CensusAsked, CensusOf}
+use Rattle.model.specs.Placement.{bit, held}
+use Rattle.model.specs.Steps.{none, isStep, nextStep, afterMove, afterSwap, after, Run, run}
+use Rattle.theory.proofs.StepsNext.{isStep-false, nextStep-feasible, run-zero, run-none, run-suc}
+use Rattle.theory.proofs.Steps.{after-length, afterMove-held, afterMove-other, afterMove-length}
+use Rattle.theory.proofs.Placement.{held-apart}
+use Rattle.cluster.specs.declared.Cluster.{Cluster}
+use Rattle.cluster.specs.Blocks.{shareIn, PlacementFits, PlacementOf}
+use Rattle.loads.specs.declared.Loads.{Loads}
+use Rattle.loads.specs.Loads.{loadSum, copySum, ShiftAsked as SharesAsked, ShiftedTo}
+use Rattle.loads.proofs.Laws.{loads-narrow, copies-max}
 use Rattle.transfers.specs.Pair.{Shift}
-use Rattle.search.specs.Scene.{Found, SceneOf, LoopAsked}
+use Rattle.search.specs.Scene.{Found, stepOf, NextFound}
 use Rattle.search.specs.declared.Step.{Step}
 use Rattle.search.specs.declared.Step.the-variants.{Rest, Move, Swap, RackMove, RackSwap}
-use Rattle.balance.specs.Standing.{StandAsked, RankedAsked, Standing, ShiftAsked, TakeAsked}
+use Rattle.balance.specs.Standing.{StepAsked, ShiftAsked, TakeAsked, FollowAsked, Followed, ranOf}
 
--- an exchange's second shift can still be made after its first
-pub second-shift : (words : List ℕ) (m n i j : ℕ) → ShiftAsked words m n i → ShiftAsked words n m j
+-- ── TakeAsked ──────────────────────────────────────────────────────────────────────────────────────────────────────────
+
+-- a block that m lacks stays where it is while another leaves m
+stays : (words : List ℕ) (m n i j : ℕ) → held words m i ≡ 1 → held words m j ≡ 0
+    → (k : ℕ) → held (afterMove words m n i) k j ≡ held words k j
+stays words m n i j on off k = ap (λ (w : ℕ). bit w k) (afterMove-other words m n i j (held-apart words m i j on off))
+
+-- so an exchange's second shift can still be made after its first
+pub second-shift : {words : List ℕ} {m n i j : ℕ} → ShiftAsked words m n i → ShiftAsked words n m j
     → ShiftAsked (afterMove words m n i) n m j
-second-shift words m n i j one two =
-    let other = move-other words m n i j (swap-apart words m i j (one .holds) (two .lacks)) in
+second-shift {words} {m} {n} {i} {j} one two =
     record {
-      word-in = rw (move-length words m n i) (two .word-in);
-      m-small = two .m-small;
-      n-small = two .n-small;
-      holds = ap (λ (w : ℕ). bit w n) other ∙ two .holds;
-      lacks = ap (λ (w : ℕ). bit w m) other ∙ two .lacks;
+      word-in = rw (afterMove-length words m n i) (two .word-in);
+      m-max = two .m-max;
+      n-max = two .n-max;
+      holds = stays words m n i j (one .holds) (two .lacks) n ∙ two .holds;
+      lacks = stays words m n i j (one .holds) (two .lacks) m ∙ two .lacks;
     }
 
-module _ (words : List ℕ) (racks size blocks : ℕ) (few : racks * size ≤ maxMachines) (room : blocks ≤ length words) where
-  shift-asked : (m n i : ℕ) → Shift words (racks * size) blocks m n i → ShiftAsked words m n i
+module _ {c : Cluster} {words profiles : List ℕ} (fits : PlacementFits c words profiles) where
+  shift-asked : (m n i : ℕ) → Shift c words m n i → ShiftAsked words m n i
   shift-asked m n i s =
       record {
-        word-in = omega (arith, s .i-below);
-        m-small = omega (arith, s .m-below);
-        n-small = omega (arith, s .n-below);
+        word-in = omega (arith, s .i-below, fits .word-room);
+        m-max = omega (arith, s .m-below, fits .profiles-fit .in-range .machines-max);
+        n-max = omega (arith, s .n-below, fits .profiles-fit .in-range .machines-max);
         holds = s .holds;
         lacks = s .lacks;
       }
 
+  found-asked : (step : Step) → Found c words step → TakeAsked words step
+  found-asked Rest f = tt
+  found-asked (Move m n i) f = shift-asked m n i f
+  found-asked (Swap m n i j) f = (shift-asked m n i (f .0), shift-asked n m j (f .1))
+  found-asked (RackMove m n i) f = shift-asked m n i f
+  found-asked (RackSwap m n i j) f = (shift-asked m n i (f .0), shift-asked n m j (f .1))
+
   -- what was found can be taken
-  pub take-asked : (step : Step) → Found words racks size blocks step → TakeAsked words step
-  take-asked Rest f = tt
-  take-asked (Move m n i) f = shift-asked m n i f
-  take-asked (Swap m n i j) f = (shift-asked m n i (f .0), shift-asked n m j (f .1))
-  take-asked (RackMove m n i) f = shift-asked m n i f
-  take-asked (RackSwap m n i j) f = (shift-asked m n i (f .0), shift-asked n m j (f .1))
+  pub take-asked : {step : Step} → NextFound c words profiles step → TakeAsked words step
+  take-asked {step} next = found-asked step (next .sound)
 
--- what the order by share is asked with
-pub shares-asked : {words shares spreads : List ℕ} {racks size blocks : ℕ} → StandAsked words shares spreads racks size blocks → RankAsked shares blocks
-shares-asked asked = record { room = asked .share-room; few = asked .blocks-max; narrow = asked .share-narrow }
+-- ── FollowAsked, Followed ──────────────────────────────────────────────────────────────────────────────────────────────
 
--- what the census is asked with, and what it gives the search
-module _ (words shares spreads keys places : List ℕ) (racks size blocks : ℕ) (at : RankedAsked words shares spreads keys places racks size blocks) where
-  rank-asked : RankAsked shares blocks
-  rank-asked = shares-asked (at .asked)
+abbrev shareAt : List ℕ → ℕ → ℕ
+shareAt profiles i = shareIn (getD profiles i 0)
 
-  pub census-asked : CensusAsked words shares places blocks
-  census-asked =
+module _ {c : Cluster} {words profiles : List ℕ} {l : Loads} (asked : StepAsked c words profiles l)
+    {m n i : ℕ} (s : Shift c words m n i) where
+  -- m has the share and the copy that are to be shifted
+  pub loads-asked : SharesAsked l m n (shareAt profiles i)
+  loads-asked =
+      let ranges = asked .fits .profiles-fit in
+      let below : m < maxMachines = omega (arith, s .m-below, ranges .in-range .machines-max) in
+      let term : held words m i * shareAt profiles i ≡ shareAt profiles i = rw (s .holds) (omega arith) in
+      let on = s .holds in
       record {
-        few = at .asked .blocks-max;
-        word-room = at .asked .word-room;
-        share-room = at .asked .share-room;
-        place-room = omega (arith, at .placed .sized, at .asked .blocks-max);
-        share-narrow = at .asked .share-narrow;
-        place-below = at .placed .below;
-        apart = places-apart rank-asked (at .placed);
+        m-below = below;
+        n-below = omega (arith, s .n-below, ranges .in-range .machines-max);
+        has-share = rw (asked .loads-of .load-is m below)
+            (omega (arith, sum-term (c .blocks) (λ b. held words m b * shareAt profiles b) i (s .i-below)));
+        has-copy = rw (asked .loads-of .copies-are m below) (omega (arith, sum-term (c .blocks) (held words m) i (s .i-below)));
+        load-room = loads-narrow c words profiles (l .load) (l .copies) (asked .loads-of) ranges;
+        copies-room = copies-max c words profiles (l .load) (l .copies) (asked .loads-of) (ranges .in-range);
       }
 
-  module _ (c : Census) (census : CensusOf words shares places blocks c) where
-    rank-indexed : RankIndexed words shares keys blocks (c .by)
-    unfolding shareAt
-    rank-indexed =
+  -- the sums over the words once the copy is shifted
+  load-moved : (k : ℕ) → loadSum c (afterMove words m n i) profiles k + delta k m * shareAt profiles i
+      ≡ loadSum c words profiles k + delta k n * shareAt profiles i
+  load-moved k =
+      sum-change (c .blocks) i i (λ b. held words k b * shareAt profiles b) (λ b. held (afterMove words m n i) k b * shareAt profiles b)
+      (λ b. delta k m * shareAt profiles b) (λ b. delta k n * shareAt profiles b) (s .i-below) (s .i-below)
+      (λ b h. let e = ap (λ (x : ℕ). x * shareAt profiles b) (afterMove-held words m n i (s .holds) (s .lacks) k b) in omega arith)
+
+  copies-moved : (k : ℕ) → copySum c (afterMove words m n i) k + delta k m ≡ copySum c words k + delta k n
+  copies-moved k =
+      sum-change (c .blocks) i i (held words k) (held (afterMove words m n i) k) (λ b. delta k m) (λ b. delta k n)
+      (s .i-below) (s .i-below) (λ b h. afterMove-held words m n i (s .holds) (s .lacks) k b)
+
+  -- are what the shifted loads say
+  asked-shifted : {r : Loads} → ShiftedTo l m n (shareAt profiles i) r → StepAsked c (afterMove words m n i) profiles r
+  asked-shifted to =
+      record {
+        fits =
+            record {
+              profiles-fit = asked .fits .profiles-fit;
+              word-room = rw (afterMove-length words m n i) (asked .fits .word-room);
+            };
+        loads-of =
+            record {
+              loads-sized = to .loads-sized;
+              copies-sized = to .copies-sized;
+              load-is = λ k h. omega (arith, to .load-is k h, asked .loads-of .load-is k h, load-moved k);
+              copies-are = λ k h. omega (arith, to .copies-are k h, asked .loads-of .copies-are k h, copies-moved k);
+            };
+      }
+
+  shift-back : {j : ℕ} → Shift c words n m j → Shift c (afterMove words m n i) n m j
+  shift-back {j} two =
+      record {
+        m-below = two .m-below;
+        n-below = two .n-below;
+        i-below = two .i-below;
+        holds = stays words m n i j (s .holds) (two .lacks) n ∙ two .holds;
+        lacks = stays words m n i j (s .holds) (two .lacks) m ∙ two .lacks;
+      }
+
+module _ {profiles : List ℕ} {l given : Loads} {m n i : ℕ} where
+  pub followed-move : ShiftedTo l m n (shareAt profiles i) given → Followed profiles l (Move m n i) given
+  unfolding after stepOf
+  followed-move to = λ c words asked s. asked-shifted asked s to
+
+  -- the second shift of an exchange follows its first
+  module _ (one : Followed profiles l (Move m n i) given) {j : ℕ} where
+    pub follow-back : {c : Cluster} {words : List ℕ} → StepAsked c words profiles l → Shift c words m n i × Shift c words n m j
+        → FollowAsked profiles given (Move n m j)
+    unfolding after stepOf
+    follow-back {c} {words} asked s =
         record {
-          sized = census .by-sized;
-          at = λ i l. (
-            getD places i 0,
-            at .placed .below i l,
-            named-share rank-asked (at .ranked) (getD places i 0) i l (at .placed .is i l),
-            λ m ml. census .by-is m i ml l,
-          );
+          cluster = c;
+          words = afterMove words m n i;
+          asked = one c words asked (s .0);
+          found = shift-back asked (s .0) (s .1);
         }
 
-    pub loop-asked : LoopAsked words shares spreads (c .on) (c .by) keys (c .loads) (c .used) racks size blocks
-    loop-asked =
-        let asked = at .asked in
-        record {
-          ranges =
-              record {
-                racks-pos = asked .racks-pos;
-                size-pos = asked .size-pos;
-                machines-max = asked .few;
-                blocks-max = asked .blocks-max;
-                word-room = asked .word-room;
-                share-room = asked .share-room;
-                spread-room = asked .spread-room;
-                share-narrow = asked .share-narrow;
-                load-narrow = census .load-narrow;
-              };
-          loads-sized = census .loads-sized;
-          copies-sized = census .used-sized;
-          indexed = census .indexed;
-          ranked = at .ranked;
-          rank-indexed = rank-indexed;
-        }
+    pub followed-swap : {r : Loads} → Followed profiles given (Move n m j) r → Followed profiles l (Swap m n i j) r
+    unfolding after afterSwap stepOf
+    followed-swap two = λ c words asked s. two c (afterMove words m n i) (one c words asked (s .0)) (shift-back asked (s .0) (s .1))
 
--- with the census of its words a standing placement is what the search is given
-pub scene-of : (p : Plan) (words shares spreads places : List ℕ) (racks size capacity blocks : ℕ) (c : Census)
-    → Standing p words shares spreads racks size capacity blocks
-    → CensusOf words shares places blocks c
-    → SceneOf p words shares spreads (c .loads) (c .used) racks size capacity blocks
-unfolding used
-scene-of p words shares spreads places racks size capacity blocks c s tallied =
-    let below : (m : ℕ) → m < machines p → m < 64 = λ m l. omega (arith, s .valid .shaped .machines-max) in
-    record {
-      valid = s .valid;
-      count = s .count;
-      feasible = s .feasible;
-      racks-is = s .racks-is;
-      size-is = s .size-is;
-      capacity-is = s .capacity-is;
-      blocks-is = s .blocks-is;
-      shares-are = s .shares-are;
-      spreads-are = s .spreads-are;
-      loads-are =
-          λ m l.
-          tallied .load-is m (below m l)
-          ∙ ap (λ (n : ℕ). sum n (λ i. held words m i * getD shares i 0)) (s .blocks-is)
-          ∙ load-held p words shares m (λ i h. s .shares-are i (rw (s .blocks-is) h));
-      used-are = λ m l. tallied .used-is m (below m l) ∙ ap (λ (n : ℕ). sum n (held words m)) (s .blocks-is);
-    }
+-- ── run ────────────────────────────────────────────────────────────────────────────────────────────────────────────────
 
--- a step keeps the placement standing
-pub standing-next : (p : Plan) (words shares spreads : List ℕ) (racks size capacity blocks : ℕ)
-    → Standing p words shares spreads racks size capacity blocks
-    → Standing p (after words (nextStep p words)) shares spreads racks size capacity blocks
-standing-next p words shares spreads racks size capacity blocks s =
-    let later = step-keeps p (s .count) words (s .feasible) in
-    record {
-      valid = s .valid;
-      count = s .count;
-      feasible = later;
-      racks-is = s .racks-is;
-      size-is = s .size-is;
-      capacity-is = s .capacity-is;
-      blocks-is = s .blocks-is;
-      shares-are =
-          λ i l.
-          let m : i < blockCount p = rw (← (s .blocks-is)) l in
-          s .shares-are i l
-          ∙ sym (share-held p (s .count) words (s .feasible) i m)
-          ∙ share-held p (s .count) (after words (nextStep p words)) later i m;
-      spreads-are = s .spreads-are;
-    }
+-- a run after so many steps more
+abbrev extended : ℕ → Run → Run
+extended n r = record { rested = r .rested; steps = n + r .steps; words = r .words }
 
 -- a run as far as it has come: the steps taken, and the run that is left
-abbrev pub Coming : Plan → ℕ → List ℕ → ℕ → List ℕ → Type 0
-Coming p limit first steps words =
-    run p limit first
-    ≡ record {
-      rested = run p (limit - steps) words .rested;
-      steps = steps + run p (limit - steps) words .steps;
-      words = run p (limit - steps) words .words;
-    }
+abbrev Coming : Plan → ℕ → List ℕ → ℕ → List ℕ → Type 0
+Coming p limit first steps words = run p limit first ≡ extended steps (run p (limit - steps) words)
 
-pub coming-first : (p : Plan) (limit : ℕ) (words : List ℕ) → Coming p limit words 0 words
-coming-first p limit words = rw (sub-zero limit, zero-add (run p limit words .steps))
+pub record Along (c : Cluster) (first profiles : List ℕ) (limit steps : ℕ) (words : List ℕ) : Type 0 where
+  pub within : steps ≤ limit
+  pub same-length : length words ≡ length first
+  pub placement : (p : Plan) (count : ℕ → ℕ) → PlacementOf p count c first profiles → PlacementOf p count c words profiles
+  pub coming : (p : Plan) (count : ℕ → ℕ) → PlacementOf p count c first profiles → Coming p limit first steps words
 
-pub coming-more : (p : Plan) (limit steps : ℕ) (first words : List ℕ) → steps < limit → isStep (nextStep p words) ≡ true
-    → Coming p limit first steps words
-    → Coming p limit first (steps + 1) (after words (nextStep p words))
-coming-more p limit steps first words l step e =
-    let left : limit - steps ≡ suc (limit - (steps + 1)) = omega arith in
-    let later = run p (limit - (steps + 1)) (after words (nextStep p words)) in
-    e
-    ∙ ap (λ (n : ℕ). extended steps (run p n words)) left
-    ∙ ap (extended steps) (run-suc p words (limit - (steps + 1)) step)
-    ∙ ap (λ (n : ℕ). counted n later) (omega arith)
-  where
-    extended : ℕ → Run → Run
-    extended n r = record { rested = r .rested; steps = n + r .steps; words = r .words }
+-- a step keeps a placement at its counts
+placement-next : (p : Plan) (count : ℕ → ℕ) (c : Cluster) (words profiles : List ℕ) → PlacementOf p count c words profiles
+    → PlacementOf p count c (after words (nextStep p words)) profiles
+placement-next p count c words profiles placement =
+    record { profiles-of = placement .profiles-of; feasible = nextStep-feasible p count words (placement .feasible) }
 
-    counted : ℕ → Run → Run
-    counted n r = record { rested = r .rested; steps = n; words = r .words }
-
-pub coming-rest : (p : Plan) (limit steps : ℕ) (first words : List ℕ) → nextStep p words ≡ none
-    → Coming p limit first steps words
-    → run p limit first ≡ record { rested = true; steps = steps; words = words }
-coming-rest p limit steps first words rest e = e ∙ (rw (run-none p words (limit - steps) rest, add-zero steps))
-
-pub coming-end : (p : Plan) (limit : ℕ) (first words : List ℕ) → Coming p limit first limit words
-    → run p limit first ≡ record { rested = not (isStep (nextStep p words)); steps = limit; words = words }
-coming-end p limit first words e = e ∙ (rw (sub-self limit, run-zero p words, add-zero limit))
-
--- later words of the same length are in the same ranges
-pub asked-later : (words later shares spreads : List ℕ) (racks size blocks : ℕ)
-    → StandAsked words shares spreads racks size blocks
-    → length later ≡ length words
-    → StandAsked later shares spreads racks size blocks
-asked-later words later shares spreads racks size blocks a same =
+pub along-first : {c : Cluster} {words profiles : List ℕ} {limit : ℕ} → Along c words profiles limit 0 words
+along-first {c} {words} {profiles} {limit} =
     record {
-      racks-pos = a .racks-pos;
-      size-pos = a .size-pos;
-      few = a .few;
-      blocks-max = a .blocks-max;
-      word-room = rw same (a .word-room);
-      share-room = a .share-room;
-      spread-room = a .spread-room;
-      share-narrow = a .share-narrow;
+      within = omega arith;
+      same-length = refl;
+      placement = λ p count at. at;
+      coming = λ p count at. rw (sub-zero limit, zero-add (run p limit words .steps));
     }
+
+module _ {c : Cluster} {first profiles words : List ℕ} {limit steps : ℕ} {step : Step}
+    (along : Along c first profiles limit steps words) (next : NextFound c words profiles step) where
+  step-is : (p : Plan) (count : ℕ → ℕ) → PlacementOf p count c first profiles → stepOf step ≡ nextStep p words
+  step-is p count at = next .is p count (along .placement p count at)
+
+  -- one step more, taken
+  pub along-more : steps < limit → isStep (stepOf step) ≡ true → Along c first profiles limit (steps + 1) (after words (stepOf step))
+  along-more l is =
+      record {
+        within = omega arith;
+        same-length = after-length words (stepOf step) ∙ along .same-length;
+        placement = λ p count at. rw (step-is p count at) (placement-next p count c words profiles (along .placement p count at));
+        coming = λ p count at. rw (step-is p count at) (more p (sym (ap isStep (step-is p count at)) ∙ is) (along .coming p count at));
+      }
+    where
+      counted : ℕ → Run → Run
+      counted n r = record { rested = r .rested; steps = n; words = r .words }
+
+      more : (p : Plan) → isStep (nextStep p words) ≡ true → Coming p limit first steps words
+          → Coming p limit first (steps + 1) (after words (nextStep p words))
+      more p is e =
+          let later = run p (limit - (steps + 1)) (after words (nextStep p words)) in
+          e
+          ∙ ap (λ (n : ℕ). extended steps (run p n words)) (omega arith)
+          ∙ ap (extended steps) (run-suc p words (limit - (steps + 1)) is)
+          ∙ ap (λ (n : ℕ). counted n later) (omega arith)
+
+  -- no step is left, and the limit is used
+  pub along-rest : isStep (stepOf step) ≡ false → (p : Plan) (count : ℕ → ℕ) → PlacementOf p count c first profiles
+      → ranOf (record { rested = true; steps = steps }) words ≡ run p limit first
+  unfolding ranOf
+  along-rest is p count at =
+      let rest = sym (step-is p count at) ∙ isStep-false (stepOf step) is in
+      sym (along .coming p count at ∙ (rw (run-none p words (limit - steps) rest, add-zero steps)))
+
+  pub along-end : limit ≤ steps → (p : Plan) (count : ℕ → ℕ) → PlacementOf p count c first profiles
+      → ranOf (record { rested = not (isStep (stepOf step)); steps = steps }) words ≡ run p limit first
+  unfolding ranOf
+  along-end l p count at =
+      let all : limit - steps ≡ 0 = omega (arith, along .within) in
+      sym (along .coming p count at ∙ (rw (all, run-zero p words, add-zero steps, step-is p count at)))

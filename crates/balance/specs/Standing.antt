@@ -54,7 +54,7 @@ pub record FollowAsked (profiles : List ℕ) (loads : Loads) (step : Step) : Typ
 abbrev pub Followed : List ℕ → Loads → Step → Loads → Type 0
 Followed profiles loads step r =
     (c : Cluster) (words : List ℕ) → StepAsked c words profiles loads → Found c words step
-    → LoadsOf c (after words (stepOf step)) profiles (r .load) (r .copies)
+    → StepAsked c (after words (stepOf step)) profiles r
 
 -- The next step, taken.
 pub record Stepped (p : Plan) (words later : List ℕ) (r : Step) : Type 0 where

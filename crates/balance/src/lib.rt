@@ -6,10 +6,11 @@ ghost use mathlib.Core.Path.{_≡_};
 ghost use mathlib.Core.Bool.{not};
 ghost use Prim.Native.Nat.{ℕ};
 ghost use Rattle.model.specs.Plan.{Plan};
-ghost use Rattle.model.specs.Steps.{isStep, nextStep, afterMove, after, run};
+ghost use Rattle.model.specs.Steps.{isStep, nextStep, afterMove, afterSwap, after, run};
 ghost use Rattle.cluster.specs.Blocks.{PlacementOf};
 ghost use Rattle.index.specs.Index.{Ordered};
 ghost use Rattle.search.specs.Scene.{NextFound, stepOf};
+ghost use Rattle.search.specs.declared.Step.the-variants.{Move, Swap};
 ghost use Rattle.balance.specs.Standing.{StepAsked, OrderedAsked, ShiftAsked, TakeAsked, FollowAsked, Followed, Stepped, ranOf};
 
 // How a run ended, and the number of steps taken.
@@ -38,7 +39,16 @@ fn shift_word(words: &mut [u64], m: usize, n: usize, i: usize)
     words[i] = bits::shift_bit(words[i], m, n);
 }
 
-// Takes a step that was found: a block's copy passes from m to n, and of an exchange another's from n to m.
+// Block i's copy on m passes to n, and block j's on n to m.
+fn exchange_words(words: &mut [u64], m: usize, n: usize, i: usize, j: usize)
+    requires { ⌜ ShiftAsked (now words) m n i × ShiftAsked (now words) n m j ⌝ }
+    ensures { λ r. ⌜ now (words .exit) ≡ afterSwap (now (words .entry)) m n i j ⌝ }
+{
+    shift_word(words, m, n, i);
+    shift_word(words, n, m, j);
+}
+
+// Takes a step that was found.
 fn take_step(words: &mut [u64], step: Step)
     requires { ⌜ TakeAsked (now words) step ⌝ }
     ensures { λ r. ⌜ now (words .exit) ≡ after (now (words .entry)) (stepOf step) ⌝ }
@@ -46,16 +56,27 @@ fn take_step(words: &mut [u64], step: Step)
     match step {
         Step::Rest => {}
         Step::Move { m, n, i } => shift_word(words, m, n, i),
-        Step::Swap { m, n, i, j } => {
-            shift_word(words, m, n, i);
-            shift_word(words, n, m, j);
-        }
+        Step::Swap { m, n, i, j } => exchange_words(words, m, n, i, j),
         Step::RackMove { m, n, i } => shift_word(words, m, n, i),
-        Step::RackSwap { m, n, i, j } => {
-            shift_word(words, m, n, i);
-            shift_word(words, n, m, j);
-        }
+        Step::RackSwap { m, n, i, j } => exchange_words(words, m, n, i, j),
     }
+}
+
+// The loads and copies once the copy of block i on m has passed to n.
+fn shift_loads(loads: Loads, profiles: &[u64], m: usize, n: usize, i: usize) -> Loads
+    requires { ⌜ FollowAsked (now profiles) loads (Move m n i) ⌝ }
+    ensures { λ r. ⌜ Followed (now (profiles .entry)) loads (Move m n i) r ⌝ }
+{
+    loads::shift(loads, m, n, cluster::share_of(profiles[i]))
+}
+
+// The same once an exchange is made.
+fn exchange_loads(loads: Loads, profiles: &[u64], m: usize, n: usize, i: usize, j: usize) -> Loads
+    requires { ⌜ FollowAsked (now profiles) loads (Swap m n i j) ⌝ }
+    ensures { λ r. ⌜ Followed (now (profiles .entry)) loads (Swap m n i j) r ⌝ }
+{
+    let given = shift_loads(loads, profiles, m, n, i);
+    shift_loads(given, profiles, n, m, j)
 }
 
 // The loads and copies after a step that was found.
@@ -65,16 +86,10 @@ fn loads_after(loads: Loads, profiles: &[u64], step: Step) -> Loads
 {
     match step {
         Step::Rest => loads,
-        Step::Move { m, n, i } => loads::shift(loads, m, n, cluster::share_of(profiles[i])),
-        Step::Swap { m, n, i, j } => {
-            let given = loads::shift(loads, m, n, cluster::share_of(profiles[i]));
-            loads::shift(given, n, m, cluster::share_of(profiles[j]))
-        }
-        Step::RackMove { m, n, i } => loads::shift(loads, m, n, cluster::share_of(profiles[i])),
-        Step::RackSwap { m, n, i, j } => {
-            let given = loads::shift(loads, m, n, cluster::share_of(profiles[i]));
-            loads::shift(given, n, m, cluster::share_of(profiles[j]))
-        }
+        Step::Move { m, n, i } => shift_loads(loads, profiles, m, n, i),
+        Step::Swap { m, n, i, j } => exchange_loads(loads, profiles, m, n, i, j),
+        Step::RackMove { m, n, i } => shift_loads(loads, profiles, m, n, i),
+        Step::RackSwap { m, n, i, j } => exchange_loads(loads, profiles, m, n, i, j),
     }
 }
 

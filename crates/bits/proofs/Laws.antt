@@ -16,7 +16,7 @@ use Rattle.order.specs.Sum.{sum}
 use Rattle.order.proofs.Sums.{sum-zero, sum-suc, sum-cong}
 use Rattle.order.proofs.Ranges.{sum-append}
 use Rattle.model.specs.Placement.{bit}
-use Rattle.theory.proofs.Bits.{bit-low, bit-high, bit-cases, bit-above-from}
+use Rattle.theory.proofs.Placement.{bit-low, bit-high, bit-cases, bit-above-from}
 
 -- `1u64 << m`
 pub one-shl : (m : ℕ) → m < 64 → 1 * 2 ^ m % 2 ^ 64 ≡ 2 ^ m

@@ -9,9 +9,10 @@ use lib.ListN.{getD}
 use Rattle.model.specs.Plan.{Plan, machines, maxReplicas, blockCount, blockOf, upper}
 use Rattle.model.specs.Replication.{FeasibleCounts, share}
 use Rattle.model.specs.Placement.{shareOf}
-use Rattle.theory.specs.Accepted.{ValidBlock, Valid}
-use Rattle.theory.proofs.Shares.{upper-max, count-range}
-use Rattle.theory.proofs.Held.{share-held}
+use Rattle.theory.specs.Refusal.{ValidBlock, Valid}
+use Rattle.theory.proofs.Plan.{upper-max}
+use Rattle.theory.proofs.Replication.{feasibleCounts-range}
+use Rattle.theory.proofs.Placement.{shareOf-feasible}
 use Rattle.cluster.specs.declared.Cluster.{Cluster}
 use Rattle.cluster.specs.Cluster.{machinesIn, InRange, clusterOf, ClusterOf}
 use Rattle.cluster.specs.Blocks.{popularityIn, leastIn, spreadAsked, mostIn, shareIn, countIn, spreadIn, demandOf, DemandsOf, profileOf, ProfilesOf, PlacementOf}
@@ -121,7 +122,7 @@ module _ (p : Plan) (count : ℕ → ℕ) (c : Cluster) (profiles : List ℕ) (o
   in-plan = rw (cluster-blocks p c (of .cluster)) at l
 
   count-few : count i ≤ maxReplicas
-  count-few = count-range p count (of .cluster .valid .shaped) counts i in-plan .1
+  count-few = feasibleCounts-range p count (of .cluster .valid .shaped) counts i in-plan .1
 
   pub profiles-share : shareIn (getD profiles i 0) ≡ share (blockOf p i .popularity) (count i)
   profiles-share = rw (of .are i l) (profileOf-share p count i (cluster-block p c (of .cluster) i l) count-few)
@@ -142,7 +143,7 @@ module _ (p : Plan) (count : ℕ → ℕ) (c : Cluster) (words profiles : List �
   pub placement-share : shareIn (getD profiles i 0) ≡ shareOf p words i
   placement-share =
       profiles-share p count c profiles (of .profiles-of) (of .feasible .counts) i l
-      ∙ share-held p count words (of .feasible) i placement-block
+      ∙ shareOf-feasible p count words (of .feasible) i placement-block
 
   pub placement-spread : spreadIn (getD profiles i 0) ≡ blockOf p i .minRacks
   placement-spread = profiles-spread p count c profiles (of .profiles-of) (of .feasible .counts) i l

@@ -3,7 +3,7 @@ use mathlib.Core.Path.{_≡_}
 use Prim.Native.Nat.{ℕ, _*_, _≤_}
 use Rattle.model.specs.Plan.{Plan, blockCount}
 use Rattle.model.specs.Refusal.{maxMachines, maxCapacity, maxBlocks}
-use Rattle.theory.specs.Accepted.{Valid}
+use Rattle.theory.specs.Refusal.{Valid}
 use Rattle.cluster.specs.declared.Cluster.{Cluster}
 
 -- M = R × S.

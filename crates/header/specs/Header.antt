@@ -17,7 +17,7 @@ clusterIn bytes =
     record { racks = racksIn bytes; «rack_size» = rackSizeIn bytes; capacity = capacityIn bytes; blocks = blockCountIn bytes }
 
 unfoldable pub headerIn : List ℕ → Header
-headerIn bytes = record { cluster = clusterIn bytes; budget = budgetIn bytes }
+headerIn bytes = record { version = versionIn bytes; cluster = clusterIn bytes; budget = budgetIn bytes }
 
 -- Each number that check 4 multiplies fits its byte.
 pub record Narrow (h : Header) : Type 0 where

@@ -17,8 +17,9 @@ const MARK: usize = 0x42504C;
 
 const MAX_CAPACITY: usize = 1024;
 
-// The header's fields: R, S, C and B, and the budget.
+// The header's fields: the version, R, S, C and B, and the budget.
 pub struct Header {
+    pub version: usize,
     pub cluster: Cluster,
     pub budget: usize,
 }
@@ -149,6 +150,7 @@ fn fields(bytes: &[u8]) -> Header
         blocks: field_at(bytes, 13, 2),
     };
     Header {
+        version: field_at(bytes, 3, 2),
         cluster,
         budget: field_at(bytes, 9, 4),
     }

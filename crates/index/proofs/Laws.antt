@@ -13,7 +13,7 @@ use lib.Seq.{getD-set-same, getD-set-other}
 use Rattle.order.proofs.Sums.{delta-same, delta-other}
 use Rattle.model.specs.Refusal.{maxMachines, maxBlocks}
 use Rattle.model.specs.Placement.{bit, held}
-use Rattle.theory.proofs.Bits.{bit-add, bit-take, bit-le, bit-cases, bit-above-from, bit-zero}
+use Rattle.theory.proofs.Placement.{bit-add, bit-take, bit-le, bit-cases, bit-above-from, bit-zero}
 use Rattle.cluster.specs.declared.Cluster.{Cluster}
 use Rattle.bits.specs.Words.{Lowest}
 use Rattle.bits.proofs.Laws.{bit-from}

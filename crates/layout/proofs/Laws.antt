@@ -13,9 +13,9 @@ use Rattle.model.specs.Plan.{Plan, machines, upper, maxReplicas}
 use Rattle.model.specs.Refusal.{maxMachines}
 use Rattle.model.specs.Replication.{chosen}
 use Rattle.model.specs.Placement.{bit, position, laidWord, firstWord}
-use Rattle.theory.specs.Accepted.{Shaped}
-use Rattle.theory.proofs.Counts.{chosen-laws}
-use Rattle.theory.proofs.FirstPlacement.{machineOf, machineOf-below, laid-step, laid-fresh}
+use Rattle.theory.specs.Refusal.{Shaped}
+use Rattle.theory.proofs.Replication.{chosen-laws}
+use Rattle.theory.proofs.PlacementFirst.{machineOf, machineOf-below, laidWord-step, laidWord-fresh}
 use Rattle.cluster.specs.declared.Cluster.{Cluster}
 use Rattle.cluster.specs.Cluster.{machinesIn, InRange, ClusterOf}
 use Rattle.cluster.proofs.Laws.{cluster-range, cluster-blocks, cluster-machines}
@@ -106,7 +106,7 @@ module _ (c : Cursor) (circle : OnCircle c) (t : ℕ) (at : c ≡ cursorAt (c .c
 
 -- A plan that has the cluster's racks: the model's laws are about plans, and a word is laid by their racks alone.
 abbrev bare : Cluster → Plan
-bare c = record { racks = c .racks; rackSize = c .«rack_size»; capacity = 1; budget = 0; blocks = [] }
+bare c = record { version = 1; racks = c .racks; rackSize = c .«rack_size»; capacity = 1; budget = 0; blocks = [] }
 
 bare-shaped : (c : Cluster) → InRange c → Shaped (bare c)
 bare-shaped c in-range =
@@ -170,7 +170,7 @@ module _ (c : Cursor) (circle : OnCircle c) where
       laying-more =
           record {
             word-is = ap₂ (λ (w m : ℕ). w + 2 ^ m) (so-far .word-is) machine-is
-                ∙ sym (laid-step (bare (c .cluster)) (bare-shaped (c .cluster) (circle .in-range)) (placeOf c) k);
+                ∙ sym (laidWord-step (bare (c .cluster)) (bare-shaped (c .cluster) (circle .in-range)) (placeOf c) k);
             at-is = ap (λ (x : Visit). x .cursor) visit-is
                 ∙ ap (cursorAt (c .cluster))
                 (mod-add-mod (placeOf c + k) (around c) 1 ∙ ap (λ (q : ℕ). q % around c) (add-assoc (placeOf c) k 1));
@@ -182,7 +182,7 @@ module _ (c : Cursor) (circle : OnCircle c) where
           let shaped = bare-shaped (c .cluster) (circle .in-range) in
           rw (machine-is, so-far .word-is) (
             lt-of-lt-of-le (machineOf-below (bare (c .cluster)) shaped (placeOf c + k)) (circle .in-range .machines-max),
-            laid-fresh (bare (c .cluster)) shaped (placeOf c) k few,
+            laidWord-fresh (bare (c .cluster)) shaped (placeOf c) k few,
           )
 
 -- ── The first placement ────────────────────────────────────────────────────────────────────────────────────────────────

@@ -15,10 +15,9 @@ use Rattle.model.specs.Placement.{wordOf, countOf, firstWord, firstPlacement, m
 use Rattle.model.specs.Steps.{Run, run}
 use Rattle.model.specs.Calls.{answered, reportOf}
 use Rattle.model.specs.Listing.{wrote, numberField, fields, lineEnd, line, blockWord, planLine, holders, blockLine, lines, endWord, lastLine, listingOf, listingRoom}
-use Rattle.theory.proofs.FirstPlacement.{first-feasible}
-use Rattle.theory.proofs.Counts.{chosen-laws}
-use Rattle.theory.proofs.Lines.{fields-append, holders-zero, holders-low, holders-past, lines-cong, lines-step, lines-prefix}
-use Rattle.theory.proofs.Listing.{ran-feasible, listing-fits}
+use Rattle.theory.proofs.PlacementFirst.{firstPlacement-feasible}
+use Rattle.theory.proofs.Replication.{chosen-laws}
+use Rattle.theory.proofs.Listing.{fields-append, holders-zero, holders-low, holders-past, lines-cong, lines-step, lines-prefix, listingOf-feasible, listingOf-fits}
 use Rattle.cluster.specs.declared.Cluster.{Cluster}
 use Rattle.cluster.specs.Blocks.{countIn, ProfilesOf, PlacementOf}
 use Rattle.cluster.proofs.Laws.{cluster-blocks, profiles-share, profiles-count, placement-share}
@@ -151,7 +150,7 @@ first-placement p c profiles of words later sized e =
     let valid = of .cluster .valid in
     let same = e ∙ first-of p words (sized ∙ cluster-blocks p c (of .cluster)) in
     (
-      record { profiles-of = of; feasible = rw same (first-feasible p (valid .shaped) (chosen-laws p valid .feasible)) },
+      record { profiles-of = of; feasible = rw same (firstPlacement-feasible p valid) },
       same,
     )
 
@@ -162,7 +161,7 @@ unfolding ranOf
 run-placement p c limit profiles of ran words e =
     record {
       profiles-of = of;
-      feasible = rw (ap (λ (q : Run). q .words) e) (ran-feasible p (of .cluster .valid) limit);
+      feasible = rw (ap (λ (q : Run). q .words) e) (listingOf-feasible p (of .cluster .valid) limit);
     }
 
 -- the lines of a plan whose run is given
@@ -218,7 +217,7 @@ module _ (p : Plan) (c : Cluster) (limit : ℕ) (profiles words : List ℕ) (r :
       let k = rw (← all) at m in
       omega (arith, fit .narrow i k, profiles-share p (chosen p) c profiles (made .profiles-of) (placement .feasible .counts) i k)
       in
-      rw listing-is (record { fits = omega (arith, listing-fits p (made .profiles-of .cluster .valid) narrow limit l) })
+      rw listing-is (record { fits = omega (arith, listingOf-fits p (made .profiles-of .cluster .valid) narrow limit l) })
 
   pub whole-put : {old text : List ℕ} {next : ℕ} → Put 0 (allRows c profiles words r) old text next
       → Put 0 (listingOf p limit) old text next

@@ -12,7 +12,7 @@ use Rattle.order.specs.Sum.{delta}
 use Rattle.order.proofs.Sums.{delta-same, delta-other, sum-zero, sum-step}
 use Rattle.model.specs.Refusal.{maxMachines}
 use Rattle.model.specs.Placement.{bit, held}
-use Rattle.theory.proofs.Bits.{bit-take, bit-le, bit-zero}
+use Rattle.theory.proofs.Placement.{bit-take, bit-le, bit-zero}
 use Rattle.cluster.specs.declared.Cluster.{Cluster}
 use Rattle.cluster.specs.Blocks.{shareIn, ProfilesFit}
 use Rattle.bits.specs.Words.{Lowest}

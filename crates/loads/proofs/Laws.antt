@@ -12,7 +12,7 @@ use Rattle.model.specs.Plan.{Plan}
 use Rattle.model.specs.Refusal.{maxMachines, maxBlocks}
 use Rattle.model.specs.Placement.{wordOf, held, used, shareOf, load}
 use Rattle.theory.specs.Widths.{shareBound, loadBound}
-use Rattle.theory.proofs.Bits.{bit-le}
+use Rattle.theory.proofs.Placement.{bit-le}
 use Rattle.cluster.specs.declared.Cluster.{Cluster}
 use Rattle.cluster.specs.Cluster.{machinesIn, InRange, ClusterOf}
 use Rattle.cluster.specs.Blocks.{shareIn, ProfilesFit, PlacementOf}

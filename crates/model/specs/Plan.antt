@@ -11,8 +11,9 @@ pub record Block : Type 0 where
   pub minReplicas : ℕ
   pub minRacks : ℕ
 
--- A plan. `racks` is R, `rackSize` the machines per rack S, `capacity` C; `blocks` are in file order.
+-- A plan. `version` is its file's, `racks` is R, `rackSize` the machines per rack S, `capacity` C; `blocks` are in file order.
 pub record Plan : Type 0 where
+  pub version : ℕ
   pub racks : ℕ
   pub rackSize : ℕ
   pub capacity : ℕ
@@ -128,6 +129,7 @@ blockIn f bytes i =
 unfoldable pub planIn : List ℕ → Plan
 planIn bytes =
     record {
+      version = versionIn bytes;
       racks = racksIn bytes;
       rackSize = rackSizeIn bytes;
       capacity = capacityIn bytes;

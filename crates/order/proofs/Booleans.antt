@@ -1,7 +1,7 @@
 -- What a test that came out false, or true, says of its parts, and tests as statements.
 -- Assumes nothing.
-use mathlib.Core.Path.{_≡_, refl}
-use mathlib.Core.Bool.{Bool, true, false, cond, _||_, _&&_, and-eq-true-iff}
+use mathlib.Core.Path.{_≡_, refl, sym}
+use mathlib.Core.Bool.{Bool, true, false, cond, _||_, _&&_, Bool·beq, and-eq-true-iff}
 use mathlib.Core.Logic.{_⊎_, inl, inr, _↔_}
 use native.Mathlib.Omega.{arith}
 use Prim.Native.Nat.{ℕ, _≤_, _<_}
@@ -49,6 +49,12 @@ ltb-iff a b = (ltb-true a b, lt-ltb a b)
 
 pub eqb-iff : (a b : ℕ) → (eqb a b ≡ true) ↔ (a ≡ b)
 eqb-iff a b = (eqb-true a b, eq-eqb a b)
+
+pub beq-iff : (a b : Bool) → (Bool·beq a b ≡ true) ↔ (a ≡ b)
+beq-iff true true = (λ e. refl, λ e. refl)
+beq-iff true false = (λ e. sym e, λ e. sym e)
+beq-iff false true = (λ e. e, λ e. e)
+beq-iff false false = (λ e. refl, λ e. refl)
 
 -- what holds of both choices holds of the one taken
 pub cond-all {ℓ κ} : {A : Type ℓ} (P : A → Type κ) (t : Bool) (a b : A) → (t ≡ true → P a) → P b → P (cond t a b)

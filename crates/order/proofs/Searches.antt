@@ -63,6 +63,26 @@ module _ {ℓ} {A : Type ℓ} (found : A → Bool) (none : A) (nothing : found n
       go (inr b) (inr d) below (inl same) = rw same d
       go (inr b) (inr d) below (inr m) = below b m
 
+  -- what is found is the first answer that is accepted
+  pub first-index : (n : ℕ) → found (firstUp found none f n) ≡ true
+      → (i : ℕ) × (i < n) × (firstUp found none f n ≡ f i) × (found (f i) ≡ true) × ((k : ℕ) → k < i → found (f k) ≡ false)
+  unfolding firstUp
+  first-index zero e = no-contradiction (sym e ∙ nothing)
+  first-index (suc n) e = go (bool-cases (found (firstUp found none f n))) (bool-cases (found (f n))) (first-index n)
+    where
+      go : (found (firstUp found none f n) ≡ true) ⊎ (found (firstUp found none f n) ≡ false)
+          → (found (f n) ≡ true) ⊎ (found (f n) ≡ false)
+          → (found (firstUp found none f n) ≡ true
+          → (i : ℕ) × (i < n) × (firstUp found none f n ≡ f i) × (found (f i) ≡ true) × ((k : ℕ) → k < i → found (f k) ≡ false))
+          → (i : ℕ) × (i < suc n)
+          × (cond (found (firstUp found none f n)) (firstUp found none f n) (cond (found (f n)) (f n) none) ≡ f i)
+          × (found (f i) ≡ true) × ((k : ℕ) → k < i → found (f k) ≡ false)
+      go (inl b) d below =
+          let at = below b in
+          (at .0, omega (arith, at .1), (rw b (at .2)), at .3, at .4)
+      go (inr b) (inl d) below = (n, le-refl (suc n), (rw (b, d)), d, none-below n b)
+      go (inr b) (inr d) below = no-contradiction (sym (rw (b, d) at e) ∙ nothing)
+
 -- what holds of every answer and of `none` holds of what is found
 pub first-all {ℓ κ} : {A : Type ℓ} (P : A → Type κ) (found : A → Bool) (none : A) (f : ℕ → A) (n : ℕ) → P none
     → ((i : ℕ) → i < n → P (f i)) → P (firstUp found none f n)

@@ -10,8 +10,8 @@ use Rattle.order.specs.Table.{filled}
 use Rattle.order.proofs.Tables.{length-table, getD-table, getD-filled}
 use Rattle.model.specs.Plan.{Plan, noBlock, blockCount, blockOf, minTotal, commonLength, versionIn, Format, formatIn, recordLength, recordAt, blockIn, planIn}
 use Rattle.model.specs.Refusal.{check10, check11, blocksRefusal, planRefusal, refusal, judge, accepted}
-use Rattle.theory.specs.Accepted.{Valid}
-use Rattle.theory.proofs.Accepted.{orElse-some, accepted-laws}
+use Rattle.theory.specs.Refusal.{Valid}
+use Rattle.theory.proofs.Refusal.{orElse-some, accepted-laws}
 use Rattle.cluster.specs.declared.Cluster.{Cluster}
 use Rattle.cluster.specs.Cluster.{machinesIn, InRange, ClusterOf}
 use Rattle.cluster.specs.Blocks.{demandOf, DemandsOf}

@@ -19,6 +19,7 @@ use Rattle.plan.specs.declared.Records.the-variants.{Fault, Total}
 unfoldable pub planOf : List ℕ → Header → Plan
 planOf bytes h =
     record {
+      version = h .version;
       racks = h .cluster .racks;
       rackSize = h .cluster .«rack_size»;
       capacity = h .cluster .capacity;

@@ -6,7 +6,7 @@ use lib.ListN.{length}
 use Rattle.order.specs.Table.{filled}
 use Rattle.model.specs.Plan.{Plan, blockCount}
 use Rattle.model.specs.Replication.{limit as limitOf, largestShare, need, figure, chosen}
-use Rattle.theory.specs.Accepted.{ValidBlock}
+use Rattle.theory.specs.Refusal.{ValidBlock}
 use Rattle.theory.specs.Widths.{shareBound}
 use Rattle.cluster.specs.declared.Cluster.{Cluster}
 use Rattle.cluster.specs.Blocks.{leastIn, mostIn, demandOf, DemandInRange, DemandsFit, DemandsOf, profileOf, ProfilesFit}

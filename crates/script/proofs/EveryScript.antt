@@ -12,7 +12,8 @@ use Rattle.model.specs.Plan.{Plan, blockCount}
 use Rattle.model.specs.Refusal.{refused, accepted, judge}
 use Rattle.model.specs.Calls.{Outcome, refuse, onPlacement, placementRefusal, checkCall, stepCall, runCall}
 use Rattle.model.specs.Claims.{Request, askCheck, askStep, askRun, refusedBy, respond, does, Gets, Refuses, Allowed}
-use Rattle.theory.proofs.Outcomes.{callRefusal-accepted, onPlan-verdict, onPlan-refused, check12-short}
+use Rattle.theory.proofs.Calls.{callRefusal-accepted, onPlan-verdict, onPlan-refused}
+use Rattle.theory.proofs.Refusal.{check12-short}
 use Rattle.script.specs.Script.{sourceOf, lentOf, requestIn, bytesOf, callWith, callOf, callsOf}
 use Rattle.script.specs.Promise.{EveryScript}
 

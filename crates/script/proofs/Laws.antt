@@ -12,7 +12,7 @@ use lib.Seq.{take-length, drop-length, take-all, drop-cons}
 use Rattle.model.specs.Steps.{Step}
 use Rattle.model.specs.Calls.{Outcome, RunReply, checkCall, stepCall, runCall}
 use Rattle.model.specs.Claims.{askCheck, askStep, askRun, checked, stepped, ran, Played, played, respond, does, play}
-use Rattle.theory.proofs.Claim.{claim}
+use Rattle.theorems.proofs.Claim.{claim}
 use Rattle.script.specs.declared.LastReply.{LastReply}
 use Rattle.script.specs.declared.LastReply.the-variants.{Checked}
 use Rattle.script.specs.Script.{sourceOf, lentOf, requestOf, requestIn, bytesOf, callWith, callOf, callsOf, replyIs, playedBy}

@@ -1,2 +1,3 @@
 pub mod Laws
-pub mod Screened
+pub mod Pairs
+pub mod Loops

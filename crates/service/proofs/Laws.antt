@@ -13,9 +13,10 @@ use Rattle.model.specs.Refusal.{judge}
 use Rattle.model.specs.Replication.{largestShare, chosen}
 use Rattle.model.specs.Steps.{Run}
 use Rattle.model.specs.Calls.{Outcome, answered, refuse, onPlan, bufferRefusal, placementRefusal, onPlacement, Report, reportOf, RunReply}
-use Rattle.theory.proofs.Outcomes.{onPlan-refused, onPlan-made, check12-enough}
-use Rattle.theory.proofs.Counts.{chosen-laws}
-use Rattle.theory.proofs.Held.{top-held}
+use Rattle.theory.proofs.Calls.{onPlan-refused, onPlan-made}
+use Rattle.theory.proofs.Refusal.{check12-enough}
+use Rattle.theory.proofs.Replication.{chosen-laws}
+use Rattle.theory.proofs.Placement.{maxShare-feasible}
 use Rattle.cluster.specs.Blocks.{countIn}
 use Rattle.cluster.proofs.Laws.{cluster-blocks, profiles-count}
 use Rattle.loads.specs.declared.LoadReport.{LoadReport}
@@ -72,7 +73,7 @@ report-is bytes words profiles r ready report of =
     let e1 = report-max p (chosen p) c words profiles (r .loads) report (ready .placement) (ready .loads-of) of in
     let e2 = report-min p (chosen p) c words profiles (r .loads) report (ready .placement) (ready .loads-of) of in
     let e3 = report-total p (chosen p) c words profiles (r .loads) report (ready .placement) (ready .loads-of) of in
-    let e4 = ready .prepared .top-is ∙ top-held p (chosen p) words (ready .placement .feasible) in
+    let e4 = ready .prepared .top-is ∙ maxShare-feasible p (chosen p) words (ready .placement .feasible) in
     λ i. record { maximum = e1 i; minimum = e2 i; total = e3 i; top = e4 i }
 
 -- a run's answer, from how it ended and from the model's run

@@ -9,7 +9,7 @@ use native.Mathlib.Omega.{arith}
 use lib.ListN.{length, getD, take, drop, set, length-append, length-drop, take-append-drop}
 use lib.Seq.{take-at, drop-at, length-take-le, drop-drop, take-suc, set-split, append-snoc}
 use Rattle.model.specs.Listing.{numberField, fields, lineEnd, line}
-use Rattle.theory.proofs.Lines.{fields-append}
+use Rattle.theory.proofs.Listing.{fields-append}
 use Rattle.text.specs.Pasted.{pasted, Room, Put}
 
 pub pasted-none : (at : ℕ) (old : List ℕ) → pasted at [] old ≡ old

@@ -1,211 +1,303 @@
--- The listing: its numbers digit by digit, what the document shows of it by computing, its length, and how the calls' outcomes follow.
+-- Laws of the listing: its numbers digit by digit, its lines and their lengths, the machines of a block, and how the calls' outcomes
+-- follow. A listing fits its room, by the length of each line.
 -- Assumes nothing.
-use mathlib.Core.Path.{_≡_, refl, ap, _∙_}
-use mathlib.Core.Bool.{Bool, true, false, not, cond, _||_}
-use mathlib.Core.List.{List, [], _∷_, _++_}
-use Prim.Native.Nat.{ℕ, zero, suc, _+_, _*_, _^_, _<_, _≤_}
-use native.Mathlib.Nat.{le-trans, mul-le-mul-left, mul-le-mul-right, pow-suc}
+use mathlib.Core.Path.{_≡_, refl, ap, ap₂, sym, _∙_}
+use mathlib.Core.Bool.{Bool, true, false, cond}
+use mathlib.Core.List.{List, [], _∷_, _++_, append-assoc, append-nil}
+use mathlib.Core.Logic.{_⊎_, inl, inr}
+use Prim.Native.Nat.{ℕ, zero, suc, _+_, _*_, _-_, _/_, _%_, _^_, _<_, _≤_}
+use native.Mathlib.Nat.{not-suc-le-zero, le-trans, mul-le-mul-left, mul-le-mul-right, pow-suc, mod-eq-of-lt}
+use native.Mathlib.Numerals.{add-one}
+use native.Mathlib.Decide.{decLt, ℕ-discrete}
 use native.Mathlib.Omega.{arith}
 use borrow.Author.Tests.{lt-ltb, le-ltb}
-use lib.Dec.{ltb, eqb}
-use lib.ListN.{length, getD, length-append}
+use lib.Arith.{le-zero}
+use lib.Dec.{eqb}
+use lib.ListN.{length, length-append}
 use Rattle.order.specs.Sum.{sum}
-use Rattle.order.specs.Table.{table}
-use Rattle.order.specs.Search.{firstUp, least, allb, largest, smallest}
-use Rattle.order.proofs.Sums.{sum-mono, sum-const}
+use Rattle.order.proofs.Sums.{sum-suc, sum-mono, sum-const, delta-same, delta-other}
 use Rattle.order.proofs.Extremes.{largest-le, smallest-term}
-use Rattle.model.specs.Plan.{Plan, machines, blockCount, blockOf, upper, minTotal, field, blockIn, planIn, domains, commonLength, markIn, versionIn, racksIn, rackSizeIn, capacityIn, blockCountIn, formatIn, formatOf, recordAt}
-use Rattle.model.specs.Refusal.{refuseIf, orElse, isRefusal, mark, maxMachines, maxCapacity, maxBlocks, check1, check2, check3, check4, check5, check6, check7, check8, check9, blockRefusal, blocksRefusal, check10, check11, planRefusal, refusal, Verdict, refused, accepted, judge}
-use Rattle.model.specs.Replication.{limit, share, need, chosen}
-use Rattle.model.specs.Placement.{bit, wordOf, held, countOf, replicas, replicasIn, domainsUsed, used, allWithin, allSpread, allFit, countsFeasible, isFeasible, position, laidWord, firstWord, firstPlacement, shareOf, load, maxLoad, minLoad, totalLoad, maxShare, Feasible}
-use Rattle.model.specs.Steps.{shifted, afterMove, afterSwap, after, improves, canMove, canSwap, pairs, nextMove, nextSwap, nextStep, Run, run}
+use Rattle.model.specs.Plan.{Plan, machines, blockCount, blockOf}
+use Rattle.model.specs.Refusal.{Verdict, refused, accepted, judge}
+use Rattle.model.specs.Replication.{share, chosen}
+use Rattle.model.specs.Placement.{bit, wordOf, held, countOf, replicas, Feasible, firstPlacement, shareOf, load, maxLoad, minLoad, totalLoad, maxShare}
+use Rattle.model.specs.Steps.{run}
 use Rattle.model.specs.Calls.{refuse, reportOf}
-use Rattle.model.specs.Listing.{digits, decimal, numberField, fields, line, endWord, planLine, holders, blockLine, lines, lastLine, listingOf, refusedLine, printedOf, printed, listingRoom, shortRoom, roomRefusal, wrote, listingCall, printCall}
-use Rattle.theory.specs.Accepted.{Valid}
-use Rattle.theory.specs.Trials.{plan-H}
-use Rattle.theory.specs.Listing.{listing-H, listing-empty, ListingLaws}
-use Rattle.theory.proofs.Accepted.{refusal-zero, count-in, block-in, judge-refused, judge-accepted}
-use Rattle.theory.proofs.Shares.{share-bound, count-range}
-use Rattle.theory.proofs.Counts.{chosen-laws}
-use Rattle.theory.proofs.Bits.{bit-le}
-use Rattle.theory.proofs.FirstPlacement.{first-feasible, machines-pos}
-use Rattle.theory.proofs.Runs.{run-laws, run-feasible}
-use Rattle.theory.proofs.Held.{share-held}
-use Rattle.theory.proofs.Outcomes.{onPlan-verdict, onPlan-made, unless-none, unless-some}
-use Rattle.theory.proofs.Trials.{figures, trials}
-use Rattle.theory.proofs.Lines.{field-length, line-length, fields-cons, fields-none, lines-length, holders-length}
+use Rattle.model.specs.Listing.{digits, decimal, numberField, fields, line, planLine, holders, blockLine, lines, endWord, lastLine, listingOf, refusedLine, printedOf, printed, listingRoom, shortRoom, roomRefusal, wrote, listingCall, printCall}
+use Rattle.theory.specs.Refusal.{Valid}
+use Rattle.theory.specs.Listing.{ListingFits}
+use Rattle.theory.proofs.Plan.{machines-pos}
+use Rattle.theory.proofs.Replication.{feasibleCounts-range}
+use Rattle.theory.proofs.Placement.{bit-le, bit-cases, bit-zero, bit-above-from, bit-take, shareOf-feasible}
+use Rattle.theory.proofs.PlacementFirst.{firstPlacement-feasible}
+use Rattle.theory.proofs.StepsNext.{run-laws, run-feasible}
+use Rattle.theory.proofs.Calls.{unless-none, unless-some, onPlan-verdict, onPlan-made}
 
--- the lines of a run
-runLines : Plan → Run → List ℕ
-runLines p r = planLine p ++ lines (blockCount p) (blockLine p (r .words)) ++ lastLine p r
+-- ── digits ───────────────────────────────────────────────────────────────────────────────────────
+digits-one : (n : ℕ) → n < 10 → (more : ℕ) → digits (suc more) n ≡ (48 + n) ∷ []
+unfolding digits
+digits-one n h more = rw (lt-ltb n 10 h, mod-eq-of-lt h)
 
--- plan H's first placement, at rest
-H-first : firstPlacement (planIn plan-H) ≡ 15 ∷ 5 ∷ 2 ∷ []
-unfolding firstPlacement planIn blockIn formatOf field upper chosen position laidWord firstWord need share sum table least plan-H
-H-first = rw (figures .H) refl
+digits-more : (more n : ℕ) → 10 ≤ n → digits (suc more) n ≡ digits more (n / 10) ++ (48 + n % 10) ∷ []
+unfolding digits
+digits-more more n h = rw (le-ltb n 10 h)
 
-H-lines : runLines (planIn plan-H) (run (planIn plan-H) 100_000 (15 ∷ 5 ∷ 2 ∷ [])) ≡ listing-H
-unfolding runLines lastLine planLine blockLine lines holders line fields numberField decimal digits reportOf maxLoad minLoad totalLoad maxShare planIn blockIn formatOf field upper minTotal shifted afterMove afterSwap after improves canMove canSwap pairs nextMove nextSwap nextStep run bit replicas replicasIn domainsUsed used allWithin allSpread allFit countsFeasible isFeasible shareOf load largest smallest share limit sum table allb firstUp plan-H listing-H
-H-lines = refl
+-- any bound above the number will do
+digits-bound : (a b n : ℕ) → n < a → n < b → digits a n ≡ digits b n
+digits-bound zero b n h l = absurd (not-suc-le-zero h)
+digits-bound (suc a) zero n h l = absurd (not-suc-le-zero l)
+digits-bound (suc a) (suc b) n h l = elim (decLt n 10) [
+  | yes small ↦ digits-one n small a ∙ sym (digits-one n small b)
+  | no large ↦
+      digits-more a n (omega arith)
+      ∙ ap (λ (s : List ℕ). s ++ (48 + n % 10) ∷ []) (digits-bound a b (n / 10) (omega arith) (omega arith))
+      ∙ sym (digits-more b n (omega arith))
+]
 
-H-printed : printed plan-H 100_000 ≡ listing-H
-unfolding printed printedOf listingOf runLines
-H-printed =
-    ap (λ (v : Verdict). printedOf v 100_000) (trials .H-accepted)
-    ∙ ap (λ (words : List ℕ). runLines (planIn plan-H) (run (planIn plan-H) 100_000 words)) H-first
-    ∙ H-lines
+-- ── decimal ──────────────────────────────────────────────────────────────────────────────────────
+pub decimal-one : (n : ℕ) → n < 10 → decimal n ≡ (48 + n) ∷ []
+unfolding decimal
+decimal-one n h = digits-one n h n
 
-empty-printed : (budget : ℕ) → printed [] budget ≡ listing-empty
-unfolding printed printedOf refusedLine line fields numberField decimal digits judge refusal check1 listing-empty
-empty-printed budget = refl
+pub decimal-more : (n : ℕ) → 10 ≤ n → decimal n ≡ decimal (n / 10) ++ (48 + n % 10) ∷ []
+unfolding decimal
+decimal-more n h =
+    digits-more n n h
+    ∙ ap (λ (s : List ℕ). s ++ (48 + n % 10) ∷ []) (digits-bound n (suc (n / 10)) (n / 10) (omega arith) (omega arith))
 
--- the listing of a plan whose shares fit 34 bits
-module _ (p : Plan) (valid : Valid p) (budget : ℕ) where
-  pub ran-feasible : Feasible p (chosen p) (run p budget (firstPlacement p) .words)
-  ran-feasible =
-      run-feasible p (chosen p) (firstPlacement p) (first-feasible p (valid .shaped) (chosen-laws p valid .feasible)) budget
+pub decimal-length : (k n : ℕ) → n < 10 ^ suc k → length (decimal n) ≤ suc k
+decimal-length zero n h = rw (decimal-one n h) (omega arith)
+decimal-length (suc k) n h = elim (decLt n 10) [
+  | yes small ↦ rw (decimal-one n small) (omega arith)
+  | no large ↦
+      let p = pow-suc 10 (suc k) in
+      let later = decimal-length k (n / 10) (omega arith) in
+      rw (decimal-more n (omega arith)) (simp length-append (omega arith))
+]
 
+-- ── numberField ──────────────────────────────────────────────────────────────────────────────────
+pub numberField-length : (k n : ℕ) → n < 10 ^ suc k → length (numberField n) ≤ suc (suc k)
+unfolding numberField
+numberField-length k n h = let l = decimal-length k n h in omega arith
+
+-- ── fields ───────────────────────────────────────────────────────────────────────────────────────
+pub fields-none : length (fields []) ≡ 0
+unfolding fields
+fields-none = refl
+
+pub fields-cons : (n : ℕ) (later : List ℕ) → length (fields (n ∷ later)) ≡ length (numberField n) + length (fields later)
+unfolding fields
+fields-cons n later = length-append (numberField n) (fields later)
+
+pub fields-append : (a b : List ℕ) → fields (a ++ b) ≡ fields a ++ fields b
+unfolding fields
+fields-append [] b = refl
+fields-append (n ∷ a) b =
+    ap (λ (s : List ℕ). numberField n ++ s) (fields-append a b) ∙ sym (append-assoc (numberField n) (fields a) (fields b))
+
+-- ── line ─────────────────────────────────────────────────────────────────────────────────────────
+pub line-length : (word numbers : List ℕ) → length (line word numbers) ≡ length word + length (fields numbers) + 1
+unfolding line
+line-length word numbers = simp length-append (omega arith)
+
+-- ── planLine ─────────────────────────────────────────────────────────────────────────────────────
+planLine-length : (p : Plan) → Valid p → length (planLine p) ≤ 32
+unfolding planLine
+planLine-length p valid =
+    let shaped = valid .shaped in
+    let racks : p .racks * 1 ≤ machines p = mul-le-mul-left (p .racks) (shaped .size-pos) in
+    let size : 1 * p .rackSize ≤ machines p = mul-le-mul-right (p .rackSize) (shaped .racks-pos) in
+    let a = numberField-length 1 (p .racks) (omega arith) in
+    let b = numberField-length 1 (p .rackSize) (omega arith) in
+    let c = numberField-length 3 (blockCount p) (omega arith) in
+    rw (line-length, fields-cons, fields-cons, fields-cons) (omega (arith, fields-none))
+
+-- ── holders ──────────────────────────────────────────────────────────────────────────────────────
+holders-suc : (word n : ℕ) → holders word (suc n) ≡ holders word n ++ cond (eqb (bit word n) 1) (n ∷ []) []
+unfolding holders
+holders-suc word n = refl
+
+-- one machine more: its field or nothing
+holders-step : (word n : ℕ) → n < 64 → length (fields (holders word n)) ≤ 3 * sum n (bit word)
+    → (bit word n ≡ 0) ⊎ (bit word n ≡ 1) → length (fields (holders word (suc n))) ≤ 3 * sum (suc n) (bit word)
+holders-step word n h before (inl off) = rw (holders-suc word n, off, append-nil) (omega (arith, sum-suc n (bit word)))
+holders-step word n h before (inr on) =
+    let own = numberField-length 1 n (omega arith) in
+    rw (holders-suc word n, on, fields-append)
+    (simp length-append (omega (arith, sum-suc n (bit word), fields-cons n [], fields-none)))
+
+pub holders-length : (word n : ℕ) → n ≤ 64 → length (fields (holders word n)) ≤ 3 * sum n (bit word)
+unfolding holders fields
+holders-length word zero h = omega arith
+holders-length word (suc n) h = holders-step word n h (holders-length word n (omega arith)) (bit-cases word n)
+
+holders-off : (word n : ℕ) → bit word n ≡ 0 → holders word (suc n) ≡ holders word n
+holders-off word n off = holders-suc word n ∙ (rw off (append-nil (holders word n)))
+
+-- no bit, no machine
+holders-none : (word n : ℕ) → ((k : ℕ) → k < n → bit word k ≡ 0) → holders word n ≡ []
+unfolding holders
+holders-none word zero off = refl
+holders-none word (suc n) off = holders-off word n (off n (omega arith)) ∙ holders-none word n (λ k l. off k (omega arith))
+
+pub holders-zero : (n : ℕ) → holders 0 n ≡ []
+holders-zero n = holders-none 0 n (λ k l. bit-zero k)
+
+-- the machines of a word below 2 ^ n are below n
+pub holders-past : (word n more : ℕ) → word < 2 ^ n → holders word (more + n) ≡ holders word n
+holders-past word n zero h = ap (holders word) (omega arith)
+holders-past word n (suc more) h =
+    ap (holders word) (omega arith)
+    ∙ holders-off word (more + n) (bit-above-from word n h (more + n) (omega arith))
+    ∙ holders-past word n more h
+
+-- the lowest set bit is the first machine, and the others are those of the word without it
+module _ (word m : ℕ) (on : bit word m ≡ 1) (first : (k : ℕ) → k < m → bit word k ≡ 0) where
+  rest-low : (k : ℕ) → k < suc m → bit (word - 2 ^ m) k ≡ 0
+  rest-low k l = elim (ℕ-discrete k m) [
+    | yes e ↦ rw e (omega (arith, bit-take word m on .1 m, delta-same m m refl))
+    | no d ↦ omega (arith, bit-take word m on .1 k, first k (omega arith))
+  ]
+
+  rest-high : (k : ℕ) → m < k → bit (word - 2 ^ m) k ≡ bit word k
+  rest-high k l = omega (arith, bit-take word m on .1 k, delta-other k m (λ e. omega arith))
+
+  pub holders-low : (n : ℕ) → m < n → holders word n ≡ m ∷ holders (word - 2 ^ m) n
+  holders-low zero l = absurd (not-suc-le-zero l)
+  holders-low (suc n) l = elim (ℕ-discrete n m) [
+    | yes e ↦
+        rw (e, holders-none (word - 2 ^ m) (suc m) rest-low)
+        (holders-suc word m ∙ (rw (on, holders-none word m first)))
+    | no d ↦
+        holders-suc word n
+        ∙ ap₂ (λ (s : List ℕ) (b : ℕ). s ++ cond (eqb b 1) (n ∷ []) []) (holders-low n (omega arith)) (sym (rest-high n (omega arith)))
+        ∙ ap (λ (s : List ℕ). m ∷ s) (sym (holders-suc (word - 2 ^ m) n))
+  ]
+
+-- ── blockLine ────────────────────────────────────────────────────────────────────────────────────
+-- of a placement whose shares fit 34 bits
 module _ (p : Plan) (valid : Valid p) (words : List ℕ) (feasible : Feasible p (chosen p) words)
     (narrow : (i : ℕ) → i < blockCount p → share (blockOf p i .popularity) (chosen p i) < 2 ^ 34) where
   share-narrow : (i : ℕ) → i < blockCount p → shareOf p words i < 2 ^ 34
-  share-narrow i l = rw (share-held p (chosen p) words feasible i l) at (narrow i l)
+  share-narrow i l = rw (shareOf-feasible p (chosen p) words feasible i l) at (narrow i l)
 
-  block-length : (i : ℕ) → i < blockCount p → length (blockLine p words i) ≤ 49
+  blockLine-length : (i : ℕ) → i < blockCount p → length (blockLine p words i) ≤ 49
   unfolding blockLine replicas
-  block-length i l =
+  blockLine-length i l =
       let few = valid .shaped .blocks-max in
       let machines-few = valid .shaped .machines-max in
-      let count = count-range p (chosen p) (valid .shaped) (feasible .counts) i l .1 in
+      let count = feasibleCounts-range p (chosen p) (valid .shaped) (feasible .counts) i l .1 in
       let counted = feasible .counted i l in
       let small = share-narrow i l in
       let held-on = holders-length (wordOf words i) (machines p) machines-few in
-      let a = field-length 3 i (omega arith) in
-      let b = field-length 0 (countOf p words i) (omega arith) in
-      let c = field-length 10 (shareOf p words i) (omega arith) in
+      let a = numberField-length 3 i (omega arith) in
+      let b = numberField-length 0 (countOf p words i) (omega arith) in
+      let c = numberField-length 10 (shareOf p words i) (omega arith) in
       rw (line-length, fields-cons, fields-cons, fields-cons) (omega arith)
 
-  load-bound : (m : ℕ) → load p words m ≤ 2 ^ 44
+-- ── lines ────────────────────────────────────────────────────────────────────────────────────────
+pub lines-zero : (f : ℕ → List ℕ) → lines 0 f ≡ []
+unfolding lines
+lines-zero f = refl
+
+pub lines-step : (n : ℕ) (f : ℕ → List ℕ) → lines (n + 1) f ≡ lines n f ++ f n
+unfolding lines
+lines-step n f = rw add-one
+
+pub lines-cong : (n : ℕ) (f g : ℕ → List ℕ) → ((i : ℕ) → i < n → f i ≡ g i) → lines n f ≡ lines n g
+unfolding lines
+lines-cong zero f g e = refl
+lines-cong (suc n) f g e = ap₂ _++_ (lines-cong n f g (λ i l. e i (omega arith))) (e n (omega arith))
+
+pub lines-length : (n c : ℕ) (f : ℕ → List ℕ) → ((i : ℕ) → i < n → length (f i) ≤ c) → length (lines n f) ≤ n * c
+unfolding lines
+lines-length zero c f h = omega arith
+lines-length (suc n) c f h =
+    let before = lines-length n c f (λ i l. h i (omega arith)) in
+    let here = h n (omega arith) in
+    simp length-append (omega (arith, before, here))
+
+-- the first lines are no longer than all of them
+pub lines-prefix : (n : ℕ) (f : ℕ → List ℕ) (i : ℕ) → i ≤ n → length (lines i f) ≤ length (lines n f)
+unfolding lines
+lines-prefix zero f i l = rw (le-zero l) (omega arith)
+lines-prefix (suc n) f i l = elim (ℕ-discrete i (suc n)) [
+  | yes e ↦ rw e (omega arith)
+  | no d ↦ let before = lines-prefix n f i (omega arith) in simp length-append (omega arith)
+]
+
+-- ── lastLine ─────────────────────────────────────────────────────────────────────────────────────
+module _ (p : Plan) (valid : Valid p) (words : List ℕ) (feasible : Feasible p (chosen p) words)
+    (narrow : (i : ℕ) → i < blockCount p → share (blockOf p i .popularity) (chosen p i) < 2 ^ 34) where
+  load-narrow : (m : ℕ) → load p words m ≤ 2 ^ 44
   unfolding load
-  load-bound m =
+  load-narrow m =
       let few = valid .shaped .blocks-max in
       let each : (i : ℕ) → i < blockCount p → held words m i * shareOf p words i ≤ 2 ^ 34 =
-      λ i l. omega (arith, mul-le-mul-right (shareOf p words i) (bit-le (wordOf words i) m), share-narrow i l)
+      λ i l. omega (arith, mul-le-mul-right (shareOf p words i) (bit-le (wordOf words i) m), share-narrow p valid words feasible narrow i l)
       in
       omega (arith, sum-mono (blockCount p) _ (λ i. 2 ^ 34) each, sum-const (blockCount p) (2 ^ 34))
 
-  max-bound : maxLoad p words ≤ 2 ^ 44
+  max-narrow : maxLoad p words ≤ 2 ^ 44
   unfolding maxLoad
-  max-bound = largest-le (machines p) (load p words) (2 ^ 44) (λ m l. load-bound m)
+  max-narrow = largest-le (machines p) (load p words) (2 ^ 44) (λ m l. load-narrow m)
 
-  min-bound : minLoad p words ≤ 2 ^ 44
+  min-narrow : minLoad p words ≤ 2 ^ 44
   unfolding minLoad
-  min-bound =
-      le-trans (smallest-term (machines p) (load p words) 0 (machines-pos p (valid .shaped))) (load-bound 0)
+  min-narrow =
+      le-trans (smallest-term (machines p) (load p words) 0 (machines-pos p (valid .shaped))) (load-narrow 0)
 
-  total-bound : totalLoad p words ≤ 2 ^ 50
+  total-narrow : totalLoad p words ≤ 2 ^ 50
   unfolding totalLoad
-  total-bound =
+  total-narrow =
       let few = valid .shaped .machines-max in
-      omega (arith, sum-mono (machines p) (load p words) (λ m. 2 ^ 44) (λ m l. load-bound m), sum-const (machines p) (2 ^ 44))
+      omega (arith, sum-mono (machines p) (load p words) (λ m. 2 ^ 44) (λ m l. load-narrow m), sum-const (machines p) (2 ^ 44))
 
-  top-bound : maxShare p words ≤ 2 ^ 34
+  top-narrow : maxShare p words ≤ 2 ^ 34
   unfolding maxShare
-  top-bound = largest-le (blockCount p) (shareOf p words) (2 ^ 34) (λ i l. omega (arith, share-narrow i l))
+  top-narrow = largest-le (blockCount p) (shareOf p words) (2 ^ 34) (λ i l. omega (arith, share-narrow p valid words feasible narrow i l))
 
-  last-length : (rested : Bool) (steps : ℕ) → steps < 2 ^ 32
+  lastLine-length : (rested : Bool) (steps : ℕ) → steps < 2 ^ 32
       → length (lastLine p (record { rested = rested; steps = steps; words = words })) ≤ 84
   unfolding lastLine reportOf
-  last-length rested steps h =
+  lastLine-length rested steps h =
       let word = end-length rested in
-      let a = field-length 9 steps (omega arith) in
-      let b = field-length 15 (maxLoad p words) (omega (arith, max-bound)) in
-      let c = field-length 15 (minLoad p words) (omega (arith, min-bound)) in
-      let d = field-length 15 (totalLoad p words) (omega (arith, total-bound)) in
-      let e = field-length 10 (maxShare p words) (omega (arith, top-bound)) in
+      let a = numberField-length 9 steps (omega arith) in
+      let b = numberField-length 15 (maxLoad p words) (omega (arith, max-narrow)) in
+      let c = numberField-length 15 (minLoad p words) (omega (arith, min-narrow)) in
+      let d = numberField-length 15 (totalLoad p words) (omega (arith, total-narrow)) in
+      let e = numberField-length 10 (maxShare p words) (omega (arith, top-narrow)) in
       rw (line-length, fields-cons, fields-cons, fields-cons, fields-cons, fields-cons) (omega (arith, fields-none))
     where
       end-length : (rested : Bool) → length (endWord rested) ≤ 5
       end-length true = omega arith
       end-length false = omega arith
 
-plan-length : (p : Plan) → Valid p → length (planLine p) ≤ 32
-unfolding planLine
-plan-length p valid =
-    let shaped = valid .shaped in
-    let racks : p .racks * 1 ≤ machines p = mul-le-mul-left (p .racks) (shaped .size-pos) in
-    let size : 1 * p .rackSize ≤ machines p = mul-le-mul-right (p .rackSize) (shaped .racks-pos) in
-    let a = field-length 1 (p .racks) (omega arith) in
-    let b = field-length 1 (p .rackSize) (omega arith) in
-    let c = field-length 3 (blockCount p) (omega arith) in
-    rw (line-length, fields-cons, fields-cons, fields-cons) (omega (arith, fields-none))
+-- ── listingOf ────────────────────────────────────────────────────────────────────────────────────
+-- the placement that is listed is lawful
+pub listingOf-feasible : (p : Plan) → Valid p → (budget : ℕ) → Feasible p (chosen p) (run p budget (firstPlacement p) .words)
+listingOf-feasible p valid budget = run-feasible p (chosen p) (firstPlacement p) (firstPlacement-feasible p valid) budget
 
-pub listing-fits : (p : Plan) → Valid p
-    → ((i : ℕ) → i < blockCount p → share (blockOf p i .popularity) (chosen p i) < 2 ^ 34)
-    → (budget : ℕ) → budget < 2 ^ 32 → length (listingOf p budget) ≤ listingRoom
+pub listingOf-fits : ListingFits
 unfolding listingOf
-listing-fits p valid narrow budget h =
+listingOf-fits p valid narrow budget h =
     let r = run p budget (firstPlacement p) in
-    let feasible = ran-feasible p valid budget in
+    let feasible = listingOf-feasible p valid budget in
     let few = valid .shaped .blocks-max in
     let within = run-laws p budget (firstPlacement p) .within in
-    let first = plan-length p valid in
-    let blocks = lines-length (blockCount p) 49 (blockLine p (r .words)) (block-length p valid (r .words) feasible narrow) in
-    let last = last-length p valid (r .words) feasible narrow (r .rested) (r .steps) (omega arith) in
+    let first = planLine-length p valid in
+    let blocks = lines-length (blockCount p) 49 (blockLine p (r .words)) (blockLine-length p valid (r .words) feasible narrow) in
+    let last = lastLine-length p valid (r .words) feasible narrow (r .rested) (r .steps) (omega arith) in
     simp length-append (omega arith)
 
-pub refused-length : (code : ℕ) → code < 256 → length (refusedLine code) ≤ 12
+-- ── refusedLine ──────────────────────────────────────────────────────────────────────────────────
+pub refusedLine-length : (code : ℕ) → code < 256 → length (refusedLine code) ≤ 12
 unfolding refusedLine
-refused-length code h =
-    let a = field-length 2 code (omega arith) in
+refusedLine-length code h =
+    let a = numberField-length 2 code (omega arith) in
     rw (line-length, fields-cons) (omega (arith, fields-none))
 
--- a refusal's number is at most 11
-refuse-max : (t : Bool) (code later : ℕ) → code ≤ 11 → later ≤ 11 → refuseIf t code later ≤ 11
-refuse-max true code later h l = h
-refuse-max false code later h l = l
-
-or-max : (code later : ℕ) → code ≤ 11 → later ≤ 11 → orElse code later ≤ 11
-or-max zero later h l = l
-or-max (suc code) later h l = h
-
-cond-max : (t : Bool) (a b : ℕ) → a ≤ 11 → b ≤ 11 → cond t a b ≤ 11
-cond-max true a b h l = h
-cond-max false a b h l = l
-
-first-max : (f : ℕ → ℕ) → ((i : ℕ) → f i ≤ 11) → (n : ℕ) → firstUp isRefusal 0 f n ≤ 11
-unfolding firstUp
-first-max f h zero = omega arith
-first-max f h (suc n) =
-    cond-max (isRefusal (firstUp isRefusal 0 f n)) _ _ (first-max f h n) (cond-max (isRefusal (f n)) (f n) 0 (h n) (omega arith))
-
-block-max : (p : Plan) (i : ℕ) → blockRefusal p i ≤ 11
-unfolding blockRefusal check8 check9
-block-max p i =
-    let least = blockOf p i .minReplicas in
-    let spread = blockOf p i .minRacks in
-    refuse-max (eqb least 0 || ltb (upper p i) least) 8 _ (omega arith)
-    (refuse-max (eqb spread 0 || ltb least spread || ltb (domains p) spread) 9 0 (omega arith) (omega arith))
-
-plan-max : (p : Plan) → planRefusal p ≤ 11
-unfolding planRefusal blocksRefusal check10 check11
-plan-max p =
-    or-max _ _ (first-max (blockRefusal p) (block-max p) (blockCount p))
-    (refuse-max (ltb (p .budget) (minTotal p)) 10 _ (omega arith)
-    (refuse-max (ltb (machines p * p .capacity) (minTotal p)) 11 0 (omega arith) (omega arith)))
-
-refusal-max : (bytes : List ℕ) → refusal bytes ≤ 11
-unfolding refusal check1 check2 check3 check4 check5 check6 check7
-refusal-max bytes =
-    refuse-max (ltb (length bytes) commonLength) 1 _ (omega arith)
-    (refuse-max (not (eqb (markIn bytes) mark)) 2 _ (omega arith)
-    (refuse-max (not (eqb (versionIn bytes) 1)) 3 _ (omega arith)
-    (refuse-max (eqb (racksIn bytes) 0 || eqb (rackSizeIn bytes) 0 || ltb maxMachines (racksIn bytes * rackSizeIn bytes)) 4 _ (omega arith)
-    (refuse-max (eqb (capacityIn bytes) 0 || ltb maxCapacity (capacityIn bytes)) 5 _ (omega arith)
-    (refuse-max (ltb maxBlocks (blockCountIn bytes)) 6 _ (omega arith)
-    (refuse-max (not (eqb (length bytes) (recordAt (formatIn bytes) (blockCountIn bytes)))) 7 _ (omega arith)
-    (plan-max (planIn bytes))))))))
-
--- what is printed, by the verdict
+-- ── printed ──────────────────────────────────────────────────────────────────────────────────────
 module _ (bytes : List ℕ) (budget : ℕ) where
   pub printed-refused : (code : ℕ) → judge bytes ≡ refused code → printed bytes budget ≡ refusedLine code
   unfolding printed printedOf
@@ -215,66 +307,38 @@ module _ (bytes : List ℕ) (budget : ℕ) where
   unfolding printed printedOf
   printed-accepted p e = ap (λ (v : Verdict). printedOf v budget) e
 
--- a field of bytes
-field-bound : (bytes : List ℕ) → ((i : ℕ) → getD bytes i 0 < 256) → (at width : ℕ) → field bytes at width < 256 ^ width
-unfolding field
-field-bound bytes h at zero = omega arith
-field-bound bytes h at (suc width) =
-    let before = field-bound bytes h at width in
-    let p = pow-suc 256 width in
-    omega (arith, h (at + width))
-
-share-fits : (bytes : List ℕ) → ((i : ℕ) → getD bytes i 0 < 256) → (count : ℕ → ℕ) (i : ℕ) → i < blockCount (planIn bytes)
-    → share (blockOf (planIn bytes) i .popularity) (count i) < 2 ^ 34
-unfolding blockIn formatOf
-share-fits bytes h count i l =
-    rw (block-in bytes i (rw (count-in bytes) at l))
-    (share-bound _ (count i) (field-bound bytes h (recordAt (formatIn bytes) i) 3))
-
-pub listing-laws : ListingLaws
-listing-laws =
-    record {
-      H = H-printed;
-      empty = empty-printed;
-      fits = λ bytes h budget l. go bytes h budget l (refusal bytes) refl (refusal-max bytes);
-    }
-  where
-    go : (bytes : List ℕ) → ((i : ℕ) → getD bytes i 0 < 256) → (budget : ℕ) → budget < 2 ^ 32
-        → (code : ℕ) → refusal bytes ≡ code → code ≤ 11 → length (printed bytes budget) ≤ listingRoom
-    go bytes h budget l zero e m =
-        rw (printed-accepted bytes budget (planIn bytes) (judge-accepted bytes e))
-        (listing-fits (planIn bytes) (refusal-zero bytes e) (share-fits bytes h (chosen (planIn bytes))) budget l)
-    go bytes h budget l (suc code) e m =
-        rw (printed-refused bytes budget (suc code) (judge-refused bytes (suc code) e (omega arith)))
-        (omega (arith, refused-length (suc code) (omega arith)))
-
--- the calls' outcomes
-pub room-lacks : (lent : ℕ) → lent < listingRoom → roomRefusal lent ≡ shortRoom
+-- ── roomRefusal ──────────────────────────────────────────────────────────────────────────────────
+pub roomRefusal-short : (lent : ℕ) → lent < listingRoom → roomRefusal lent ≡ shortRoom
 unfolding roomRefusal
-room-lacks lent l = rw (lt-ltb lent listingRoom l)
+roomRefusal-short lent l = rw (lt-ltb lent listingRoom l)
 
-pub room-is : (lent : ℕ) → listingRoom ≤ lent → roomRefusal lent ≡ 0
+pub roomRefusal-enough : (lent : ℕ) → listingRoom ≤ lent → roomRefusal lent ≡ 0
 unfolding roomRefusal
-room-is lent l = rw (le-ltb lent listingRoom l)
+roomRefusal-enough lent l = rw (le-ltb lent listingRoom l)
 
+-- ── listingCall ──────────────────────────────────────────────────────────────────────────────────
 module _ (bytes text : List ℕ) (budget : ℕ) where
-  pub listing-short : length text < listingRoom → listingCall bytes budget text ≡ refuse shortRoom text
+  pub listingCall-short : length text < listingRoom → listingCall bytes budget text ≡ refuse shortRoom text
   unfolding listingCall
-  listing-short l = unless-some text shortRoom _ _ (room-lacks (length text) l) (omega arith)
+  listingCall-short l = unless-some text shortRoom _ _ (roomRefusal-short (length text) l) (omega arith)
 
-  pub listing-refused : (code : ℕ) → listingRoom ≤ length text → judge bytes ≡ refused code → listingCall bytes budget text ≡ refuse code text
+  pub listingCall-refused : (code : ℕ) → listingRoom ≤ length text → judge bytes ≡ refused code → listingCall bytes budget text ≡ refuse code text
   unfolding listingCall
-  listing-refused code l e = unless-none text _ _ (room-is (length text) l) ∙ onPlan-verdict text (λ p. 0) _ (judge bytes) code e
+  listingCall-refused code l e =
+      unless-none text _ _ (roomRefusal-enough (length text) l) ∙ onPlan-verdict text (λ p. 0) _ (judge bytes) code e
 
-  pub listing-made : (p : Plan) → listingRoom ≤ length text → judge bytes ≡ accepted p
+  pub listingCall-made : (p : Plan) → listingRoom ≤ length text → judge bytes ≡ accepted p
       → listingCall bytes budget text ≡ wrote (listingOf p budget) text
   unfolding listingCall
-  listing-made p l e = unless-none text _ _ (room-is (length text) l) ∙ onPlan-made text (λ p. 0) _ (judge bytes) p e refl
+  listingCall-made p l e =
+      unless-none text _ _ (roomRefusal-enough (length text) l) ∙ onPlan-made text (λ p. 0) _ (judge bytes) p e refl
 
-  pub print-short : length text < listingRoom → printCall bytes budget text ≡ refuse shortRoom text
+-- ── printCall ────────────────────────────────────────────────────────────────────────────────────
+module _ (bytes text : List ℕ) (budget : ℕ) where
+  pub printCall-short : length text < listingRoom → printCall bytes budget text ≡ refuse shortRoom text
   unfolding printCall
-  print-short l = unless-some text shortRoom _ _ (room-lacks (length text) l) (omega arith)
+  printCall-short l = unless-some text shortRoom _ _ (roomRefusal-short (length text) l) (omega arith)
 
-  pub print-made : listingRoom ≤ length text → printCall bytes budget text ≡ wrote (printed bytes budget) text
+  pub printCall-made : listingRoom ≤ length text → printCall bytes budget text ≡ wrote (printed bytes budget) text
   unfolding printCall
-  print-made l = unless-none text _ _ (room-is (length text) l)
+  printCall-made l = unless-none text _ _ (roomRefusal-enough (length text) l)

@@ -1,9 +1,7 @@
--- What is claimed of the model's definitions.
-pub mod Accepted
+-- What is claimed of the model's definitions, by the file of the definition.
+pub mod Refusal
 pub mod Widths
-pub mod Exact
-pub mod Counts
-pub mod Local
-pub mod Bounds
-pub mod Trials
+pub mod Replication
+pub mod Placement
+pub mod Steps
 pub mod Listing

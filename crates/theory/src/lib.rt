@@ -1,1 +1,1 @@
-// Theorems about the definitions of the model: statements in specs/, proofs in proofs/; no code.
+// Laws of the definitions of the model: statements in specs/, proofs in proofs/; no code.

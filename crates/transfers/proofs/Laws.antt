@@ -18,9 +18,10 @@ use Rattle.order.proofs.Extremes.{below-suc}
 use Rattle.model.specs.Plan.{Plan, machines, blockCount, blockOf}
 use Rattle.model.specs.Placement.{bit, wordOf, held, domainsUsed, used, shareOf}
 use Rattle.model.specs.Steps.{Step, none, move, swap, shifted, isStep, first, canMove, canSwap}
-use Rattle.theory.specs.Local.{Lowers, LocalMove}
-use Rattle.theory.proofs.Domains.{replicas-members, domains-shift-inside, domains-shift-pos}
-use Rattle.theory.proofs.LocalTests.{move-local, swap-local}
+use Rattle.theory.specs.Steps.{Lowers, LocalMove}
+use Rattle.theory.proofs.Placement.{replicasIn-members}
+use Rattle.theory.proofs.Steps.{domainsUsed-shift-inside, domainsUsed-shift-pos}
+use Rattle.theory.proofs.StepsLocal.{canMove-local, canSwap-local}
 use Rattle.cluster.specs.declared.Cluster.{Cluster}
 use Rattle.cluster.specs.Cluster.{machinesIn, ClusterOf}
 use Rattle.cluster.specs.Blocks.{shareIn, spreadIn, PlacementOf}
@@ -46,12 +47,12 @@ module _ (p : Plan) (c : Cluster) (pair : Pair) (word profile : ℕ)
       let same : pair .m / c .«rack_size» ≡ pair .n / c .«rack_size» =
       eqb-true _ _ (not-false _ (sym (asked .pair-in .across-is) ∙ inside))
       in
-      rw (domains-shift-inside p word (pair .m) (pair .n) m-lt n-lt (asked .holds) (asked .lacks) (rw (cluster-size p c (lies .cluster-of)) at same))
+      rw (domainsUsed-shift-inside p word (pair .m) (pair .n) m-lt n-lt (asked .holds) (asked .lacks) (rw (cluster-size p c (lies .cluster-of)) at same))
       (lies .enough)
 
   pub kept-one : spreadIn profile ≤ 1 → spreadIn profile ≤ domainsUsed p (shifted word (pair .m) (pair .n))
   kept-one low =
-      omega (arith, domains-shift-pos p word (pair .m) (pair .n) m-lt n-lt (asked .holds) (asked .lacks) (lies .cluster-of .valid .shaped))
+      omega (arith, domainsUsed-shift-pos p word (pair .m) (pair .n) m-lt n-lt (asked .holds) (asked .lacks) (lies .cluster-of .valid .shaped))
 
 -- the groups of bits are the racks
 pub groups-are : (p : Plan) (c : Cluster) (w : ℕ) → ClusterOf p c
@@ -59,7 +60,7 @@ pub groups-are : (p : Plan) (c : Cluster) (w : ℕ) → ClusterOf p c
 unfolding domainsUsed
 groups-are p c w of =
     rw (cluster-racks p c of, cluster-size p c of)
-    (sum-cong (p .racks) _ _ (λ d l. ap (min 1) (sym (replicas-members p w d l))))
+    (sum-cong (p .racks) _ _ (λ d l. ap (min 1) (sym (replicasIn-members p w d l))))
 
 -- ── PairAsked: the candidates, one after the other ─────────────────────────────────────────────────────────────────────
 
@@ -232,7 +233,7 @@ module _ (p : Plan) (count : ℕ → ℕ) (c : Cluster) (words profiles : List �
 
   module _ (i : ℕ) (il : i < c .blocks) where
     local-move : (canMove p words (pair .m) (pair .n) i ≡ true) ↔ LocalMove p words (pair .m) (pair .n) i
-    local-move = move-local p count words (scene .placement .feasible) (pair .m) (pair .n) i m-in n-in (in-plan i il)
+    local-move = canMove-local p count words (scene .placement .feasible) (pair .m) (pair .n) i m-in n-in (in-plan i il)
 
     -- the definition's move of a candidate, where n has room, told by the local test
     pub move-told : {r : Bool} → held words (pair .m) i ≡ 1 → held words (pair .n) i ≡ 0 → used p words (pair .n) < p .capacity
@@ -257,7 +258,7 @@ module _ (p : Plan) (count : ℕ → ℕ) (c : Cluster) (words profiles : List �
     pub swap-exchange : (j : ℕ) → j < c .blocks
         → (canSwap p words (pair .m) (pair .n) i j ≡ true) ↔ Exchange p words profiles pair i j
     swap-exchange j jl =
-        let local = swap-local p count words (scene .placement .feasible) (pair .m) (pair .n) i j m-in n-in (in-plan i il) (in-plan j jl) in
+        let local = canSwap-local p count words (scene .placement .feasible) (pair .m) (pair .n) i j m-in n-in (in-plan i il) (in-plan j jl) in
         let margin : Lowers p words (pair .m) (pair .n) (shareOf p words i) (shareOf p words j)
         ↔ InMargin (pair .margin) (shareIn (getD profiles i 0)) (shareIn (getD profiles j 0)) =
         rw (share-is i il, share-is j jl) (scene .margin-is _ _)

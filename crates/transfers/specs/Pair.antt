@@ -10,7 +10,7 @@ use Rattle.model.specs.Plan.{Plan, blockCount}
 use Rattle.model.specs.Placement.{bit, wordOf, held, domainsUsed, used}
 use Rattle.model.specs.Steps.{Step, none, move, swap, shifted, canMove, canSwap, first}
 use Rattle.theory.specs.Widths.{shareBound, loadBound}
-use Rattle.theory.specs.Local.{Lowers}
+use Rattle.theory.specs.Steps.{Lowers}
 use Rattle.cluster.specs.declared.Cluster.{Cluster}
 use Rattle.cluster.specs.Cluster.{machinesIn, InRange, ClusterOf}
 use Rattle.cluster.specs.Blocks.{shareIn, spreadIn, PlacementFits, PlacementOf}

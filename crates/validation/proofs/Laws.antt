@@ -17,10 +17,9 @@ use Rattle.model.specs.Refusal.{maxMachines}
 use Rattle.model.specs.Replication.{FeasibleCounts, chosen}
 use Rattle.model.specs.Placement.{bit, wordOf, replicas, domainsUsed, allWithin, allSpread, allFit}
 use Rattle.model.specs.Calls.{allCounted}
-use Rattle.theory.proofs.Bits.{bit-above-from}
-use Rattle.theory.proofs.Domains.{member, replicas-members}
-use Rattle.theory.proofs.FeasibleTests.{within-iff}
-use Rattle.theory.proofs.Counts.{chosen-laws}
+use Rattle.theory.proofs.Placement.{bit-above-from, replicasIn-members, allWithin-iff}
+use Rattle.theory.proofs.Plan.{member}
+use Rattle.theory.proofs.Replication.{chosen-laws}
 use Rattle.cluster.specs.declared.Cluster.{Cluster}
 use Rattle.cluster.specs.Cluster.{machinesIn, ClusterOf}
 use Rattle.cluster.specs.Blocks.{countIn, spreadIn, ProfilesOf}
@@ -48,7 +47,7 @@ bits-within n M w l h =
 -- the domains that a word lies in, by the members of each
 domains-members : (p : Plan) (w : ℕ) → domainsUsed p w ≡ sum (domains p) (λ d. min 1 (sum (p .rackSize) (λ x. bit w (member p d x))))
 unfolding domainsUsed
-domains-members p w = sum-cong (domains p) _ _ (λ d l. ap (min 1) (replicas-members p w d l))
+domains-members p w = sum-cong (domains p) _ _ (λ d l. ap (min 1) (replicasIn-members p w d l))
 
 -- row 13
 abbrev pub isWithin : List ℕ → ℕ → ℕ → Bool
@@ -87,7 +86,7 @@ module _ (p : Plan) (words : List ℕ) (c : Cluster) where
         (allb-cong (blockCount p) _ _
         (λ i l.
         ap₂ eqb
-        (bits-within maxMachines (machines p) (wordOf words i) (of .cluster .valid .shaped .machines-max) (within-iff p words .0 within i l))
+        (bits-within maxMachines (machines p) (wordOf words i) (of .cluster .valid .shaped .machines-max) (allWithin-iff p words .0 within i l))
         (profiles-count p (chosen p) c profiles of counts i (in-cluster i l))))
 
     pub spread-row : allb (c .blocks) (isSpread words profiles c) ≡ allSpread p words

@@ -3,7 +3,7 @@
 use borrow.Author.Needs.{needs}
 use mathlib.Core.Path.{_≡_, sym, _∙_}
 use native.Mathlib.Omega.{arith}
-use Rattle.theory.proofs.Outcomes.{callRefusal-refused}
+use Rattle.theory.proofs.Calls.{callRefusal-refused}
 use Rattle.plan.specs.Reading.{verdictOf}
 use Rattle.admission.proofs.Laws.{judge-some}
 use Rattle.admission.proofs.admit.Statement.{statement}

@@ -4,7 +4,8 @@ use borrow.Author.Needs.{needs}
 use mathlib.Core.Path.{_≡_, sym, _∙_}
 use native.Mathlib.Nat.{le-trans}
 use native.Mathlib.Omega.{arith}
-use Rattle.theory.proofs.Outcomes.{callRefusal-accepted, check12-short, check12-enough}
+use Rattle.theory.proofs.Calls.{callRefusal-accepted}
+use Rattle.theory.proofs.Refusal.{check12-short, check12-enough}
 use Rattle.cluster.proofs.Laws.{cluster-range, cluster-blocks}
 use Rattle.plan.proofs.Laws.{accepted-header}
 use Rattle.admission.proofs.admit_accepted.Statement.{statement}

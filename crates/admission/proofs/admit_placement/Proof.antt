@@ -5,8 +5,7 @@ use mathlib.Core.Path.{_≡_, sym, _∙_}
 use native.Mathlib.Nat.{pos-of-ne-zero}
 use native.Mathlib.Omega.{arith}
 use Rattle.model.specs.Calls.{placementRefusal}
-use Rattle.theory.proofs.Outcomes.{callRefusal-accepted}
-use Rattle.theory.proofs.Handed.{placement-feasible}
+use Rattle.theory.proofs.Calls.{callRefusal-accepted, placementRefusal-feasible}
 use Rattle.admission.proofs.Laws.{callRefusal-short, fits-of}
 use Rattle.admission.proofs.admit_placement.Statement.{statement}
 use Rattle.admission.proofs.admit_placement.Tie as tie
@@ -56,7 +55,7 @@ returns-2 c =
             placement =
                 record {
                   profiles-of = ready .prepared .profiles-of;
-                  feasible = placement-feasible _ (ready .prepared .profiles-of .cluster .valid) _ (sym code ∙ e);
+                  feasible = placementRefusal-feasible _ (ready .prepared .profiles-of .cluster .valid) _ (sym code ∙ e);
                 };
             loads-of = c .before .before .sum-words .ensures;
           };

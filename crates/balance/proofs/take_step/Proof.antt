@@ -1,14 +1,8 @@
 -- `balance::take_step` meets its contract: each variant is the model's step of its kind.
 -- Assumes nothing.
 use borrow.Author.Needs.{needs}
-use mathlib.Core.Path.{_≡_, ap, sym, _∙_}
-use mathlib.Core.List.{List}
-use Prim.Native.Nat.{ℕ}
-use denote.Ref.{now}
-use Rattle.model.specs.Steps.{after, afterMove, afterSwap}
+use Rattle.model.specs.Steps.{after}
 use Rattle.search.specs.Scene.{stepOf}
-use Rattle.search.specs.declared.Step.{Step}
-use Rattle.balance.proofs.Laws.{second-shift}
 use Rattle.balance.proofs.take_step.Statement.{statement}
 use Rattle.balance.proofs.take_step.Tie as tie
 
@@ -24,78 +18,52 @@ shift-word-requires c κs = rw (c .before .before .step .given .1) at (c .before
 enum-known-step-2 : tie.Need-enum-known-step-2
 enum-known-step-2 c = search needs
 
-shift-word-requires-2 : tie.Need-shift-word-requires-2
-shift-word-requires-2 c κs = (let both = rw (c .before .before .step2 .given .1) at (c .before .before .before .before .before .pre) in both .0)
-
-shift-word-requires-3 : tie.Need-shift-word-requires-3
-shift-word-requires-3 c κs =
-    let both = rw (c .before .before .before .before .before .before .step2 .given .1) at (c .before .before .before .before .before .before .before .before .before .pre) in
-    rw (c .before .before .before .shift-word2 .ensures) (second-shift _ _ _ _ _ (both .0) (both .1))
+exchange-words-requires : tie.Need-exchange-words-requires
+exchange-words-requires c κs = rw (c .before .before .step2 .given .1) at (c .before .before .before .before .before .pre)
 
 enum-known-step-3 : tie.Need-enum-known-step-3
 enum-known-step-3 c = search needs
 
-shift-word-requires-4 : tie.Need-shift-word-requires-4
-shift-word-requires-4 c κs = rw (c .before .before .step3 .given .1) at (c .before .before .before .before .before .pre)
+shift-word-requires-2 : tie.Need-shift-word-requires-2
+shift-word-requires-2 c κs = rw (c .before .before .step3 .given .1) at (c .before .before .before .before .before .pre)
 
 enum-known-step-4 : tie.Need-enum-known-step-4
 enum-known-step-4 c = search needs
 
-shift-word-requires-5 : tie.Need-shift-word-requires-5
-shift-word-requires-5 c κs = (let both = rw (c .before .before .step4 .given .1) at (c .before .before .before .before .before .pre) in both .0)
-
-shift-word-requires-6 : tie.Need-shift-word-requires-6
-shift-word-requires-6 c κs =
-    let both = rw (c .before .before .before .before .before .before .step4 .given .1) at (c .before .before .before .before .before .before .before .before .before .pre) in
-    rw (c .before .before .before .shift-word5 .ensures) (second-shift _ _ _ _ _ (both .0) (both .1))
+exchange-words-requires-2 : tie.Need-exchange-words-requires-2
+exchange-words-requires-2 c κs = rw (c .before .before .step4 .given .1) at (c .before .before .before .before .before .pre)
 
 returns : tie.Need-returns
 unfolding after stepOf
-returns c =
-    let words = now (c .before .before .before .args .words) in
-    sym (ap (λ (s : Step). after words (stepOf s)) (c .enum-told .given .1))
+returns c = rw (c .enum-told .given .1)
 
 same-length : tie.Need-same-length
 same-length c = search needs
 
 returns-2 : tie.Need-returns-2
 unfolding after stepOf
-returns-2 c =
-    let words = now (c .before .before .before .before .before .before .before .before .args .words) in
-    c .before .before .shift-word .ensures ∙ sym (ap (λ (s : Step). after words (stepOf s)) (c .before .before .before .before .before .step .given .1))
+returns-2 c = rw (c .before .before .before .before .before .step .given .1) (c .before .before .shift-word .ensures)
 
 same-length-2 : tie.Need-same-length-2
 same-length-2 c = search needs
 
 returns-3 : tie.Need-returns-3
-unfolding after afterSwap stepOf
-returns-3 c =
-    let words = now (c .before .before .before .before .before .before .before .before .before .before .before .before .args .words) in
-    let f = c .before .before .before .before .before .before .before .before .before .step2 .given .0 in
-    c .before .before .shift-word3 .ensures
-    ∙ ap (λ (w : List ℕ). afterMove w (f .1 .0) (f .0) (f .1 .1 .1 .0)) (c .before .before .before .before .before .before .shift-word2 .ensures)
-    ∙ sym (ap (λ (s : Step). after words (stepOf s)) (c .before .before .before .before .before .before .before .before .before .step2 .given .1))
+unfolding after stepOf
+returns-3 c = rw (c .before .before .before .before .before .step2 .given .1) (c .before .before .exchange-words .ensures)
 
 same-length-3 : tie.Need-same-length-3
 same-length-3 c = search needs
 
 returns-4 : tie.Need-returns-4
 unfolding after stepOf
-returns-4 c =
-    let words = now (c .before .before .before .before .before .before .before .before .args .words) in
-    c .before .before .shift-word4 .ensures ∙ sym (ap (λ (s : Step). after words (stepOf s)) (c .before .before .before .before .before .step3 .given .1))
+returns-4 c = rw (c .before .before .before .before .before .step3 .given .1) (c .before .before .shift-word2 .ensures)
 
 same-length-4 : tie.Need-same-length-4
 same-length-4 c = search needs
 
 returns-5 : tie.Need-returns-5
-unfolding after afterSwap stepOf
-returns-5 c =
-    let words = now (c .before .before .before .before .before .before .before .before .before .before .before .before .args .words) in
-    let f = c .before .before .before .before .before .before .before .before .before .step4 .given .0 in
-    c .before .before .shift-word6 .ensures
-    ∙ ap (λ (w : List ℕ). afterMove w (f .1 .0) (f .0) (f .1 .1 .1 .0)) (c .before .before .before .before .before .before .shift-word5 .ensures)
-    ∙ sym (ap (λ (s : Step). after words (stepOf s)) (c .before .before .before .before .before .before .before .before .before .step4 .given .1))
+unfolding after stepOf
+returns-5 c = rw (c .before .before .before .before .before .step4 .given .1) (c .before .before .exchange-words2 .ensures)
 
 pub take-step-spec : {M : Type 1} → statement M
 take-step-spec =
@@ -105,13 +73,11 @@ take-step-spec =
     enum-known-step
     shift-word-requires
     enum-known-step-2
-    shift-word-requires-2
-    shift-word-requires-3
+    exchange-words-requires
     enum-known-step-3
-    shift-word-requires-4
+    shift-word-requires-2
     enum-known-step-4
-    shift-word-requires-5
-    shift-word-requires-6
+    exchange-words-requires-2
     returns
     same-length
     returns-2

@@ -3,7 +3,7 @@
 use borrow.Author.Needs.{needs}
 use native.Mathlib.Omega.{arith}
 use Rattle.model.specs.Steps.{shifted}
-use Rattle.theory.proofs.Bits.{add-below, bit-take}
+use Rattle.theory.proofs.Placement.{bit-add-below, bit-take}
 use Rattle.bits.proofs.Laws.{one-shl}
 use Rattle.bits.proofs.shift_bit.Statement.{statement}
 use Rattle.bits.proofs.shift_bit.Tie as tie
@@ -14,7 +14,7 @@ shl-result c = search needs
 add-result : tie.Need-add-result
 add-result c =
     let n = c .args .n in
-    omega (arith, one-shl n (c .pre .1), add-below (c .args .word) 64 n (c .fits .word .fits) (c .pre .1) (c .pre .3))
+    omega (arith, one-shl n (c .pre .1), bit-add-below (c .args .word) 64 n (c .fits .word .fits) (c .pre .1) (c .pre .3))
 
 shl-result-2 : tie.Need-shl-result-2
 shl-result-2 c = search needs

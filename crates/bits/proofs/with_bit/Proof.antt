@@ -2,7 +2,7 @@
 -- Assumes nothing.
 use borrow.Author.Needs.{needs}
 use native.Mathlib.Omega.{arith}
-use Rattle.theory.proofs.Bits.{add-below}
+use Rattle.theory.proofs.Placement.{bit-add-below}
 use Rattle.bits.proofs.Laws.{one-shl}
 use Rattle.bits.proofs.with_bit.Statement.{statement}
 use Rattle.bits.proofs.with_bit.Tie as tie
@@ -13,7 +13,7 @@ shl-result c = search needs
 add-result : tie.Need-add-result
 add-result c =
     let m = c .args .m in
-    omega (arith, one-shl m (c .pre .0), add-below (c .args .word) 64 m (c .fits .word .fits) (c .pre .0) (c .pre .1))
+    omega (arith, one-shl m (c .pre .0), bit-add-below (c .args .word) 64 m (c .fits .word .fits) (c .pre .0) (c .pre .1))
 
 returns : tie.Need-returns
 returns c = rw (one-shl (c .args .m) (c .pre .0))

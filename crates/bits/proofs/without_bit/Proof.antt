@@ -2,7 +2,7 @@
 -- Assumes nothing.
 use borrow.Author.Needs.{needs}
 use native.Mathlib.Omega.{arith}
-use Rattle.theory.proofs.Bits.{bit-take}
+use Rattle.theory.proofs.Placement.{bit-take}
 use Rattle.bits.proofs.Laws.{one-shl}
 use Rattle.bits.proofs.without_bit.Statement.{statement}
 use Rattle.bits.proofs.without_bit.Tie as tie

@@ -20,10 +20,13 @@ field-at-requires-4 c κs = search needs
 field-at-requires-5 : tie.Need-field-at-requires-5
 field-at-requires-5 c κs = search needs
 
+field-at-requires-6 : tie.Need-field-at-requires-6
+field-at-requires-6 c κs = search needs
+
 returns : tie.Need-returns
 unfolding headerIn
 returns c =
-    let racks = c .before .before .before in
+    let racks = c .before .before .before .before in
     (cc, record { racks-narrow = racks .before .field-at .ensures .1; size-narrow = racks .field-at2 .ensures .1 })
 
 pub fields-spec : {M : Type 1} → statement M
@@ -35,4 +38,5 @@ fields-spec =
     field-at-requires-3
     field-at-requires-4
     field-at-requires-5
+    field-at-requires-6
     returns)

@@ -8,7 +8,7 @@ use denote.Ref.{now}
 use lib.ListN.{length}
 use Rattle.model.specs.Plan.{markIn, versionIn, racksIn, rackSizeIn, capacityIn, blockCountIn, Format, formatIn, recordAt}
 use Rattle.model.specs.Refusal.{orElse, maxCapacity, maxBlocks, check1, check2, check3, check4, check5, check6, check7, refusal}
-use Rattle.theory.proofs.Accepted.{orElse-some, check4-zero, check5-zero, check6-zero, check7-zero}
+use Rattle.theory.proofs.Refusal.{orElse-some, check4-zero, check5-zero, check6-zero, check7-zero}
 use Rattle.header.specs.Header.{headerIn}
 use Rattle.header.specs.declared.Header.{Header}
 use Rattle.header.proofs.read.Statement.{statement}

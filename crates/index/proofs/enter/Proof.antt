@@ -9,7 +9,7 @@ use lib.ListN.{length, getD, length-set}
 use lib.Pow.{pow-pos}
 use lib.Seq.{getD-set-other}
 use Rattle.model.specs.Refusal.{maxBlocks}
-use Rattle.theory.proofs.Bits.{bit-take}
+use Rattle.theory.proofs.Placement.{bit-take}
 use Rattle.bits.specs.Words.{Lowest}
 use Rattle.index.specs.Index.{indexLength, byNumber, byRank, keysAt, spot}
 use Rattle.index.proofs.Laws.{mark, spot-mark-other, Marking, marking-none, marking-same, marking-clear, marking-step, marking-done}

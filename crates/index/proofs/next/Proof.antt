@@ -8,7 +8,7 @@ use native.Mathlib.Omega.{arith}
 use borrow.Author.Needs.{needs}
 use denote.Ref.{now}
 use Rattle.model.specs.Placement.{bit}
-use Rattle.theory.proofs.Bits.{bit-zero}
+use Rattle.theory.proofs.Placement.{bit-zero}
 use Rattle.index.specs.Index.{spot}
 use Rattle.index.proofs.Laws.{next-passed, next-found, next-within}
 use Rattle.index.proofs.next.Statement.{statement}

@@ -10,7 +10,7 @@ use Rattle.order.proofs.Tables.{filled-none, filled-more}
 use Rattle.model.specs.Plan.{Plan, blockCount}
 use Rattle.model.specs.Replication.{chosen}
 use Rattle.model.specs.Placement.{firstWord}
-use Rattle.theory.proofs.Counts.{chosen-laws}
+use Rattle.theory.proofs.Replication.{chosen-laws}
 use Rattle.cluster.specs.Blocks.{ProfilesOf}
 use Rattle.cluster.proofs.Laws.{cluster-blocks, profiles-count}
 use Rattle.layout.proofs.Laws.{cursorFor, cursorFor-first, block-asked, block-laid}

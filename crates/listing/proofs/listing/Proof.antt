@@ -2,7 +2,7 @@
 -- Assumes nothing.
 use borrow.Author.Needs.{needs}
 use mathlib.Core.Path.{sym, _∙_}
-use Rattle.theory.proofs.Listing.{listing-short, listing-refused, listing-made}
+use Rattle.theory.proofs.Listing.{listingCall-short, listingCall-refused, listingCall-made}
 use Rattle.plan.specs.Reading.{verdictOf}
 use Rattle.listing.specs.Entries.{listingOutcome}
 use Rattle.listing.proofs.Laws.{listed-is}
@@ -11,7 +11,7 @@ use Rattle.listing.proofs.listing.Tie as tie
 
 returns : tie.Need-returns
 unfolding listingOutcome
-returns c = sym (listing-short _ _ _ (c .if1 .taken))
+returns c = sym (listingCall-short _ _ _ (c .if1 .taken))
 
 read-requires : tie.Need-read-requires
 read-requires c κs = search needs
@@ -33,7 +33,7 @@ unfolding listingOutcome verdictOf
 returns-2 c =
     let read = c .before .before .before in
     let refuses = rw (c .before .reading .given .1) at (read .read .ensures) in
-    sym (listing-refused _ _ _ _ (read .before .if1 .left) (sym refuses))
+    sym (listingCall-refused _ _ _ _ (read .before .if1 .left) (sym refuses))
 
 same-length : tie.Need-same-length
 same-length c = search needs
@@ -44,7 +44,7 @@ returns-3 c =
     let listed = c .before .before in
     let read = listed .before .before .before .before .before in
     let accepts = sym (rw (listed .before .before .before .reading2 .given .1) at (read .read .ensures)) in
-    listed-is _ _ _ _ (listed .list-accepted .ensures) ∙ sym (listing-made _ _ _ _ (read .before .if1 .left) accepts)
+    listed-is _ _ _ _ (listed .list-accepted .ensures) ∙ sym (listingCall-made _ _ _ _ (read .before .if1 .left) accepts)
 
 pub listing-spec : {M : Type 1} → statement M
 listing-spec =

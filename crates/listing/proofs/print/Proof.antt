@@ -6,7 +6,7 @@ use mathlib.Core.List.{List}
 use Prim.Native.Nat.{ℕ}
 use native.Mathlib.Omega.{arith}
 use Rattle.model.specs.Listing.{refusedLine, wrote}
-use Rattle.theory.proofs.Listing.{refused-length, printed-refused, printed-accepted, print-short, print-made}
+use Rattle.theory.proofs.Listing.{refusedLine-length, printed-refused, printed-accepted, printCall-short, printCall-made}
 use Rattle.plan.specs.Reading.{verdictOf}
 use Rattle.listing.specs.Rows.{readingCode}
 use Rattle.listing.specs.Entries.{listingOutcome}
@@ -16,7 +16,7 @@ use Rattle.listing.proofs.print.Tie as tie
 
 returns : tie.Need-returns
 unfolding listingOutcome
-returns c = sym (print-short _ _ _ (c .if1 .taken))
+returns c = sym (printCall-short _ _ _ (c .if1 .taken))
 
 read-requires : tie.Need-read-requires
 read-requires c κs = search needs
@@ -43,7 +43,7 @@ put-line-requires : tie.Need-put-line-requires
 unfolding refusedLine
 put-line-requires c κs =
     let code = c .before .before .before in
-    let short = refused-length (code .refusal-code .result) (omega (arith, code .refusal-code .ok)) in
+    let short = refusedLine-length (code .refusal-code .result) (omega (arith, code .refusal-code .ok)) in
     let long = code .before .before .before .before .if1 .left in
     record { room = record { fits = omega arith }; numbers-max = omega arith }
 
@@ -62,7 +62,7 @@ returns-2 c =
     listed-is _ _ _ _ (put .put-line .ensures)
     ∙ ap (λ (n : ℕ). wrote (refusedLine n) (read .before .before .before .before .args .text .now)) (same ∙ ap readingCode (told .1))
     ∙ ap (λ (out : List ℕ). wrote out (read .before .before .before .before .args .text .now)) (sym (printed-refused _ _ _ refuses))
-    ∙ sym (print-made _ _ _ (read .before .if1 .left))
+    ∙ sym (printCall-made _ _ _ (read .before .if1 .left))
 
 list-accepted-requires : tie.Need-list-accepted-requires
 unfolding verdictOf
@@ -81,7 +81,7 @@ returns-3 c =
     let accepts = sym (rw (listed .before .before .before .reading .given .1) at (read .read .ensures)) in
     listed-is _ _ _ _ (listed .list-accepted .ensures)
     ∙ ap (λ (out : List ℕ). wrote out (read .before .before .before .before .args .text .now)) (sym (printed-accepted _ _ _ accepts))
-    ∙ sym (print-made _ _ _ (read .before .if1 .left))
+    ∙ sym (printCall-made _ _ _ (read .before .if1 .left))
 
 pub print-spec : {M : Type 1} → statement M
 print-spec =

@@ -5,7 +5,7 @@ use Prim.Native.Nat.{_-_, _≤_}
 use native.Mathlib.Omega.{arith}
 use lib.ListN.{length}
 use Rattle.model.specs.Listing.{lines}
-use Rattle.theory.proofs.Lines.{lines-zero}
+use Rattle.theory.proofs.Listing.{lines-zero}
 use Rattle.text.specs.Pasted.{Put}
 use Rattle.text.proofs.Laws.{put-none}
 use Rattle.listing.specs.Rows.{rowAt}

@@ -8,7 +8,7 @@ use lib.ListN.{length}
 use lib.Pow.{pow-pos}
 use Rattle.model.specs.Refusal.{maxMachines}
 use Rattle.model.specs.Listing.{numberField, fields, holders}
-use Rattle.theory.proofs.Bits.{bit-take}
+use Rattle.theory.proofs.Placement.{bit-take}
 use Rattle.text.specs.Pasted.{Put}
 use Rattle.text.proofs.Laws.{put-none}
 use Rattle.listing.proofs.Laws.{holder-parts, holder-room, holder-put, holders-done}

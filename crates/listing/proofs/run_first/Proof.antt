@@ -4,7 +4,7 @@ use borrow.Author.Needs.{needs}
 use mathlib.Core.Path.{_≡_, refl, ap, ap₂, sym, _∙_}
 use native.Mathlib.Nat.{le-of-eq}
 use Rattle.model.specs.Steps.{run}
-use Rattle.theory.proofs.Held.{top-held}
+use Rattle.theory.proofs.Placement.{maxShare-feasible}
 use Rattle.loads.proofs.Laws.{loads-narrow}
 use Rattle.loads.proofs.PlanLoads.{report-max, report-min, report-total}
 use Rattle.listing.proofs.Laws.{first-placement, run-placement}
@@ -58,7 +58,7 @@ returns c =
       max-is = report-max _ _ _ _ _ _ _ placement loads (c .report .ensures);
       min-is = report-min _ _ _ _ _ _ _ placement loads (c .report .ensures);
       total-is = report-total _ _ _ _ _ _ _ placement loads (c .report .ensures);
-      top-is = prepared .top-is ∙ top-held _ _ _ (placement .feasible);
+      top-is = prepared .top-is ∙ maxShare-feasible _ _ _ (placement .feasible);
     }
 
 pub run-first-spec : {M : Type 1} → statement M

@@ -3,7 +3,7 @@
 use mathlib.Core.Path.{sym, _∙_}
 use native.Mathlib.Omega.{arith}
 use lib.Pow.{pow-pos}
-use Rattle.theory.proofs.Bits.{bit-take}
+use Rattle.theory.proofs.Placement.{bit-take}
 use Rattle.loads.proofs.Adding.{Owing, owing-none, owing-step, owing-ungrown, added-to}
 use Rattle.loads.proofs.add_word.Statement.{statement}
 use Rattle.loads.proofs.add_word.Tie as tie

@@ -13,7 +13,7 @@ use Rattle.order.specs.Table.{filled}
 use Rattle.order.proofs.Tables.{filled-none, filled-more}
 use Rattle.model.specs.Plan.{Plan, blockOf}
 use Rattle.theory.specs.Widths.{popularityBound}
-use Rattle.theory.proofs.Shares.{upper-max}
+use Rattle.theory.proofs.Plan.{upper-max}
 use Rattle.cluster.specs.declared.Cluster.{Cluster}
 use Rattle.cluster.specs.Blocks.{demandOf, DemandInRange, DemandsFit, DemandsOf}
 use Rattle.cluster.proofs.Laws.{cluster-range, cluster-block, demandOf-popularity, demandOf-least, demandOf-most}

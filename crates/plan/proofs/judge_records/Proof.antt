@@ -8,7 +8,7 @@ use borrow.Author.Needs.{needs}
 use borrow.Author.Tests.{lt-ltb, le-ltb}
 use denote.Ref.{now}
 use Rattle.model.specs.Refusal.{maxMachines, maxCapacity, check10, check11, refusal, accepted}
-use Rattle.theory.proofs.Accepted.{judge-refused, judge-accepted}
+use Rattle.theory.proofs.Refusal.{judge-refused, judge-accepted}
 use Rattle.cluster.specs.Cluster.{machinesIn}
 use Rattle.plan.specs.Reading.{verdictOf}
 use Rattle.plan.proofs.Laws.{planOf-in, refusal-fault, refusal-sums}

@@ -3,7 +3,7 @@
 use borrow.Author.Needs.{needs}
 use mathlib.Core.Path.{sym}
 use Rattle.plan.specs.Reading.{verdictOf}
-use Rattle.theory.proofs.Accepted.{judge-refused}
+use Rattle.theory.proofs.Refusal.{judge-refused}
 use Rattle.plan.proofs.read.Statement.{statement}
 use Rattle.plan.proofs.read.Tie as tie
 

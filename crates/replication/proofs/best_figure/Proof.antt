@@ -9,9 +9,9 @@ use native.Mathlib.Omega.{arith}
 use Rattle.order.proofs.Booleans.{bool-cases, no-contradiction}
 use Rattle.model.specs.Plan.{Plan, blockOf}
 use Rattle.model.specs.Replication.{reachable}
-use Rattle.theory.specs.Accepted.{Valid}
+use Rattle.theory.specs.Refusal.{Valid}
 use Rattle.theory.specs.Widths.{shareBound}
-use Rattle.theory.proofs.Counts.{reachable-mono, figure-by-bisection, feasible-reachable, min-feasible}
+use Rattle.theory.proofs.Replication.{reachable-mono, figure-by-bisection, reachable-counts, feasibleCounts-least}
 use Rattle.replication.specs.Choice.{LimitedDemands}
 use Rattle.replication.proofs.best_figure.Statement.{statement}
 use Rattle.replication.proofs.best_figure.Tie as tie
@@ -43,7 +43,7 @@ loop-holds c = (
   c .top-share .ensures .1,
   λ p of.
       let valid = of .demands-of .cluster .valid in
-      feasible-reachable p valid _ (λ i. blockOf p i .minReplicas) (min-feasible p valid)
+      reachable-counts p valid _ (λ i. blockOf p i .minReplicas) (feasibleCounts-least p valid)
       (le-of-eq (sym (c .top-share .ensures .0 p (of .demands-of)))),
   λ p of f l. absurd (omega arith),
 )

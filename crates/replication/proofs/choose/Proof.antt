@@ -2,7 +2,7 @@
 -- Assumes nothing.
 use borrow.Author.Needs.{needs}
 use mathlib.Core.Path.{sym, _∙_}
-use Rattle.theory.proofs.Counts.{chosen-laws}
+use Rattle.theory.proofs.Replication.{chosen-laws}
 use Rattle.replication.proofs.choose.Statement.{statement}
 use Rattle.replication.proofs.choose.Tie as tie
 

@@ -10,8 +10,7 @@ use Rattle.order.specs.Table.{filled}
 use Rattle.order.proofs.Tables.{filled-none, filled-more, getD-filled}
 use Rattle.model.specs.Plan.{Plan, maxReplicas, blockCount, blockOf}
 use Rattle.model.specs.Replication.{share, figure, need, chosen}
-use Rattle.theory.proofs.Shares.{share-whole, count-range}
-use Rattle.theory.proofs.Counts.{chosen-laws}
+use Rattle.theory.proofs.Replication.{share-whole, feasibleCounts-range, chosen-laws}
 use Rattle.cluster.specs.declared.Cluster.{Cluster}
 use Rattle.cluster.specs.Blocks.{profileOf, DemandsFit, DemandsOf, ProfilesFit}
 use Rattle.cluster.proofs.Laws.{cluster-blocks, cluster-block, demands-popularity, demands-spread, profileOf-share}
@@ -32,7 +31,7 @@ chosen-range : (p : Plan) (c : Cluster) (demands : List ℕ) → DemandsOf p c d
     → (1 ≤ chosen p i) × (chosen p i ≤ maxReplicas)
 chosen-range p c demands of i l =
     let valid = of .cluster .valid in
-    count-range p (chosen p) (valid .shaped) (chosen-laws p valid .feasible) i (rw (cluster-blocks p c (of .cluster)) at l)
+    feasibleCounts-range p (chosen p) (valid .shaped) (chosen-laws p valid .feasible) i (rw (cluster-blocks p c (of .cluster)) at l)
 
 -- the count found is the block's chosen count
 module _ (c : tie.After-needed Inv-loop μ-loop) where

@@ -7,10 +7,9 @@ use native.Mathlib.Omega.{arith}
 use borrow.Author.Count.{below-more}
 use Rattle.model.specs.Plan.{Plan, maxReplicas}
 use Rattle.model.specs.Replication.{share, need}
-use Rattle.theory.specs.Accepted.{ValidBlock}
+use Rattle.theory.specs.Refusal.{ValidBlock}
 use Rattle.theory.specs.Widths.{shareBound}
-use Rattle.theory.proofs.Shares.{share-within}
-use Rattle.theory.proofs.Counts.{need-is, need-past}
+use Rattle.theory.proofs.Replication.{share-within, need-is, need-past}
 use Rattle.cluster.specs.Blocks.{popularityIn, leastIn, mostIn, demandOf}
 use Rattle.cluster.proofs.Laws.{demandOf-popularity, demandOf-least, demandOf-most}
 use Rattle.replication.proofs.needed.Statement.{statement}

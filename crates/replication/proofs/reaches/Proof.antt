@@ -12,7 +12,7 @@ use Rattle.order.proofs.Booleans.{bool-cases}
 use Rattle.order.proofs.Sums.{sum-zero, sum-step, sum-prefix}
 use Rattle.model.specs.Plan.{Plan, maxReplicas, blockCount, upper}
 use Rattle.model.specs.Replication.{need, reachable, limit as limitOf}
-use Rattle.theory.proofs.Counts.{reachable-parts}
+use Rattle.theory.proofs.Replication.{reachable-parts}
 use Rattle.cluster.proofs.Laws.{cluster-blocks, cluster-block, demands-most}
 use Rattle.replication.specs.Choice.{LimitedDemands}
 use Rattle.replication.proofs.reaches.Statement.{statement}

@@ -14,7 +14,7 @@ use Rattle.order.proofs.Extremes.{allb-at}
 use Rattle.model.specs.Plan.{maxReplicas}
 use Rattle.model.specs.Replication.{unit, share}
 use Rattle.theory.specs.Widths.{popularityBound, shareBound}
-use Rattle.theory.proofs.Shares.{quotient-share, share-whole}
+use Rattle.theory.proofs.Replication.{share-quotient, share-whole}
 use Rattle.replication.proofs.share_at.Statement.{statement}
 use Rattle.replication.proofs.share_at.Tie as tie
 
@@ -37,7 +37,7 @@ quotient-is k low high =
 product-is : (P k : ℕ) → P < popularityBound → 1 ≤ k → k ≤ maxReplicas
     → (P * getD quotients (k - 1) 0 ≡ share P k) × (P * getD quotients (k - 1) 0 < shareBound)
 product-is P k narrow low high =
-    let e = ap (λ (q : ℕ). P * q) (quotient-is k low high) ∙ quotient-share P k low high in
+    let e = ap (λ (q : ℕ). P * q) (quotient-is k low high) ∙ share-quotient P k low high in
     (e, rw e (omega (arith, share-whole P k)))
 
 sub-result : tie.Need-sub-result

@@ -17,7 +17,7 @@ use lib.Pow.{pow-pos}
 use Rattle.order.proofs.Sums.{delta-same, delta-other}
 use Rattle.order.proofs.Booleans.{no-contradiction}
 use Rattle.model.specs.Placement.{bit}
-use Rattle.theory.proofs.Bits.{bit-le, bit-take, bit-zero}
+use Rattle.theory.proofs.Placement.{bit-le, bit-take, bit-zero}
 use Rattle.bits.specs.Words.{Lowest}
 use Rattle.ranking.specs.Ranks.{keyShare}
 use Rattle.index.specs.Index.{keysAt}

@@ -17,7 +17,7 @@ unfolding stepOf hitOf
 returns c =
     record {
       is = rw (c .before .before .hit .given .1, c .if1 .taken);
-      sound = λ words racks size blocks h. rw (c .before .before .hit .given .1) at h;
+      sound = λ cluster words h. rw (c .before .before .hit .given .1) at h;
     }
 
 enum-known-hit-2 : tie.Need-enum-known-hit-2
@@ -28,20 +28,20 @@ unfolding stepOf hitOf
 returns-2 c =
     record {
       is = rw (c .before .before .hit2 .given .1, c .if2 .taken);
-      sound = λ words racks size blocks h. rw (c .before .before .hit2 .given .1) at h;
+      sound = λ cluster words h. rw (c .before .before .hit2 .given .1) at h;
     }
 
 returns-3 : tie.Need-returns-3
 unfolding stepOf hitOf
 returns-3 c =
-    record { is = rw (c .enum-told .given .1); sound = λ words racks size blocks h. tt }
+    record { is = rw (c .enum-told .given .1); sound = λ cluster words h. tt }
 
 returns-4 : tie.Need-returns-4
 unfolding stepOf hitOf
 returns-4 c =
     record {
       is = rw (c .before .before .hit .given .1, c .if1 .left);
-      sound = λ words racks size blocks h. rw (c .before .before .hit .given .1) at h;
+      sound = λ cluster words h. rw (c .before .before .hit .given .1) at h;
     }
 
 returns-5 : tie.Need-returns-5
@@ -49,7 +49,7 @@ unfolding stepOf hitOf
 returns-5 c =
     record {
       is = rw (c .before .before .hit2 .given .1, c .if2 .left);
-      sound = λ words racks size blocks h. rw (c .before .before .hit2 .given .1) at h;
+      sound = λ cluster words h. rw (c .before .before .hit2 .given .1) at h;
     }
 
 pub as-step-spec : {M : Type 1} → statement M

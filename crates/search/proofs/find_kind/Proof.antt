@@ -1,95 +1,65 @@
 -- `search::find_kind` meets its contract. The loop's invariant: the definition finds nothing from the machines passed.
 -- Assumes nothing.
-use mathlib.Core.Path.{_≡_, refl, ap, sym, _∙_}
-use mathlib.Core.Bool.{false}
-use Prim.Native.Nat.{ℕ, _*_, _-_, _<_, _≤_}
+use mathlib.Core.Path.{_≡_, refl, _∙_}
+use Prim.Native.Nat.{_-_}
 use native.Mathlib.Nat.{div-add-mod'}
 use native.Mathlib.Omega.{arith}
 use borrow.Author.Needs.{needs}
-use borrow.Author.Count.{below-more}
-use denote.Ref.{now}
-use Rattle.model.specs.Plan.{Plan, machines}
-use Rattle.model.specs.Steps.{isStep}
-use Rattle.transfers.specs.Pair.{hitOf}
-use Rattle.transfers.proofs.Searches.{step-found, none-found}
-use Rattle.search.specs.Scene.{SceneOf, isExchange, isAcross, rowOf, kindOf}
-use Rattle.search.proofs.Laws.{in-plan, of-plan}
+use Rattle.cluster.specs.Cluster.{machinesIn}
+use Rattle.search.specs.Scene.{isExchange, isAcross, rowOf, kindStep}
+use Rattle.search.proofs.Loops.{Passed, passed-first, passed-more, passed-found, passed-all}
 use Rattle.search.proofs.find_kind.Statement.{statement}
 use Rattle.search.proofs.find_kind.Tie as tie
 
 abbrev Inv-loop : tie.InvT-loop
-Inv-loop words shares spreads on by keys loads used grid kind swapping across size machines m₀ m =
-    (m ≤ grid .racks * grid .size)
-    × ((k : ℕ) → k < m → (p : Plan) → SceneOf p words shares spreads loads used (grid .racks) (grid .size) (grid .capacity) (grid .blocks)
-    → isStep (rowOf p words (isExchange kind) (isAcross kind) k) ≡ false)
+Inv-loop words profiles index loads copies cluster kind swapping across size machines m₀ m =
+    Passed cluster words profiles (λ p. rowOf p words (isExchange kind) (isAcross kind)) m
 
 abbrev μ-loop : tie.MeasureT-loop
-μ-loop words shares spreads on by keys loads used grid kind swapping across size machines m₀ m = grid .racks * grid .size - m
+μ-loop words profiles index loads copies cluster kind swapping across size machines m₀ m = machinesIn cluster - m
 
-mul-machines : tie.Need-mul-machines Inv-loop μ-loop
-mul-machines c = omega arith
+machines-requires : tie.Need-machines-requires Inv-loop μ-loop
+machines-requires c κs = c .before .before .before .before .before .pre .fits .profiles-fit .in-range
 
 loop-holds : tie.Need-loop-holds Inv-loop μ-loop
-loop-holds c = (omega arith, λ k l. absurd (omega arith))
+loop-holds c = passed-first
 
 div-low : tie.Need-div-low Inv-loop μ-loop
-div-low c = omega arith
+div-low c = omega (arith, c .before .before .before .before .before .before .before .before .pre .fits .profiles-fit .in-range .size-pos)
 
 mul-low : tie.Need-mul-low Inv-loop μ-loop
-mul-low c =
-    let at = c .before in
-    let a = at .before .before .before .before .before .before .before .before .before .before .args in
-    omega (arith, div-add-mod' (at .loop .m) (a .grid .size))
+mul-low c = omega (arith, c .loop-test .taken, c .before .before .machines .ensures, div-add-mod' (c .before .loop .m) (c .before .before .before .before .before .before .before .before .args .cluster .«rack_size»))
 
 find-row-requires : tie.Need-find-row-requires Inv-loop μ-loop
 find-row-requires c κs =
-    let start = c .before .before .before .before .before .before .before .before .before .before .before in
-    record { all = start .pre; m-below = c .loop-test .taken; low-is = refl }
+    record {
+      all = c .before .before .before .before .before .before .before .before .pre;
+      row-in = record { m-below = omega (arith, c .before .before .machines .ensures, c .loop-test .taken); low-is = refl };
+    }
 
 is-found-requires : tie.Need-is-found-requires Inv-loop μ-loop
 is-found-requires c κs = search needs
 
 returns : tie.Need-returns Inv-loop μ-loop
-unfolding kindOf
+unfolding kindStep
 returns c =
-    let at = c .before .before .before .before in
-    let a = at .before .before .before .before .before .before .before .before .before .before .args in
-    let found = c .before .before .find-row in
-    record {
-      sound = found .ensures .sound;
-      is = λ p scene.
-          sym (step-found (machines p) (at .loop .m) (rowOf p (now (a .words)) (isExchange (a .kind)) (isAcross (a .kind))) (hitOf (isAcross (a .kind)) (found .result))
-          (in-plan p (now (a .words)) _ _ _ _ _ _ _ _ scene (at .loop .m) (c .before .before .before .loop-test .taken))
-          (λ k l. at .loop .inv .1 k l p scene) (sym (found .ensures .is p scene)) (c .before .is-found .ensures (isAcross (a .kind)) ∙ c .if1 .taken));
-    }
+    passed-found (c .before .before .before .before .loop .inv) (omega (arith, c .before .before .before .before .before .machines .ensures, c .before .before .before .loop-test .taken)) (c .before .before .find-row .ensures)
+    (c .before .is-found .ensures _ ∙ c .if1 .taken)
 
 add-m : tie.Need-add-m Inv-loop μ-loop
-add-m c = omega arith
+add-m c = omega (arith, c .before .before .before .loop-test .taken)
 
 loop-less : tie.Need-loop-less Inv-loop μ-loop
-loop-less c = omega arith
+loop-less c = omega (arith, c .before .before .before .before .before .machines .ensures, c .before .before .before .loop-test .taken)
 
 loop-again : tie.Need-loop-again Inv-loop μ-loop
 loop-again c =
-    let at = c .before .before .before .before in
-    let a = at .before .before .before .before .before .before .before .before .before .before .args in
-    let found = c .before .before .find-row in (
-      omega arith,
-      below-more _ (at .loop .m) (at .loop .inv .1)
-          (λ p scene. ap isStep (sym (found .ensures .is p scene)) ∙ c .before .is-found .ensures (isAcross (a .kind)) ∙ c .if1 .left),
-    )
+    passed-more (c .before .before .before .before .loop .inv) (omega (arith, c .before .before .before .before .before .machines .ensures, c .before .before .before .loop-test .taken)) (c .before .before .find-row .ensures)
+    (c .before .is-found .ensures _ ∙ c .if1 .left)
 
 returns-2 : tie.Need-returns-2 Inv-loop μ-loop
-unfolding hitOf kindOf
-returns-2 c =
-    let at = c .before in
-    let a = at .before .before .before .before .before .before .before .before .before .before .args in
-    record {
-      sound = tt;
-      is = λ p scene.
-          sym (none-found (machines p) (rowOf p (now (a .words)) (isExchange (a .kind)) (isAcross (a .kind)))
-          (λ k l. let b = of-plan p (now (a .words)) _ _ _ _ _ _ _ _ scene k l in at .loop .inv .1 k (omega arith) p scene));
-    }
+unfolding kindStep
+returns-2 c = passed-all (c .before .loop .inv) _ (omega (arith, c .before .before .machines .ensures, c .loop-test .left))
 
 pub find-kind-spec : {M : Type 1} → statement M
 find-kind-spec =
@@ -97,7 +67,7 @@ find-kind-spec =
     (tie.spec
     Inv-loop
     μ-loop
-    mul-machines
+    machines-requires
     loop-holds
     div-low
     mul-low

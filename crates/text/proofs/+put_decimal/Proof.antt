@@ -8,7 +8,7 @@ use native.Mathlib.Nat.{mod-eq-of-lt}
 use native.Mathlib.Omega.{arith}
 use lib.ListN.{length}
 use Rattle.model.specs.Listing.{decimal}
-use Rattle.theory.proofs.Lines.{decimal-one, decimal-more}
+use Rattle.theory.proofs.Listing.{decimal-one, decimal-more}
 use Rattle.text.specs.Pasted.{Room, Put}
 use Rattle.text.proofs.Laws.{room-first, room-next, put-then}
 use borrow.Fn.Kinds.{In}

@@ -1,0 +1,73 @@
+-- What the document shows of the listing, by computing the definitions, and that every listing fits its room.
+-- Assumes nothing.
+use mathlib.Core.Path.{_≡_, refl, ap, _∙_}
+use mathlib.Core.List.{List, [], _∷_, _++_}
+use Prim.Native.Nat.{ℕ, zero, suc, _^_, _<_, _≤_}
+use native.Mathlib.Omega.{arith}
+use lib.ListN.{length, getD}
+use Rattle.order.specs.Sum.{sum}
+use Rattle.order.specs.Table.{table}
+use Rattle.order.specs.Search.{firstUp, least, allb, largest, smallest}
+use Rattle.model.specs.Plan.{Plan, blockCount, blockOf, upper, minTotal, field, formatOf, formatIn, recordAt, blockIn, planIn}
+use Rattle.model.specs.Refusal.{check1, refusal, Verdict, judge}
+use Rattle.model.specs.Replication.{limit, share, need, chosen}
+use Rattle.model.specs.Placement.{bit, replicas, replicasIn, domainsUsed, used, allWithin, allSpread, allFit, countsFeasible, isFeasible, position, laidWord, firstWord, firstPlacement, shareOf, load, maxLoad, minLoad, totalLoad, maxShare}
+use Rattle.model.specs.Steps.{shifted, afterMove, afterSwap, after, improves, canMove, canSwap, pairs, nextMove, nextSwap, nextStep, Run, run}
+use Rattle.model.specs.Calls.{reportOf}
+use Rattle.model.specs.Listing.{digits, decimal, numberField, fields, line, planLine, holders, blockLine, lines, lastLine, listingOf, refusedLine, printedOf, printed, listingRoom}
+use Rattle.theory.proofs.Plan.{field-bound, planIn-blockCount, planIn-blockOf}
+use Rattle.theory.proofs.Refusal.{refusal-le, refusal-zero, judge-refused, judge-accepted}
+use Rattle.theory.proofs.Replication.{share-bound}
+use Rattle.theory.proofs.Listing.{listingOf-fits, refusedLine-length, printed-refused, printed-accepted}
+use Rattle.theorems.specs.Trials.{plan-H}
+use Rattle.theorems.specs.Listing.{listing-H, listing-empty, ListingLaws}
+use Rattle.theorems.proofs.Trials.{figures, trials}
+
+-- the lines of a run
+runLines : Plan → Run → List ℕ
+runLines p r = planLine p ++ lines (blockCount p) (blockLine p (r .words)) ++ lastLine p r
+
+-- plan H's first placement, at rest
+H-first : firstPlacement (planIn plan-H) ≡ 15 ∷ 5 ∷ 2 ∷ []
+unfolding firstPlacement planIn blockIn formatOf field upper chosen position laidWord firstWord need share sum table least plan-H
+H-first = rw (figures .H) refl
+
+H-lines : runLines (planIn plan-H) (run (planIn plan-H) 100_000 (15 ∷ 5 ∷ 2 ∷ [])) ≡ listing-H
+unfolding runLines lastLine planLine blockLine lines holders line fields numberField decimal digits reportOf maxLoad minLoad totalLoad maxShare planIn blockIn formatOf field upper minTotal shifted afterMove afterSwap after improves canMove canSwap pairs nextMove nextSwap nextStep run bit replicas replicasIn domainsUsed used allWithin allSpread allFit countsFeasible isFeasible shareOf load largest smallest share limit sum table allb firstUp plan-H listing-H
+H-lines = refl
+
+H-printed : printed plan-H 100_000 ≡ listing-H
+unfolding printed printedOf listingOf runLines
+H-printed =
+    ap (λ (v : Verdict). printedOf v 100_000) (trials .H-accepted)
+    ∙ ap (λ (words : List ℕ). runLines (planIn plan-H) (run (planIn plan-H) 100_000 words)) H-first
+    ∙ H-lines
+
+empty-printed : (budget : ℕ) → printed [] budget ≡ listing-empty
+unfolding printed printedOf refusedLine line fields numberField decimal digits judge refusal check1 listing-empty
+empty-printed budget = refl
+
+-- a popularity of three bytes has shares below 2 ^ 34
+share-fits : (bytes : List ℕ) → ((i : ℕ) → getD bytes i 0 < 256) → (count : ℕ → ℕ) (i : ℕ) → i < blockCount (planIn bytes)
+    → share (blockOf (planIn bytes) i .popularity) (count i) < 2 ^ 34
+unfolding blockIn formatOf
+share-fits bytes h count i l =
+    rw (planIn-blockOf bytes i (rw (planIn-blockCount bytes) at l))
+    (share-bound _ (count i) (field-bound bytes h (recordAt (formatIn bytes) i) 3))
+
+pub listing-laws : ListingLaws
+listing-laws =
+    record {
+      H = H-printed;
+      empty = empty-printed;
+      fits = λ bytes h budget l. go bytes h budget l (refusal bytes) refl (refusal-le bytes);
+    }
+  where
+    go : (bytes : List ℕ) → ((i : ℕ) → getD bytes i 0 < 256) → (budget : ℕ) → budget < 2 ^ 32
+        → (code : ℕ) → refusal bytes ≡ code → code ≤ 11 → length (printed bytes budget) ≤ listingRoom
+    go bytes h budget l zero e m =
+        rw (printed-accepted bytes budget (planIn bytes) (judge-accepted bytes e))
+        (listingOf-fits (planIn bytes) (refusal-zero bytes e) (share-fits bytes h (chosen (planIn bytes))) budget l)
+    go bytes h budget l (suc code) e m =
+        rw (printed-refused bytes budget (suc code) (judge-refused bytes (suc code) e (omega arith)))
+        (omega (arith, refusedLine-length (suc code) (omega arith)))

@@ -1,0 +1,44 @@
+-- The small examples of document 01's table, and plan H, by computing the model's verdict and check.
+-- Assumes nothing.
+use mathlib.Core.Path.{_≡_, refl}
+use Rattle.order.specs.Sum.{sum}
+use Rattle.order.specs.Table.{table}
+use Rattle.order.specs.Search.{firstUp, least, allb}
+use Rattle.model.specs.Plan.{upper, minTotal, field, formatOf, blockIn, planIn}
+use Rattle.model.specs.Refusal.{check1, check2, check3, check4, check5, check6, check7, check8, check9, blockRefusal, blocksRefusal, check10, check11, check12, planRefusal, refusal, judge}
+use Rattle.model.specs.Replication.{limit, share, need, reachable, figure, chosen}
+use Rattle.model.specs.Placement.{bit, replicas, replicasIn, domainsUsed, used, allWithin, allSpread, allFit}
+use Rattle.model.specs.Calls.{onPlan, unless, allCounted, placementRefusal, onPlacement, checkCall}
+use Rattle.theorems.specs.Trials.{plan-H, plan-full}
+use Rattle.theorems.specs.RowExamples.{H-with, RowExamples}
+use Rattle.theorems.proofs.Trials.{figure-of, figures}
+
+-- H with C 2 has as many places as its budget, and the same figure.
+H-C2 : figure (planIn (H-with 8 2)) ≡ 2520
+unfolding refusal check1 check2 check3 check4 check5 check6 check7 planRefusal blocksRefusal blockRefusal check8 check9 check10 check11 planIn blockIn formatOf field upper minTotal reachable need share limit sum table least allb firstUp plan-H
+H-C2 = figure-of (H-with 8 2) 2519 refl refl refl
+
+pub row-examples : RowExamples
+unfolding judge refusal check1 check2 check3 check4 check5 check6 check7 planRefusal blocksRefusal blockRefusal check8 check9 check10 check11 check12 planIn blockIn formatOf field upper minTotal limit share need chosen bit replicas replicasIn domainsUsed used allWithin allSpread allFit onPlan unless allCounted placementRefusal onPlacement checkCall sum table firstUp least allb plan-H plan-full
+row-examples =
+    record {
+      row1 = refl;
+      row2 = refl;
+      row3 = refl;
+      row4 = refl;
+      row5 = refl;
+      row6 = refl;
+      row7 = refl;
+      row8 = refl;
+      row9 = refl;
+      row10 = refl;
+      row11 = refl;
+      row12 = refl;
+      row13 = refl;
+      row14 = rw (figures .H) refl;
+      row15 = rw (figures .H4) refl;
+      row16 = rw H-C2 refl;
+      within-block = refl;
+      block-by-block = refl;
+      H = refl;
+    }

@@ -1,0 +1,71 @@
+-- A feasible placement is at rest exactly if it is settled with no slack.
+-- Assumes nothing.
+use mathlib.Core.Path.{refl}
+use mathlib.Core.List.{List}
+use Prim.Native.Nat.{ℕ, _+_, _≤_, _<_}
+use native.Mathlib.Decide.{decLt}
+use native.Mathlib.Omega.{arith}
+use Rattle.model.specs.Plan.{Plan}
+use Rattle.model.specs.Placement.{Feasible, shareOf, load}
+use Rattle.model.specs.Steps.{Step, none, move, swap, acrossRacks, AtRest}
+use Rattle.theory.specs.Steps.{Lawful}
+use Rattle.theory.proofs.StepsLocal.{canMove-local, canSwap-local}
+use Rattle.theory.proofs.StepsNext.{nextStep-laws}
+use Rattle.theorems.specs.Bounds.{Settled}
+
+module _ (p : Plan) (count : ℕ → ℕ) (words : List ℕ) (feasible : Feasible p count words) where
+  pub rest-settled : AtRest p words → Settled p words 0
+  rest-settled rest =
+      record {
+        no-move = λ m n i ml nl il on off room positive spread.
+            no-gap (load p words m) (load p words n + shareOf p words i) (λ lower.
+            none-left (move (acrossRacks p m n) m n i) (
+              ml,
+              nl,
+              il,
+              canMove-local p count words feasible m n i ml nl il .1
+                  (record { on = on; off = off; room = room; lowers = (positive, omega arith); spread = spread }),
+              refl,
+            ));
+        no-swap = λ m n i j ml nl il jl i-on i-off j-on j-off gain i-spread j-spread.
+            no-gap (load p words m + shareOf p words j) (load p words n + shareOf p words i) (λ lower.
+            none-left (swap (acrossRacks p m n) m n i j) (
+              ml,
+              nl,
+              il,
+              jl,
+              canSwap-local p count words feasible m n i j ml nl il jl .1
+                  (record {
+                    i-on = i-on;
+                    i-off = i-off;
+                    j-on = j-on;
+                    j-off = j-off;
+                    lowers = (gain, lower);
+                    i-spread = i-spread;
+                    j-spread = j-spread;
+                  }),
+              refl,
+            ));
+      }
+    where
+      none-left : (s : Step) → Lawful p words s → ⊥
+      none-left = nextStep-laws p words .rest .0 rest
+
+      no-gap : (a b : ℕ) → (b < a → ⊥) → a ≤ b + 0
+      no-gap a b h = elim (decLt b a) [ yes l ↦ absurd (h l) | no l ↦ omega arith ]
+
+  pub settled-rest : Settled p words 0 → AtRest p words
+  settled-rest settled = nextStep-laws p words .rest .1 none-left
+    where
+      none-left : (s : Step) → Lawful p words s → ⊥
+      none-left none h = h
+      none-left (move racks m n i) (ml, nl, il, can, across) =
+          let s = canMove-local p count words feasible m n i ml nl il .0 can in
+          omega (arith, s .lowers, settled .no-move m n i ml nl il (s .on) (s .off) (s .room) (s .lowers .0) (s .spread))
+      none-left (swap racks m n i j) (ml, nl, il, jl, can, across) =
+          let s = canSwap-local p count words feasible m n i j ml nl il jl .0 can in
+          omega (
+            arith,
+            s .lowers,
+            settled .no-swap m n i j ml nl il jl (s .i-on) (s .i-off) (s .j-on) (s .j-off) (s .lowers .0) (s .i-spread) (s .j-spread),
+          )

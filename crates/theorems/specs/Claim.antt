@@ -1,0 +1,48 @@
+-- Demand 3: the claim about a list of calls (`Claim` in model/specs/Claims.antt), from the first placement, and its bounds at rest
+-- written out. X is the hottest load after the list, Y that of any lawful placement at any lawful counts, s the largest share after
+-- the list.
+use mathlib.Core.Path.{_≡_}
+use mathlib.Core.List.{List}
+use Prim.Native.Nat.{ℕ, _+_, _*_, _-_, _<_, _≤_}
+use Rattle.model.specs.Plan.{Plan, machines, blockCount, blockOf}
+use Rattle.model.specs.Refusal.{judge, accepted}
+use Rattle.model.specs.Replication.{chosen}
+use Rattle.model.specs.Placement.{Feasible, used, maxLoad, maxShare}
+use Rattle.model.specs.Steps.{AtRest}
+use Rattle.model.specs.Calls.{answered, firstCall}
+use Rattle.model.specs.Claims.{Call, checked, play, Allowed, After}
+
+-- Making a first placement begins a new list: where that call answers, the claim is of the words that it left.
+abbrev pub FirstClaim : Type 0
+FirstClaim =
+    (bytes lent : List ℕ) (blocks : ℕ) → firstCall bytes lent .answer ≡ answered blocks
+    → (p : Plan) × (judge bytes ≡ accepted p)
+    × ((calls : List Call) → Allowed bytes (blockCount p) calls (firstCall bytes lent .items)
+    → After p (firstCall bytes lent .items) (play checked calls (firstCall bytes lent .items)))
+
+-- The words after a list of calls from a lawful placement of an accepted plan, where they are at rest.
+pub record RestAfter (p : Plan) (after : List ℕ) : Type 0 where
+  pub bytes : List ℕ
+  pub words : List ℕ
+  pub calls : List Call
+  pub reads : judge bytes ≡ accepted p
+  pub lawful : Feasible p (chosen p) words
+  pub allowed : Allowed bytes (blockCount p) calls words
+  pub after-is : after ≡ play checked calls words .words
+  pub rests : AtRest p after
+
+-- M × X is at most M × Y + (M - 1) × s if every spread is one.
+abbrev pub ClaimOneSpread : Type 0
+ClaimOneSpread =
+    (p : Plan) (after : List ℕ) → RestAfter p after
+    → (count : ℕ → ℕ) (other : List ℕ) → Feasible p count other
+    → ((i : ℕ) → i < blockCount p → blockOf p i .minRacks ≡ 1)
+    → machines p * maxLoad p after ≤ machines p * maxLoad p other + (machines p - 1) * maxShare p after
+
+-- M × X is at most M × Y + 3 × (M - 1) × s with larger spreads and no machine full.
+abbrev pub ClaimLargerSpreads : Type 0
+ClaimLargerSpreads =
+    (p : Plan) (after : List ℕ) → RestAfter p after
+    → (count : ℕ → ℕ) (other : List ℕ) → Feasible p count other
+    → ((m : ℕ) → m < machines p → used p after m < p .capacity)
+    → machines p * maxLoad p after ≤ machines p * maxLoad p other + 3 * (machines p - 1) * maxShare p after

@@ -1,0 +1,10 @@
+-- What the document promises, stated of the model's definitions.
+pub mod TotalLoad
+pub mod Exact
+pub mod Potential
+pub mod Bounds
+pub mod Claim
+pub mod Trials
+pub mod RowExamples
+pub mod Ties
+pub mod Listing

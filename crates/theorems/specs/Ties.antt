@@ -1,0 +1,62 @@
+-- Document 01, "Where document 001 may not be followed": steps that lower the maximum stop at ties. Three machines in one rack, with
+-- six, six and none of twelve equal one-copy blocks: no single step lowers six, yet the best is four, and a run goes on to it.
+use mathlib.Core.Path.{_≡_}
+use mathlib.Core.Bool.{false}
+use mathlib.Core.List.{List, [], _∷_, _++_}
+use Prim.Native.Nat.{ℕ, _*_, _≤_}
+use lib.ListN.{replicate}
+use Rattle.order.specs.Table.{table}
+use Rattle.model.specs.Plan.{Plan}
+use Rattle.model.specs.Refusal.{judge, accepted}
+use Rattle.model.specs.Replication.{unit}
+use Rattle.model.specs.Placement.{Feasible, used, maxLoad}
+use Rattle.model.specs.Steps.{Step, move, after}
+use Rattle.model.specs.Calls.{checkCall, stepCall, runCall}
+use Rattle.theory.specs.Steps.{Lawful}
+use Rattle.theorems.specs.Trials.{gives, rest}
+
+-- R 1, S 3, C 12, budget 12, twelve blocks with P 1, least and spread 1; and the plan that these bytes hold
+unfoldable pub plan-tied : List ℕ
+plan-tied =
+    0x42 ∷ 0x50 ∷ 0x4C ∷ 0 ∷ 1 ∷ 1 ∷ 3 ∷ 0 ∷ 12 ∷ 0 ∷ 0 ∷ 0 ∷ 12 ∷ 0 ∷ 12
+    ∷ 0 ∷ 0 ∷ 1 ∷ 1 ∷ 1 ∷ 0 ∷ 0 ∷ 1 ∷ 1 ∷ 1 ∷ 0 ∷ 0 ∷ 1 ∷ 1 ∷ 1
+    ∷ 0 ∷ 0 ∷ 1 ∷ 1 ∷ 1 ∷ 0 ∷ 0 ∷ 1 ∷ 1 ∷ 1 ∷ 0 ∷ 0 ∷ 1 ∷ 1 ∷ 1
+    ∷ 0 ∷ 0 ∷ 1 ∷ 1 ∷ 1 ∷ 0 ∷ 0 ∷ 1 ∷ 1 ∷ 1 ∷ 0 ∷ 0 ∷ 1 ∷ 1 ∷ 1
+    ∷ 0 ∷ 0 ∷ 1 ∷ 1 ∷ 1 ∷ 0 ∷ 0 ∷ 1 ∷ 1 ∷ 1 ∷ 0 ∷ 0 ∷ 1 ∷ 1 ∷ 1
+    ∷ []
+
+abbrev pub tied : Plan
+tied =
+    record {
+      version = 1;
+      racks = 1;
+      rackSize = 3;
+      capacity = 12;
+      budget = 12;
+      blocks = replicate 12 (record { popularity = 1; minReplicas = 1; minRacks = 1 });
+    }
+
+-- Six blocks on machine 0, six on machine 1; the words after one step; and those at rest.
+abbrev pub sixes : List ℕ
+sixes = replicate 6 1 ++ replicate 6 2
+
+abbrev pub stepped : List ℕ
+stepped = 4 ∷ replicate 5 1 ++ replicate 6 2
+
+abbrev pub fours : List ℕ
+fours = 4 ∷ 4 ∷ 4 ∷ 1 ∷ 1 ∷ 1 ∷ 1 ∷ 4 ∷ 2 ∷ 2 ∷ 2 ∷ 2 ∷ []
+
+pub record Ties : Type 0 where
+  pub accepts : judge plan-tied ≡ accepted tied
+  pub passes : checkCall plan-tied sixes ≡ gives 12 sixes
+  pub six-six-none : table 3 (used tied sixes) ≡ 6 ∷ 6 ∷ 0 ∷ []
+  -- a share is 840 units, so the hottest load is six of them
+  pub hottest : maxLoad tied sixes ≡ 6 * unit
+  -- no lawful step lowers it, though one is left
+  pub none-lowers : (s : Step) → Lawful tied sixes s → maxLoad tied sixes ≤ maxLoad tied (after sixes s)
+  pub one-left : stepCall plan-tied sixes ≡ gives (move false 0 2 0) stepped
+  -- no lawful placement at any lawful counts is below four
+  pub best : (count : ℕ → ℕ) (words : List ℕ) → Feasible tied count words → 4 * unit ≤ maxLoad tied words
+  -- and a run that may take five steps or more reaches four
+  pub rests : (budget : ℕ) → 5 ≤ budget → runCall plan-tied sixes budget ≡ gives (rest 5) fours
+  pub reached : maxLoad tied fours ≡ 4 * unit

@@ -1,0 +1,257 @@
+-- Laws of the checks: what a check that passes says of its numbers, how large a code gets, and what an accepted plan satisfies.
+-- The rows are gone through once, for a code that is not one of rows 1 to 9: then the plan has the shape that rows 4 to 9 test,
+-- and rows 10 and 11 give its code.
+-- Assumes nothing.
+use mathlib.Core.Path.{_≡_, refl, ap, sym, _∙_}
+use mathlib.Core.Bool.{Bool, true, false, not, _||_}
+use mathlib.Core.List.{List}
+use mathlib.Core.Logic.{inr, ⊎-elim}
+use Prim.Native.Nat.{ℕ, zero, suc, _*_, _<_, _≤_}
+use native.Mathlib.Nat.{pos-of-ne-zero, le-trans}
+use native.Mathlib.Omega.{arith}
+use borrow.Author.Tests.{ltb-false, lt-ltb, le-ltb, eqb-true, eqb-false, not-false}
+use lib.Dec.{ltb, eqb, lit<, lit≤}
+use lib.ListN.{length}
+use Rattle.order.proofs.Booleans.{or3-false, in-range}
+use Rattle.order.proofs.Searches.{none-below, first-all}
+use Rattle.model.specs.Plan.{Plan, machines, domains, blockCount, blockOf, upper, minTotal, commonLength, Format, formatIn, recordAt, planIn, markIn, versionIn, racksIn, rackSizeIn, capacityIn, blockCountIn}
+use Rattle.model.specs.Refusal.{refuseIf, orElse, isRefusal, mark, maxMachines, maxCapacity, maxBlocks, check1, check2, check3, check4, check5, check6, check7, check8, check9, check10, check11, check12, blockRefusal, blocksRefusal, planRefusal, refusal, refused, accepted, verdict, judge}
+use Rattle.theory.specs.Refusal.{ValidBlock, Shaped, Valid, PastRow9, AcceptedLaws}
+use Rattle.theory.proofs.Plan.{planIn-blockCount}
+
+-- ── refuseIf ─────────────────────────────────────────────────────────────────────────────────────
+-- a check that gives 0 has a false condition, and so have the later ones
+pub refuseIf-zero : (t : Bool) (code later : ℕ) → refuseIf t (suc code) later ≡ 0 → (t ≡ false) × (later ≡ 0)
+refuseIf-zero true code later e = absurd (let z : _≡_ {A = ℕ} 0 1 = cc in omega arith)
+refuseIf-zero false code later e = (refl, e)
+
+-- the same of a check that a number is not above a limit
+pub refuseIf-within : (limit n code later : ℕ) → refuseIf (ltb limit n) (suc code) later ≡ 0 → (n ≤ limit) × (later ≡ 0)
+refuseIf-within limit n code later e = let z = refuseIf-zero _ _ _ e in (ltb-false _ _ (z .0), z .1)
+
+-- what holds of the check's code and of the later ones holds of what it gives
+pub refuseIf-all : (P : ℕ → Type 0) (t : Bool) (code later : ℕ) → P code → P later → P (refuseIf t code later)
+refuseIf-all P true code later here else = here
+refuseIf-all P false code later here else = else
+
+-- ── orElse ───────────────────────────────────────────────────────────────────────────────────────
+pub orElse-some : (code later : ℕ) → (code ≡ 0 → ⊥) → orElse code later ≡ code
+orElse-some zero later h = absurd (h refl)
+orElse-some (suc code) later h = refl
+
+pub orElse-all : (P : ℕ → Type 0) (code later : ℕ) → P code → P later → P (orElse code later)
+orElse-all P zero later here else = else
+orElse-all P (suc code) later here else = here
+
+-- ── check4 to check7 ─────────────────────────────────────────────────────────────────────────────
+pub check4-zero : (racks rackSize later : ℕ) → check4 racks rackSize later ≡ 0
+    → (1 ≤ racks) × (1 ≤ rackSize) × (racks * rackSize ≤ maxMachines) × (later ≡ 0)
+unfolding check4
+check4-zero racks rackSize later e =
+    let z = refuseIf-zero _ _ _ e in
+    let parts = or3-false (eqb racks 0) (eqb rackSize 0) (ltb maxMachines (racks * rackSize)) (z .0) in
+    (pos-of-ne-zero (eqb-false _ _ (parts .0)), pos-of-ne-zero (eqb-false _ _ (parts .1)), ltb-false _ _ (parts .2), z .1)
+
+pub check5-zero : (capacity later : ℕ) → check5 capacity later ≡ 0
+    → (1 ≤ capacity) × (capacity ≤ maxCapacity) × (later ≡ 0)
+unfolding check5
+check5-zero capacity later e =
+    let z = refuseIf-zero _ _ _ e in
+    let range = in-range capacity maxCapacity (z .0) in
+    (range .0, range .1, z .1)
+
+pub check6-zero : (count later : ℕ) → check6 count later ≡ 0 → (count ≤ maxBlocks) × (later ≡ 0)
+unfolding check6
+check6-zero count later e = refuseIf-within maxBlocks count _ later e
+
+pub check7-zero : (f : Format) (size count later : ℕ) → check7 f size count later ≡ 0 → (size ≡ recordAt f count) × (later ≡ 0)
+unfolding check7
+check7-zero f size count later e = let z = refuseIf-zero _ _ _ e in (eqb-true _ _ (not-false _ (z .0)), z .1)
+
+-- ── check10 to check12 ───────────────────────────────────────────────────────────────────────────
+check10-zero : (budget total later : ℕ) → check10 budget total later ≡ 0 → (total ≤ budget) × (later ≡ 0)
+unfolding check10
+check10-zero budget total later e = refuseIf-within budget total _ later e
+
+check11-zero : (places total later : ℕ) → check11 places total later ≡ 0 → (total ≤ places) × (later ≡ 0)
+unfolding check11
+check11-zero places total later e = refuseIf-within places total _ later e
+
+pub check12-zero : (lent count later : ℕ) → check12 lent count later ≡ 0 → (count ≤ lent) × (later ≡ 0)
+unfolding check12
+check12-zero lent count later e = refuseIf-within lent count _ later e
+
+pub check12-short : (lent count later : ℕ) → lent < count → check12 lent count later ≡ 12
+unfolding check12
+check12-short lent count later l = rw (lt-ltb lent count l)
+
+pub check12-enough : (lent count later : ℕ) → count ≤ lent → check12 lent count later ≡ later
+unfolding check12
+check12-enough lent count later l = rw (le-ltb lent count l)
+
+-- ── blockRefusal ─────────────────────────────────────────────────────────────────────────────────
+blockRefusal-zero : (p : Plan) (i : ℕ) → blockRefusal p i ≡ 0 → ValidBlock p i
+unfolding blockRefusal check8 check9
+blockRefusal-zero p i e =
+    let b = blockOf p i in
+    let z8 = refuseIf-zero _ _ _ e in
+    let z9 = refuseIf-zero _ _ _ (z8 .1) in
+    let range = in-range (b .minReplicas) (upper p i) (z8 .0) in
+    let parts =
+    or3-false (eqb (b .minRacks) 0) (ltb (b .minReplicas) (b .minRacks)) (ltb (domains p) (b .minRacks)) (z9 .0)
+    in
+    record {
+      min-pos = range .0;
+      min-upper = range .1;
+      racks-pos = pos-of-ne-zero (eqb-false _ _ (parts .0));
+      racks-min = ltb-false _ _ (parts .1);
+      racks-all = ltb-false _ _ (parts .2);
+    }
+
+blockRefusal-le : (p : Plan) (i : ℕ) → blockRefusal p i ≤ 9
+unfolding blockRefusal check8 check9
+blockRefusal-le p i =
+    let b = blockOf p i in
+    refuseIf-all (λ n. n ≤ 9) (eqb (b .minReplicas) 0 || ltb (upper p i) (b .minReplicas)) 8 _ (lit≤ tt)
+    (refuseIf-all (λ n. n ≤ 9) (eqb (b .minRacks) 0 || ltb (b .minReplicas) (b .minRacks) || ltb (domains p) (b .minRacks)) 9 0
+    (lit≤ tt) (lit≤ tt))
+
+-- ── blocksRefusal ────────────────────────────────────────────────────────────────────────────────
+-- where checks 8 and 9 pass, every block is valid
+blocksRefusal-zero : (p : Plan) → blocksRefusal p ≡ 0 → (i : ℕ) → i < blockCount p → ValidBlock p i
+unfolding blocksRefusal
+blocksRefusal-zero p e i l =
+    let none = none-below isRefusal 0 refl (blockRefusal p) (blockCount p) (ap isRefusal e) i l in
+    blockRefusal-zero p i (le-zero _ (ltb-false _ _ none))
+  where
+    le-zero : (n : ℕ) → n ≤ 0 → n ≡ 0
+    le-zero n h = omega arith
+
+pub blocksRefusal-le : (p : Plan) → blocksRefusal p ≤ 9
+unfolding blocksRefusal
+blocksRefusal-le p = first-all (λ n. n ≤ 9) isRefusal 0 (blockRefusal p) (blockCount p) (lit≤ tt) (λ i l. blockRefusal-le p i)
+
+-- ── planRefusal ──────────────────────────────────────────────────────────────────────────────────
+-- The code that rows 10 and 11 give.
+abbrev pub totalRefusal : Plan → ℕ
+totalRefusal p = check10 (p .budget) (minTotal p) (check11 (machines p * p .capacity) (minTotal p) 0)
+
+planRefusal-le : (p : Plan) → planRefusal p ≤ 11
+unfolding planRefusal check10 check11
+planRefusal-le p =
+    orElse-all (λ n. n ≤ 11) (blocksRefusal p) _ (le-trans (blocksRefusal-le p) (lit≤ tt))
+    (refuseIf-all (λ n. n ≤ 11) (ltb (p .budget) (minTotal p)) 10 _ (lit≤ tt)
+    (refuseIf-all (λ n. n ≤ 11) (ltb (machines p * p .capacity) (minTotal p)) 11 0 (lit≤ tt) (lit≤ tt)))
+
+-- ── refusal ──────────────────────────────────────────────────────────────────────────────────────
+-- a refusal's number is at most 11
+pub refusal-le : (bytes : List ℕ) → refusal bytes ≤ 11
+unfolding refusal check1 check2 check3 check4 check5 check6 check7
+refusal-le bytes =
+    let r = racksIn bytes in
+    let s = rackSizeIn bytes in
+    let c = capacityIn bytes in
+    let b = blockCountIn bytes in
+    row (ltb (length bytes) commonLength) 1 _ (lit≤ tt)
+    (row (not (eqb (markIn bytes) mark)) 2 _ (lit≤ tt)
+    (row (not (eqb (versionIn bytes) 1)) 3 _ (lit≤ tt)
+    (row (eqb r 0 || eqb s 0 || ltb maxMachines (r * s)) 4 _ (lit≤ tt)
+    (row (eqb c 0 || ltb maxCapacity c) 5 _ (lit≤ tt)
+    (row (ltb maxBlocks b) 6 _ (lit≤ tt)
+    (row (not (eqb (length bytes) (recordAt (formatIn bytes) b))) 7 _ (lit≤ tt)
+    (planRefusal-le (planIn bytes))))))))
+  where
+    row : (t : Bool) (code later : ℕ) → code ≤ 11 → later ≤ 11 → refuseIf t code later ≤ 11
+    row = refuseIf-all (λ n. n ≤ 11)
+
+module _ (code : ℕ) (past : PastRow9 code) where
+  not-row : (row : ℕ) → row < 9 → suc row ≡ code → ⊥
+  not-row row l e = ⊎-elim (λ (g : 9 < code). omega arith) (λ (z : code ≡ 0). omega arith) past
+
+  -- a check of rows 1 to 9 that gives such a code has a false condition, and the code is the later rows'
+  refuseIf-past : (t : Bool) (row later : ℕ) → refuseIf t (suc row) later ≡ code → row < 9
+      → (refuseIf t (suc row) 0 ≡ 0) × (later ≡ code)
+  refuseIf-past true row later e l = absurd (not-row row l e)
+  refuseIf-past false row later e l = (refl, e)
+
+  orElse-past : (found later : ℕ) → found ≤ 9 → orElse found later ≡ code → (found ≡ 0) × (later ≡ code)
+  orElse-past zero later l e = (refl, e)
+  orElse-past (suc row) later l e = absurd (not-row row l e)
+
+-- what rows 1 to 9 leave
+rows-past : (code : ℕ) → PastRow9 code → (bytes : List ℕ) → refusal bytes ≡ code
+    → (1 ≤ racksIn bytes) × (1 ≤ rackSizeIn bytes) × (racksIn bytes * rackSizeIn bytes ≤ maxMachines)
+    × (1 ≤ capacityIn bytes) × (capacityIn bytes ≤ maxCapacity) × (blockCountIn bytes ≤ maxBlocks)
+    × (length bytes ≡ recordAt (formatIn bytes) (blockCountIn bytes)) × (blocksRefusal (planIn bytes) ≡ 0) × (totalRefusal (planIn bytes) ≡ code)
+unfolding refusal check1 check2 check3 check4 check5 check6 check7 planRefusal
+rows-past code past bytes e =
+    let r = racksIn bytes in
+    let s = rackSizeIn bytes in
+    let c = capacityIn bytes in
+    let b = blockCountIn bytes in
+    let z1 = refuseIf-past code past (ltb (length bytes) commonLength) 0 _ e (lit< tt) in
+    let z2 = refuseIf-past code past (not (eqb (markIn bytes) mark)) 1 _ (z1 .1) (lit< tt) in
+    let z3 = refuseIf-past code past (not (eqb (versionIn bytes) 1)) 2 _ (z2 .1) (lit< tt) in
+    let z4 = refuseIf-past code past (eqb r 0 || eqb s 0 || ltb maxMachines (r * s)) 3 _ (z3 .1) (lit< tt) in
+    let z5 = refuseIf-past code past (eqb c 0 || ltb maxCapacity c) 4 _ (z4 .1) (lit< tt) in
+    let z6 = refuseIf-past code past (ltb maxBlocks b) 5 _ (z5 .1) (lit< tt) in
+    let z7 = refuseIf-past code past (not (eqb (length bytes) (recordAt (formatIn bytes) b))) 6 _ (z6 .1) (lit< tt) in
+    let blocks = orElse-past code past (blocksRefusal (planIn bytes)) _ (blocksRefusal-le (planIn bytes)) (z7 .1) in
+    let h4 = check4-zero r s 0 (z4 .0) in
+    let h5 = check5-zero c 0 (z5 .0) in
+    let h6 = check6-zero b 0 (z6 .0) in
+    let h7 = check7-zero (formatIn bytes) (length bytes) b 0 (z7 .0) in
+    (h4 .0, h4 .1, h4 .2, h5 .0, h5 .1, h6 .0, h7 .0, blocks .0, blocks .1)
+
+module _ (bytes : List ℕ) (past : PastRow9 (refusal bytes)) where
+  pub refusal-shaped : Shaped (planIn bytes)
+  unfolding planIn
+  refusal-shaped =
+      let z = rows-past (refusal bytes) past bytes refl in
+      record {
+        racks-pos = z .0;
+        size-pos = z .1;
+        machines-max = z .2;
+        capacity-pos = z .3;
+        capacity-max = z .4;
+        blocks-max = rw (planIn-blockCount bytes) (z .5);
+        block = blocksRefusal-zero (planIn bytes) (z .7);
+      }
+
+  pub refusal-length : length bytes ≡ recordAt (formatIn bytes) (blockCountIn bytes)
+  refusal-length = rows-past (refusal bytes) past bytes refl .6
+
+  pub refusal-total : refusal bytes ≡ totalRefusal (planIn bytes)
+  refusal-total = sym (rows-past (refusal bytes) past bytes refl .8)
+
+-- a plan that no row turns back
+pub refusal-zero : (bytes : List ℕ) → refusal bytes ≡ 0 → Valid (planIn bytes)
+refusal-zero bytes e =
+    let z10 = check10-zero _ _ _ (sym (refusal-total bytes (inr e)) ∙ e) in
+    let z11 = check11-zero _ _ _ (z10 .1) in
+    record { shaped = refusal-shaped bytes (inr e); in-budget = z10 .0; in-places = z11 .0 }
+
+-- ── judge ────────────────────────────────────────────────────────────────────────────────────────
+pub judge-refused : (bytes : List ℕ) (code : ℕ) → refusal bytes ≡ code → 1 ≤ code → judge bytes ≡ refused code
+unfolding judge
+judge-refused bytes zero e l = absurd (omega arith)
+judge-refused bytes (suc code) e l = ap (λ (n : ℕ). verdict n (planIn bytes)) e
+
+pub judge-accepted : (bytes : List ℕ) → refusal bytes ≡ 0 → judge bytes ≡ accepted (planIn bytes)
+unfolding judge
+judge-accepted bytes e = ap (λ (n : ℕ). verdict n (planIn bytes)) e
+
+verdict-accepted : (code : ℕ) (p q : Plan) → verdict code p ≡ accepted q → (code ≡ 0) × (p ≡ q)
+verdict-accepted zero p q e = (refl, cc)
+verdict-accepted (suc code) p q e = absurd (let z : _≡_ {A = ℕ} 0 1 = cc in omega arith)
+
+-- An accepted plan is the one that the bytes hold, it is valid, and its length is that of its header and B records.
+pub accepted-laws : AcceptedLaws
+unfolding judge
+accepted-laws bytes p e =
+    let z = verdict-accepted (refusal bytes) (planIn bytes) p e in
+    record {
+      held = sym (z .1);
+      valid = rw (z .1) at (refusal-zero bytes (z .0));
+      length-is = refusal-length bytes (inr (z .0)) ∙ ap (recordAt (formatIn bytes)) (sym (planIn-blockCount bytes) ∙ ap blockCount (z .1));
+    }

@@ -1,0 +1,285 @@
+-- Document 01, "Counts and shares": a share is exact and falls as the count grows; the chosen counts are lawful, their largest
+-- share is the least that lawful counts reach, and each is the smallest lawful count within it.
+-- Assumes nothing.
+use mathlib.Core.Path.{_≡_, refl, ap, sym, _∙_}
+use mathlib.Core.Logic.{_↔_, inl, inr}
+use mathlib.Core.Bool.{Bool, true, false, _||_}
+use Prim.Native.Nat.{ℕ, suc, _+_, _*_, _-_, _/_, _≤_, _<_, _^_}
+use native.Mathlib.Nat.{mul-comm, mul-assoc, zero-div, le-of-mul-le-mul-right, mul-le-mul-left, mul-le-mul-right, div-le-self, div-eq-of-eq-mul-left, le-add-right, le-of-eq, le-min, le-antisymm, le-trans, le-refl, eq-or-lt-of-le}
+use native.Mathlib.Decide.{decLt, decLe}
+use native.Mathlib.Omega.{arith}
+use borrow.Author.Tests.{eqb-true, ne-eqb, leb-true, le-leb}
+use lib.Dec.{eqb, leb}
+use Rattle.order.specs.Sum.{sum}
+use Rattle.order.specs.Search.{allb}
+use Rattle.order.proofs.Booleans.{no-contradiction, not-so, and-iff, leb-iff}
+use Rattle.order.proofs.Sums.{sum-cong, sum-mono, sum-mul}
+use Rattle.order.proofs.Extremes.{least-le, least-passes, least-first, allb-at, allb-iff, largest-term, largest-le}
+use Rattle.model.specs.Plan.{Plan, maxReplicas, blockCount, blockOf, upper, minTotal}
+use Rattle.model.specs.Replication.{limit, FeasibleCounts, unit, share, largestShare, need, reachable, figure, chosen}
+use Rattle.theory.specs.Refusal.{ValidBlock, Shaped, Valid}
+use Rattle.theory.specs.Replication.{ShareLaws, ChosenLaws, ChosenUnique}
+use Rattle.theory.proofs.Plan.{upper-max}
+
+-- ── FeasibleCounts ───────────────────────────────────────────────────────────────────────────────
+-- lawful counts are from 1 to 8
+pub feasibleCounts-range : (p : Plan) (count : ℕ → ℕ) → Shaped p → FeasibleCounts p count → (i : ℕ) → i < blockCount p
+    → (1 ≤ count i) × (count i ≤ maxReplicas)
+feasibleCounts-range p count s c i l =
+    (le-trans (s .block i l .min-pos) (c .at-least i l), le-trans (c .at-most i l) (upper-max p i))
+
+-- so are counts that agree with them on the blocks
+pub feasibleCounts-same : (p : Plan) (count other : ℕ → ℕ) → ((i : ℕ) → i < blockCount p → count i ≡ other i)
+    → FeasibleCounts p count → FeasibleCounts p other
+feasibleCounts-same p count other same c =
+    record {
+      at-least = λ i l. rw (same i l) at (c .at-least i l);
+      at-most = λ i l. rw (same i l) at (c .at-most i l);
+      in-limit = rw (sum-cong (blockCount p) count other same) at (c .in-limit);
+    }
+
+-- the least copies of an accepted plan are lawful counts
+pub feasibleCounts-least : (p : Plan) → Valid p → FeasibleCounts p (λ i. blockOf p i .minReplicas)
+unfolding minTotal limit
+feasibleCounts-least p v =
+    record {
+      at-least = λ i l. le-refl _;
+      at-most = λ i l. v .shaped .block i l .min-upper;
+      in-limit = le-min (v .in-budget) (v .in-places);
+    }
+
+-- ── share ────────────────────────────────────────────────────────────────────────────────────────
+-- whether a count divides the unit
+divides : ℕ → Bool
+divides k = eqb k 0 || eqb (unit / k * k) unit
+
+-- every count from 1 to 8 divides the unit
+unit-exact : (k : ℕ) → 1 ≤ k → k ≤ maxReplicas → unit / k * k ≡ unit
+unfolding divides allb
+unit-exact k pos max =
+    let every : allb (suc maxReplicas) divides ≡ true = refl in
+    let here = allb-at (suc maxReplicas) divides every k (omega arith) in
+    let other = ne-eqb k 0 (λ e. omega arith) in
+    eqb-true _ _ (rw other at here)
+
+-- the popularity's share in whole units
+whole : (P k : ℕ) → 1 ≤ k → k ≤ maxReplicas → P * unit ≡ P * (unit / k) * k
+whole P k pos max = ap (λ (x : ℕ). P * x) (sym (unit-exact k pos max)) ∙ sym (mul-assoc P (unit / k) k)
+
+-- a share is the popularity times the unit's quotient by the count
+pub share-quotient : (P k : ℕ) → 1 ≤ k → k ≤ maxReplicas → P * (unit / k) ≡ share P k
+unfolding share
+share-quotient P k pos max = sym (div-eq-of-eq-mul-left pos (whole P k pos max))
+
+pub share-exact : (P k : ℕ) → 1 ≤ k → k ≤ maxReplicas → share P k * k ≡ P * unit
+share-exact P k pos max = rw (← share-quotient P k pos max) (sym (whole P k pos max))
+
+-- a share is within f exactly if f times the count covers the popularity
+pub share-within : (P k f : ℕ) → 1 ≤ k → k ≤ maxReplicas → (share P k ≤ f) ↔ (P * unit ≤ f * k)
+share-within P k f pos max = rw (← share-exact P k pos max) (λ l. mul-le-mul-right k l, λ l. le-of-mul-le-mul-right l pos)
+
+pub share-falls : (P j k : ℕ) → 1 ≤ j → j ≤ k → k ≤ maxReplicas → share P k ≤ share P j
+share-falls P j k pos more max =
+    share-within P k (share P j) (omega arith) max .1
+    (le-trans (le-of-eq (sym (share-exact P j pos (omega arith)))) (mul-le-mul-left (share P j) more))
+
+-- a share is at most the whole popularity, and fits 34 bits
+pub share-whole : (P k : ℕ) → share P k ≤ P * unit
+unfolding share
+share-whole P k = div-le-self (P * unit) k
+
+pub share-bound : (P k : ℕ) → P < 2 ^ 24 → share P k < 2 ^ 34
+share-bound P k l = let whole = share-whole P k in omega arith
+
+pub share-none : (k : ℕ) → share 0 k ≡ 0
+unfolding share
+share-none k = zero-div k
+
+pub share-laws : ShareLaws
+share-laws =
+    record {
+      exact = share-exact;
+      falls = share-falls;
+      conserved = λ p count v c.
+          sum-cong (blockCount p) _ (λ i. unit * blockOf p i .popularity)
+          (λ i l.
+          let range = feasibleCounts-range p count (v .shaped) c i l in
+          mul-comm _ _ ∙ share-exact _ _ (range .0) (range .1) ∙ mul-comm _ _)
+          ∙ sum-mul (blockCount p) unit (λ i. blockOf p i .popularity);
+    }
+
+-- ── largestShare ─────────────────────────────────────────────────────────────────────────────────
+pub largestShare-term : (p : Plan) (count : ℕ → ℕ) (i : ℕ) → i < blockCount p
+    → share (blockOf p i .popularity) (count i) ≤ largestShare p count
+unfolding largestShare
+largestShare-term p count i l = largest-term (blockCount p) (λ i. share (blockOf p i .popularity) (count i)) i l
+
+-- ── need ─────────────────────────────────────────────────────────────────────────────────────────
+-- whether so many copies more than the least keep the share within f, and how many there may be
+abbrev enough : Plan → ℕ → ℕ → ℕ → Bool
+enough p f i more = leb (share (blockOf p i .popularity) (blockOf p i .minReplicas + more)) f
+
+abbrev room : Plan → ℕ → ℕ
+room p i = suc (upper p i) - blockOf p i .minReplicas
+
+module _ (p : Plan) (i : ℕ) (b : ValidBlock p i) (f : ℕ) where
+  pub need-min : blockOf p i .minReplicas ≤ need p f i
+  unfolding need
+  need-min = le-add-right _ _
+
+  pub need-max : need p f i ≤ suc (upper p i)
+  unfolding need
+  need-max = let l = least-le (enough p f i) (room p i) in omega arith
+
+  pub need-within : need p f i ≤ upper p i → share (blockOf p i .popularity) (need p f i) ≤ f
+  unfolding need
+  need-within l = leb-true _ _ (least-passes (enough p f i) (room p i) (omega arith))
+
+  -- it is the first lawful count within f
+  pub need-first : (k : ℕ) → blockOf p i .minReplicas ≤ k → k ≤ upper p i → share (blockOf p i .popularity) k ≤ f
+      → need p f i ≤ k
+  unfolding need
+  need-first k low high l =
+      let e : blockOf p i .minReplicas + (k - blockOf p i .minReplicas) ≡ k = omega arith in
+      let here : enough p f i (k - blockOf p i .minReplicas) ≡ true = rw e (le-leb _ _ l) in
+      let h = least-first (enough p f i) (room p i) (k - blockOf p i .minReplicas) (omega arith) here in
+      omega arith
+
+  -- what a search upwards from the least copies finds
+  pub need-is : (k : ℕ) → blockOf p i .minReplicas ≤ k → k ≤ upper p i → share (blockOf p i .popularity) k ≤ f
+      → ((j : ℕ) → blockOf p i .minReplicas ≤ j → j < k → f < share (blockOf p i .popularity) j)
+      → need p f i ≡ k
+  need-is k low high l below =
+      let first = need-first k low high l in
+      elim (decLt (need p f i) k) [
+        | yes m ↦ absurd (let w = need-within (omega arith) in let a = below (need p f i) need-min m in omega arith)
+        | no m ↦ omega arith
+      ]
+
+  pub need-past : ((k : ℕ) → blockOf p i .minReplicas ≤ k → k ≤ upper p i → f < share (blockOf p i .popularity) k)
+      → need p f i ≡ suc (upper p i)
+  need-past above =
+      elim (decLe (need p f i) (upper p i)) [
+        | yes m ↦ absurd (let w = need-within m in let a = above (need p f i) need-min m in omega arith)
+        | no m ↦ let most = need-max in omega arith
+      ]
+
+-- ── reachable ────────────────────────────────────────────────────────────────────────────────────
+-- the two parts of the test
+pub reachable-parts : (p : Plan) (f : ℕ)
+    → (reachable p f ≡ true)
+    ↔ (((i : ℕ) → i < blockCount p → need p f i ≤ upper p i) × (sum (blockCount p) (need p f) ≤ limit p))
+unfolding reachable
+reachable-parts p f =
+    and-iff _ _ (allb-iff (blockCount p) _ _ (λ i. leb-iff (need p f i) (upper p i))) (leb-iff (sum (blockCount p) (need p f)) (limit p))
+
+module _ (p : Plan) (v : Valid p) where
+  -- the needs at a reachable figure are lawful
+  pub reachable-feasible : (f : ℕ) → reachable p f ≡ true → FeasibleCounts p (need p f)
+  reachable-feasible f e =
+      let parts = reachable-parts p f .0 e in
+      record {
+        at-least = λ i l. need-min p i (v .shaped .block i l) f;
+        at-most = parts .0;
+        in-limit = parts .1;
+      }
+
+  pub reachable-within : (f : ℕ) → reachable p f ≡ true → largestShare p (need p f) ≤ f
+  unfolding largestShare
+  reachable-within f e =
+      largest-le (blockCount p) _ f (λ i l. need-within p i (v .shaped .block i l) f (reachable-parts p f .0 e .0 i l))
+
+  -- a figure that some lawful counts keep within is reachable: no need is above their count
+  pub reachable-counts : (f : ℕ) (count : ℕ → ℕ) → FeasibleCounts p count → largestShare p count ≤ f → reachable p f ≡ true
+  reachable-counts f count c within =
+      reachable-parts p f .1
+      (λ i l. le-trans (fewest i l) (c .at-most i l), le-trans (sum-mono _ _ _ fewest) (c .in-limit))
+    where
+      fewest : (i : ℕ) → i < blockCount p → need p f i ≤ count i
+      fewest i l =
+          need-first p i (v .shaped .block i l) f (count i) (c .at-least i l) (c .at-most i l)
+          (le-trans (largestShare-term p count i l) within)
+
+  pub reachable-mono : (f g : ℕ) → f ≤ g → reachable p f ≡ true → reachable p g ≡ true
+  reachable-mono f g l e =
+      reachable-counts g (need p f) (reachable-feasible f e) (le-trans (reachable-within f e) l)
+
+-- ── figure ───────────────────────────────────────────────────────────────────────────────────────
+-- the figure is at most the largest share at the least copies, where the search for it ends
+pub figure-bound : (p : Plan) → figure p ≤ largestShare p (λ i. blockOf p i .minReplicas)
+unfolding figure
+figure-bound p = least-le _ _
+
+module _ (p : Plan) (v : Valid p) where
+  pub figure-reachable : reachable p (figure p) ≡ true
+  unfolding figure
+  figure-reachable =
+      elim (eq-or-lt-of-le (figure-bound p)) [
+        | inl e ↦ reachable-counts p v (figure p) _ (feasibleCounts-least p v) (le-of-eq (sym e))
+        | inr l ↦ least-passes _ _ l
+      ]
+
+  pub figure-least : (f : ℕ) → reachable p f ≡ true → figure p ≤ f
+  unfolding figure
+  figure-least f e =
+      elim (decLt f (largestShare p (λ i. blockOf p i .minReplicas))) [
+        | yes l ↦ least-first _ _ f l e
+        | no l ↦ let most = figure-bound p in omega arith
+      ]
+
+  -- what a bisection ends with
+  pub figure-by-bisection : (lo : ℕ) → reachable p lo ≡ true → ((f : ℕ) → f < lo → reachable p f ≡ false) → figure p ≡ lo
+  figure-by-bisection lo e below =
+      let most = figure-least lo e in
+      elim (decLt (figure p) lo) [
+        | yes l ↦ no-contradiction (sym figure-reachable ∙ below (figure p) l)
+        | no l ↦ omega arith
+      ]
+
+  -- so it is reachable, and the number before it is not
+  pub figure-at : (f : ℕ) → reachable p (suc f) ≡ true → reachable p f ≡ false → figure p ≡ suc f
+  figure-at f here before =
+      figure-by-bisection (suc f) here
+      (λ g l. not-so (reachable p g) (λ t. no-contradiction (sym (reachable-mono p v g f (omega arith) t) ∙ before)))
+
+  -- no lawful counts have a largest share below the figure
+  pub figure-optimal : (count : ℕ → ℕ) → FeasibleCounts p count → figure p ≤ largestShare p count
+  figure-optimal count c = figure-least _ (reachable-counts p v _ count c (le-refl _))
+
+-- ── chosen ───────────────────────────────────────────────────────────────────────────────────────
+module _ (p : Plan) (v : Valid p) where
+  -- The chosen counts are optimal. Let lawful counts keep every share within some figure f. The need of a block at f is the first
+  -- lawful count whose share is within f, so it is at most the block's count. Then every need is at most the upper count, and the
+  -- needs sum to no more than the counts do, which is within the limit: f is reachable. So no lawful counts have a largest share
+  -- below the least reachable figure. That figure is reachable itself, as the least copies of an accepted plan are lawful and the
+  -- search for it ends at their largest share. So the needs at it are lawful, their largest share is the figure, and each is the
+  -- smallest count within it.
+  pub chosen-laws : ChosenLaws p
+  unfolding chosen
+  chosen-laws =
+      let feasible = reachable-feasible p v (figure p) (figure-reachable p v) in
+      let most = reachable-within p v (figure p) (figure-reachable p v) in
+      record {
+        feasible = feasible;
+        optimal = λ other c. le-trans most (figure-optimal p v other c);
+        figure-is = le-antisymm most (figure-optimal p v _ feasible);
+        within = λ i l. le-trans (largestShare-term p (chosen p) i l) most;
+        smallest-count = λ i k l. need-first p i (v .shaped .block i l) (figure p) k;
+        unpopular = λ i l none.
+            let b = v .shaped .block i l in
+            le-antisymm
+            (need-first p i b (figure p) (blockOf p i .minReplicas) (le-refl _) (b .min-upper) (rw (none, share-none) (omega arith)))
+            (need-min p i b (figure p));
+      }
+
+  -- Other counts with these laws have the same largest share, the figure, and each count is at most the other.
+  pub chosen-unique : ChosenUnique p
+  chosen-unique count c optimal smallest i l =
+      let laws = chosen-laws in
+      let same : largestShare p count ≡ figure p =
+      le-antisymm (le-trans (optimal (chosen p) (laws .feasible)) (le-of-eq (laws .figure-is))) (figure-optimal p v count c)
+      in
+      le-antisymm
+      (smallest i (chosen p i) l (laws .feasible .at-least i l) (laws .feasible .at-most i l) (rw same (laws .within i l)))
+      (laws .smallest-count i (count i) l (c .at-least i l) (c .at-most i l)
+      (rw same at (largestShare-term p count i l)))

@@ -1,0 +1,177 @@
+-- Laws of the tests of a step, the second part of Steps. For a feasible placement the document's step (lawful afterwards, both loads
+-- below Lm) is a test of the loads, copies and words before it; and a step keeps the placement feasible, at its counts.
+-- Assumes nothing.
+use mathlib.Core.Path.{_≡_, _∙_}
+use mathlib.Core.Bool.{true, not}
+use mathlib.Core.List.{List}
+use mathlib.Core.Logic.{inl, inr, _↔_}
+use Prim.Native.Nat.{ℕ, _+_, _^_, _≤_, _<_}
+use native.Mathlib.Decide.{ℕ-discrete}
+use native.Mathlib.Omega.{arith}
+use borrow.Author.Tests.{eqb-false, ne-eqb, not-true}
+use lib.Dec.{eqb}
+use Rattle.order.specs.Sum.{delta}
+use Rattle.order.proofs.Sums.{delta-same, delta-other}
+use Rattle.order.proofs.Booleans.{and-iff, ltb-iff, eqb-iff}
+use Rattle.model.specs.Plan.{Plan, machines, blockCount, blockOf}
+use Rattle.model.specs.Placement.{bit, wordOf, held, domainsUsed, countOf, used, Feasible, load}
+use Rattle.model.specs.Steps.{Step, none, move, swap, afterMove, afterSwap, after, improves, canMove, canSwap}
+use Rattle.theory.specs.Steps.{LocalMove, LocalSwap, Lawful}
+use Rattle.theory.proofs.Placement.{bit-cases, feasible-own, isFeasible-iff}
+use Rattle.theory.proofs.Steps.{shifted-below, afterMove-word, afterMove-each, afterMove-count, afterMove-used, afterMove-load-source, afterMove-load-target, afterSwap-word-i, afterSwap-word-j, afterSwap-each, afterSwap-count, afterSwap-used, afterSwap-load-source, afterSwap-load-target}
+
+-- ── improves ─────────────────────────────────────────────────────────────────────────────────────
+improves-iff : (p : Plan) (words later : List ℕ) (m n : ℕ)
+    → (improves p words later m n ≡ true)
+    ↔ ((Feasible p (countOf p later) later × (load p later m < load p words m)) × (load p later n < load p words m))
+unfolding improves
+improves-iff p words later m n = and-iff _ _ (and-iff _ _ (isFeasible-iff p later) (ltb-iff _ _)) (ltb-iff _ _)
+
+-- ── holds ────────────────────────────────────────────────────────────────────────────────────────
+set-iff : (w k : ℕ) → (eqb (bit w k) 1 ≡ true) ↔ (bit w k ≡ 1)
+set-iff w k = eqb-iff (bit w k) 1
+
+clear-iff : (w k : ℕ) → (not (eqb (bit w k) 1) ≡ true) ↔ (bit w k ≡ 0)
+clear-iff w k = (clear, λ e. rw (ne-eqb (bit w k) 1 (λ q. omega arith)))
+  where
+    clear : not (eqb (bit w k) 1) ≡ true → bit w k ≡ 0
+    clear e = elim (bit-cases w k) [ inl z ↦ z | inr o ↦ absurd (eqb-false (bit w k) 1 (not-true _ e) o) ]
+
+-- ── canMove ──────────────────────────────────────────────────────────────────────────────────────
+canMove-iff : (p : Plan) (words : List ℕ) (m n i : ℕ)
+    → (canMove p words m n i ≡ true)
+    ↔ ((((held words m i ≡ 1) × (held words n i ≡ 0)) × (used p words n < p .capacity))
+    × (improves p words (afterMove words m n i) m n ≡ true))
+unfolding canMove
+canMove-iff p words m n i =
+    and-iff _ _ (and-iff _ _ (and-iff _ _ (set-iff (wordOf words i) m) (clear-iff (wordOf words i) n)) (ltb-iff _ _)) (λ e. e, λ e. e)
+
+module _ (p : Plan) (count : ℕ → ℕ) (words : List ℕ) (feasible : Feasible p count words) (m n i : ℕ)
+    (ml : m < machines p) (nl : n < machines p) (il : i < blockCount p) where
+  pub afterMove-feasible : LocalMove p words m n i → Feasible p count (afterMove words m n i)
+  afterMove-feasible s =
+      let on = s .on in
+      let off = s .off in
+      record {
+        counts = feasible .counts;
+        within = λ b l. afterMove-each (λ c w. w < 2 ^ machines p) words m n i on
+            (shifted-below (wordOf words i) (machines p) m n (feasible .within i il) ml nl on off) b (feasible .within b l);
+        counted = λ b l. afterMove-count p words m n i on off ml nl b ∙ feasible .counted b l;
+        spread = λ b l. afterMove-each (λ c w. blockOf p c .minRacks ≤ domainsUsed p w) words m n i on (s .spread) b (feasible .spread b l);
+        fits = λ k l. fits k (afterMove-used p words m n i on off il k) (feasible .fits k l) (ℕ-discrete k n);
+      }
+    where
+      fits : (k : ℕ) → used p (afterMove words m n i) k + delta k m ≡ used p words k + delta k n → used p words k ≤ p .capacity
+          → Dec (k ≡ n) → used p (afterMove words m n i) k ≤ p .capacity
+      fits k e l (yes same) =
+          let room : used p words k < p .capacity = rw same (s .room) in
+          let d = delta-same k n same in
+          omega arith
+      fits k e l (no apart) = let d = delta-other k n apart in omega arith
+
+  pub canMove-local : (canMove p words m n i ≡ true) ↔ LocalMove p words m n i
+  canMove-local = (there, back)
+    where
+      there : canMove p words m n i ≡ true → LocalMove p words m n i
+      there e =
+          let z = canMove-iff p words m n i .0 e in
+          let on = z .0 .0 .0 in
+          let off = z .0 .0 .1 in
+          let later = improves-iff p words (afterMove words m n i) m n .0 (z .1) in
+          let source = afterMove-load-source p words m n i on off ml nl il in
+          let target = afterMove-load-target p words m n i on off ml nl il in
+          let less = later .0 .1 in
+          let most = later .1 in
+          record {
+            on = on;
+            off = off;
+            room = z .0 .1;
+            lowers = (omega arith, omega arith);
+            spread = rw (afterMove-word words m n i on) at (later .0 .0 .spread i il);
+          }
+
+      back : LocalMove p words m n i → canMove p words m n i ≡ true
+      back s =
+          let source = afterMove-load-source p words m n i (s .on) (s .off) ml nl il in
+          let target = afterMove-load-target p words m n i (s .on) (s .off) ml nl il in
+          let lowers = s .lowers in
+          let later = feasible-own p count (afterMove words m n i) (afterMove-feasible s) in
+          canMove-iff p words m n i .1 (
+            ((s .on, s .off), s .room),
+            improves-iff p words (afterMove words m n i) m n .1 ((later, omega arith), omega arith),
+          )
+
+-- ── canSwap ──────────────────────────────────────────────────────────────────────────────────────
+canSwap-iff : (p : Plan) (words : List ℕ) (m n i j : ℕ)
+    → (canSwap p words m n i j ≡ true)
+    ↔ (((((held words m i ≡ 1) × (held words m j ≡ 0)) × (held words n j ≡ 1)) × (held words n i ≡ 0))
+    × (improves p words (afterSwap words m n i j) m n ≡ true))
+unfolding canSwap
+canSwap-iff p words m n i j =
+    and-iff _ _ (and-iff _ _ (and-iff _ _ (and-iff _ _ (set-iff (wordOf words i) m) (clear-iff (wordOf words j) m))
+    (set-iff (wordOf words j) n)) (clear-iff (wordOf words i) n)) (λ e. e, λ e. e)
+
+module _ (p : Plan) (count : ℕ → ℕ) (words : List ℕ) (feasible : Feasible p count words) (m n i j : ℕ)
+    (ml : m < machines p) (nl : n < machines p) (il : i < blockCount p) (jl : j < blockCount p) where
+  pub afterSwap-feasible : LocalSwap p words m n i j → Feasible p count (afterSwap words m n i j)
+  afterSwap-feasible s =
+      let each = afterSwap-each p words m n i j (s .i-on) (s .i-off) (s .j-on) (s .j-off) in
+      record {
+        counts = feasible .counts;
+        within = λ b l. each (λ c w. w < 2 ^ machines p)
+            (shifted-below (wordOf words i) (machines p) m n (feasible .within i il) ml nl (s .i-on) (s .i-off))
+            (shifted-below (wordOf words j) (machines p) n m (feasible .within j jl) nl ml (s .j-on) (s .j-off))
+            b (feasible .within b l);
+        counted = λ b l. afterSwap-count p words m n i j (s .i-on) (s .i-off) (s .j-on) (s .j-off) ml nl b ∙ feasible .counted b l;
+        spread = λ b l. each (λ c w. blockOf p c .minRacks ≤ domainsUsed p w) (s .i-spread) (s .j-spread) b (feasible .spread b l);
+        fits = λ k l. rw (afterSwap-used p words m n i j (s .i-on) (s .i-off) (s .j-on) (s .j-off) il jl k) (feasible .fits k l);
+      }
+
+  pub canSwap-local : (canSwap p words m n i j ≡ true) ↔ LocalSwap p words m n i j
+  canSwap-local = (there, back)
+    where
+      there : canSwap p words m n i j ≡ true → LocalSwap p words m n i j
+      there e =
+          let z = canSwap-iff p words m n i j .0 e in
+          let i-on = z .0 .0 .0 .0 in
+          let j-off = z .0 .0 .0 .1 in
+          let j-on = z .0 .0 .1 in
+          let i-off = z .0 .1 in
+          let later = improves-iff p words (afterSwap words m n i j) m n .0 (z .1) in
+          let source = afterSwap-load-source p words m n i j i-on i-off j-on j-off ml nl il jl in
+          let target = afterSwap-load-target p words m n i j i-on i-off j-on j-off ml nl il jl in
+          let less = later .0 .1 in
+          let most = later .1 in
+          record {
+            i-on = i-on;
+            i-off = i-off;
+            j-on = j-on;
+            j-off = j-off;
+            lowers = (omega arith, omega arith);
+            i-spread = rw (afterSwap-word-i p words m n i j i-on i-off j-on j-off) at (later .0 .0 .spread i il);
+            j-spread = rw (afterSwap-word-j p words m n i j i-on i-off j-on j-off) at (later .0 .0 .spread j jl);
+          }
+
+      back : LocalSwap p words m n i j → canSwap p words m n i j ≡ true
+      back s =
+          let source = afterSwap-load-source p words m n i j (s .i-on) (s .i-off) (s .j-on) (s .j-off) ml nl il jl in
+          let target = afterSwap-load-target p words m n i j (s .i-on) (s .i-off) (s .j-on) (s .j-off) ml nl il jl in
+          let lowers = s .lowers in
+          let later = feasible-own p count (afterSwap words m n i j) (afterSwap-feasible s) in
+          canSwap-iff p words m n i j .1 (
+            (((s .i-on, s .j-off), s .j-on), s .i-off),
+            improves-iff p words (afterSwap words m n i j) m n .1 ((later, omega arith), omega arith),
+          )
+
+-- ── after ────────────────────────────────────────────────────────────────────────────────────────
+-- a lawful step keeps the placement feasible, at its counts
+pub after-feasible : (p : Plan) (count : ℕ → ℕ) (words : List ℕ) → Feasible p count words
+    → (s : Step) → Lawful p words s → Feasible p count (after words s)
+unfolding after
+after-feasible p count words feasible none h = absurd h
+after-feasible p count words feasible (move racks m n i) h =
+    afterMove-feasible p count words feasible m n i (h .0) (h .1) (h .2)
+    (canMove-local p count words feasible m n i (h .0) (h .1) (h .2) .0 (h .3))
+after-feasible p count words feasible (swap racks m n i j) h =
+    afterSwap-feasible p count words feasible m n i j (h .0) (h .1) (h .2) (h .3)
+    (canSwap-local p count words feasible m n i j (h .0) (h .1) (h .2) (h .3) .0 (h .4))

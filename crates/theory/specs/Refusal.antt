@@ -1,0 +1,45 @@
+-- What the rows of the table leave of a plan, and the laws of an accepted one, for everything above the reader.
+use mathlib.Core.Path.{_≡_}
+use mathlib.Core.List.{List}
+use mathlib.Core.Logic.{_⊎_}
+use lib.ListN.{length}
+use Prim.Native.Nat.{ℕ, _*_, _<_, _≤_}
+use Rattle.model.specs.Plan.{Plan, machines, domains, blockCount, blockOf, upper, minTotal, formatIn, planIn, recordAt}
+use Rattle.model.specs.Refusal.{maxMachines, maxCapacity, maxBlocks, judge, accepted}
+
+-- What rows 8 and 9 leave of block i: 1 ≤ least ≤ the smaller of 8 and M, 1 ≤ spread ≤ least, spread ≤ R.
+pub record ValidBlock (p : Plan) (i : ℕ) : Type 0 where
+  pub min-pos : 1 ≤ blockOf p i .minReplicas
+  pub min-upper : blockOf p i .minReplicas ≤ upper p i
+  pub racks-pos : 1 ≤ blockOf p i .minRacks
+  pub racks-min : blockOf p i .minRacks ≤ blockOf p i .minReplicas
+  pub racks-all : blockOf p i .minRacks ≤ domains p
+
+-- What rows 4 to 9 leave of a plan.
+pub record Shaped (p : Plan) : Type 0 where
+  pub racks-pos : 1 ≤ p .racks
+  pub size-pos : 1 ≤ p .rackSize
+  pub machines-max : machines p ≤ maxMachines
+  pub capacity-pos : 1 ≤ p .capacity
+  pub capacity-max : p .capacity ≤ maxCapacity
+  pub blocks-max : blockCount p ≤ maxBlocks
+  pub block : (i : ℕ) → i < blockCount p → ValidBlock p i
+
+-- What rows 4 to 11 leave: an accepted plan's least copies keep the budget and the places.
+pub record Valid (p : Plan) : Type 0 where
+  pub shaped : Shaped p
+  pub in-budget : minTotal p ≤ p .budget
+  pub in-places : minTotal p ≤ machines p * p .capacity
+
+-- The code is not one of 1 to 9.
+abbrev pub PastRow9 : ℕ → Type 0
+PastRow9 code = (9 < code) ⊎ (code ≡ 0)
+
+-- An accepted plan is the one that the bytes hold, it is valid, and the bytes are its header and B records.
+pub record Accepted (bytes : List ℕ) (p : Plan) : Type 0 where
+  pub held : p ≡ planIn bytes
+  pub valid : Valid p
+  pub length-is : length bytes ≡ recordAt (formatIn bytes) (blockCount p)
+
+abbrev pub AcceptedLaws : Type 0
+AcceptedLaws = (bytes : List ℕ) (p : Plan) → judge bytes ≡ accepted p → Accepted bytes p

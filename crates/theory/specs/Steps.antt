@@ -1,0 +1,77 @@
+-- Document 01, "Steps and rest": a step told by its own machines and blocks, the order of steps, and runs of next steps.
+use mathlib.Core.Path.{_≡_}
+use mathlib.Core.Bool.{true, false}
+use mathlib.Core.List.{List, [], _∷_}
+use mathlib.Core.Logic.{_⊎_, _↔_}
+use Prim.Native.Nat.{ℕ, suc, _+_, _<_, _≤_}
+use Rattle.model.specs.Plan.{Plan, machines, blockCount, blockOf}
+use Rattle.model.specs.Placement.{wordOf, held, domainsUsed, used, shareOf, load}
+use Rattle.model.specs.Steps.{Step, none, move, swap, shifted, after, acrossRacks, canMove, canSwap, isStep, nextStep, AtRest, Run}
+
+-- What the loads must satisfy for m to give the share `given` and get `back`: both loads end below that of m.
+abbrev pub Lowers : Plan → List ℕ → ℕ → ℕ → ℕ → ℕ → Type 0
+Lowers p words m n given back = (back < given) × (load p words n + given < load p words m + back)
+
+-- Move(m, i, n), told by loads, copies and the block's word before it.
+pub record LocalMove (p : Plan) (words : List ℕ) (m n i : ℕ) : Type 0 where
+  pub on : held words m i ≡ 1
+  pub off : held words n i ≡ 0
+  pub room : used p words n < p .capacity
+  pub lowers : Lowers p words m n (shareOf p words i) 0
+  pub spread : blockOf p i .minRacks ≤ domainsUsed p (shifted (wordOf words i) m n)
+
+-- Swap(m, i, n, j), likewise.
+pub record LocalSwap (p : Plan) (words : List ℕ) (m n i j : ℕ) : Type 0 where
+  pub i-on : held words m i ≡ 1
+  pub i-off : held words n i ≡ 0
+  pub j-on : held words n j ≡ 1
+  pub j-off : held words m j ≡ 0
+  pub lowers : Lowers p words m n (shareOf p words i) (shareOf p words j)
+  pub i-spread : blockOf p i .minRacks ≤ domainsUsed p (shifted (wordOf words i) m n)
+  pub j-spread : blockOf p j .minRacks ≤ domainsUsed p (shifted (wordOf words j) n m)
+
+-- A lawful step: its machines and blocks are the plan's, it passes its test, and Move and Swap are for one rack, RackMove and RackSwap
+-- for two.
+abbrev pub Lawful : Plan → List ℕ → Step → Type 0
+Lawful p words none = ⊥
+Lawful p words (move racks m n i) =
+    (m < machines p) × (n < machines p) × (i < blockCount p) × (canMove p words m n i ≡ true) × (racks ≡ acrossRacks p m n)
+Lawful p words (swap racks m n i j) =
+    (m < machines p) × (n < machines p) × (i < blockCount p) × (j < blockCount p) × (canSwap p words m n i j ≡ true)
+    × (racks ≡ acrossRacks p m n)
+
+-- The order of steps: by kind (Move, Swap, RackMove, RackSwap), then m, n, i, j, each lowest first.
+unfoldable pub keyOf : Step → List ℕ
+keyOf none = []
+keyOf (move false m n i) = 0 ∷ m ∷ n ∷ i ∷ []
+keyOf (swap false m n i j) = 1 ∷ m ∷ n ∷ i ∷ j ∷ []
+keyOf (move true m n i) = 2 ∷ m ∷ n ∷ i ∷ []
+keyOf (swap true m n i j) = 3 ∷ m ∷ n ∷ i ∷ j ∷ []
+
+-- One key comes before another by the first number in which they differ.
+unfoldable pub Precedes : List ℕ → List ℕ → Type 0
+Precedes [] key = ⊥
+Precedes (a ∷ rest) [] = ⊥
+Precedes (a ∷ rest) (b ∷ others) = (a < b) ⊎ ((a ≡ b) × Precedes rest others)
+
+-- The next step is the first lawful one.
+pub record NextStepLaws (p : Plan) (words : List ℕ) : Type 0 where
+  pub lawful : (nextStep p words ≡ none) ⊎ Lawful p words (nextStep p words)
+  -- every other lawful step comes after it, and none before it
+  pub first : (s : Step) → Lawful p words s → (nextStep p words ≡ s) ⊎ Precedes (keyOf (nextStep p words)) (keyOf s)
+  pub none-before : (s : Step) → Lawful p words s → Precedes (keyOf s) (keyOf (nextStep p words)) → ⊥
+  -- it is at rest exactly if there is none
+  pub rest : AtRest p words ↔ ((s : Step) → Lawful p words s → ⊥)
+
+-- `Taken p first n last`: n next steps of the definition lead from `first` to `last`.
+pub data Taken (p : Plan) : List ℕ → ℕ → List ℕ → Type 0 where
+  none-taken : {words : List ℕ} → Taken p words 0 words
+  one-more : {words later : List ℕ} {n : ℕ} → isStep (nextStep p words) ≡ true
+      → Taken p (after words (nextStep p words)) n later → Taken p words (suc n) later
+
+-- What a run with a step limit has done: `rested` says that no step is left; otherwise the limit is used and one is.
+pub record RunLaws (p : Plan) (budget : ℕ) (words : List ℕ) (r : Run) : Type 0 where
+  pub within : r .steps ≤ budget
+  pub taken : Taken p words (r .steps) (r .words)
+  pub rest : r .rested ≡ true → AtRest p (r .words)
+  pub spent : r .rested ≡ false → (r .steps ≡ budget) × (isStep (nextStep p (r .words)) ≡ true)
