@@ -15,6 +15,7 @@ use Rattle.model.specs.Placement.{wordOf, countOf, firstWord, firstPlacement, m
 use Rattle.model.specs.Steps.{Run, run}
 use Rattle.model.specs.Calls.{answered, reportOf}
 use Rattle.model.specs.Listing.{wrote, numberField, fields, lineEnd, line, blockWord, planLine, holders, blockLine, lines, endWord, lastLine, listingOf, listingRoom}
+use Rattle.theory.specs.Widths.{shareBound}
 use Rattle.theory.proofs.PlacementFirst.{firstPlacement-feasible}
 use Rattle.theory.proofs.Replication.{chosen-laws}
 use Rattle.theory.proofs.Listing.{fields-append, holders-zero, holders-low, holders-past, lines-cong, lines-step, lines-prefix, listingOf-feasible, listingOf-fits}
@@ -212,7 +213,7 @@ module _ (p : Plan) (c : Cluster) (limit : ℕ) (profiles words : List ℕ) (r :
   pub whole-room : limit < 2 ^ 32 → (text : List ℕ) → listingRoom ≤ length text → Room 0 (allRows c profiles words r) text
   whole-room l text room =
       let fit = made .fits .profiles-fit in
-      let narrow : (i : ℕ) → i < blockCount p → share (blockOf p i .popularity) (chosen p i) < 2 ^ 34 =
+      let narrow : (i : ℕ) → i < blockCount p → share (blockOf p i .popularity) (chosen p i) < shareBound =
       λ i m.
       let k = rw (← all) at m in
       omega (arith, fit .narrow i k, profiles-share p (chosen p) c profiles (made .profiles-of) (placement .feasible .counts) i k)

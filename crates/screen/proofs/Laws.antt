@@ -8,13 +8,7 @@ use native.Mathlib.Omega.{arith}
 use lib.ListN.{getD}
 use Rattle.model.specs.Placement.{bit}
 use Rattle.index.specs.Index.{byRank, spot, shareAt}
-use Rattle.ranking.specs.Ranks.{keyShare}
 use Rattle.screen.specs.Screen.{Alone, Passed, SweptTo, Rising}
-
--- a share read from a 64-bit key
-pub keyShare-narrow : (key : ℕ) → key < 2 ^ 64 → keyShare key < 2 ^ 54
-unfolding keyShare
-keyShare-narrow key l = omega arith
 
 -- the bits of one word of the index
 pub spot-word : (index : List ℕ) (m base : ℕ) → base % 64 ≡ 0 → (t : ℕ) → t < 64

@@ -15,6 +15,7 @@ use Rattle.model.specs.Placement.{bit, replicas, replicasIn, domainsUsed, used,
 use Rattle.model.specs.Steps.{shifted, afterMove, afterSwap, after, improves, canMove, canSwap, pairs, nextMove, nextSwap, nextStep, Run, run}
 use Rattle.model.specs.Calls.{reportOf}
 use Rattle.model.specs.Listing.{digits, decimal, numberField, fields, line, planLine, holders, blockLine, lines, lastLine, listingOf, refusedLine, printedOf, printed, listingRoom}
+use Rattle.theory.specs.Widths.{shareBound}
 use Rattle.theory.proofs.Plan.{field-bound, planIn-blockCount, planIn-blockOf}
 use Rattle.theory.proofs.Refusal.{refusal-le, refusal-zero, judge-refused, judge-accepted}
 use Rattle.theory.proofs.Replication.{share-bound}
@@ -47,9 +48,9 @@ empty-printed : (budget : ℕ) → printed [] budget ≡ listing-empty
 unfolding printed printedOf refusedLine line fields numberField decimal digits judge refusal check1 listing-empty
 empty-printed budget = refl
 
--- a popularity of three bytes has shares below 2 ^ 34
+-- shares are within their bound, since a popularity is within its own
 share-fits : (bytes : List ℕ) → ((i : ℕ) → getD bytes i 0 < 256) → (count : ℕ → ℕ) (i : ℕ) → i < blockCount (planIn bytes)
-    → share (blockOf (planIn bytes) i .popularity) (count i) < 2 ^ 34
+    → share (blockOf (planIn bytes) i .popularity) (count i) < shareBound
 unfolding blockIn formatOf
 share-fits bytes h count i l =
     rw (planIn-blockOf bytes i (rw (planIn-blockCount bytes) at l))

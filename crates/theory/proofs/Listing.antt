@@ -24,6 +24,7 @@ use Rattle.model.specs.Placement.{bit, wordOf, held, countOf, replicas, Feasibl
 use Rattle.model.specs.Steps.{run}
 use Rattle.model.specs.Calls.{refuse, reportOf}
 use Rattle.model.specs.Listing.{digits, decimal, numberField, fields, line, planLine, holders, blockLine, lines, endWord, lastLine, listingOf, refusedLine, printedOf, printed, listingRoom, shortRoom, roomRefusal, wrote, listingCall, printCall}
+use Rattle.theory.specs.Widths.{shareBound}
 use Rattle.theory.specs.Refusal.{Valid}
 use Rattle.theory.specs.Listing.{ListingFits}
 use Rattle.theory.proofs.Plan.{machines-pos}
@@ -177,8 +178,8 @@ module _ (word m : ℕ) (on : bit word m ≡ 1) (first : (k : ℕ) → k < m →
 -- ── blockLine ────────────────────────────────────────────────────────────────────────────────────
 -- of a placement whose shares fit 34 bits
 module _ (p : Plan) (valid : Valid p) (words : List ℕ) (feasible : Feasible p (chosen p) words)
-    (narrow : (i : ℕ) → i < blockCount p → share (blockOf p i .popularity) (chosen p i) < 2 ^ 34) where
-  share-narrow : (i : ℕ) → i < blockCount p → shareOf p words i < 2 ^ 34
+    (narrow : (i : ℕ) → i < blockCount p → share (blockOf p i .popularity) (chosen p i) < shareBound) where
+  share-narrow : (i : ℕ) → i < blockCount p → shareOf p words i < shareBound
   share-narrow i l = rw (shareOf-feasible p (chosen p) words feasible i l) at (narrow i l)
 
   blockLine-length : (i : ℕ) → i < blockCount p → length (blockLine p words i) ≤ 49
@@ -228,15 +229,15 @@ lines-prefix (suc n) f i l = elim (ℕ-discrete i (suc n)) [
 
 -- ── lastLine ─────────────────────────────────────────────────────────────────────────────────────
 module _ (p : Plan) (valid : Valid p) (words : List ℕ) (feasible : Feasible p (chosen p) words)
-    (narrow : (i : ℕ) → i < blockCount p → share (blockOf p i .popularity) (chosen p i) < 2 ^ 34) where
+    (narrow : (i : ℕ) → i < blockCount p → share (blockOf p i .popularity) (chosen p i) < shareBound) where
   load-narrow : (m : ℕ) → load p words m ≤ 2 ^ 44
   unfolding load
   load-narrow m =
       let few = valid .shaped .blocks-max in
-      let each : (i : ℕ) → i < blockCount p → held words m i * shareOf p words i ≤ 2 ^ 34 =
+      let each : (i : ℕ) → i < blockCount p → held words m i * shareOf p words i ≤ shareBound =
       λ i l. omega (arith, mul-le-mul-right (shareOf p words i) (bit-le (wordOf words i) m), share-narrow p valid words feasible narrow i l)
       in
-      omega (arith, sum-mono (blockCount p) _ (λ i. 2 ^ 34) each, sum-const (blockCount p) (2 ^ 34))
+      omega (arith, sum-mono (blockCount p) _ (λ i. shareBound) each, sum-const (blockCount p) (shareBound))
 
   max-narrow : maxLoad p words ≤ 2 ^ 44
   unfolding maxLoad
@@ -253,9 +254,9 @@ module _ (p : Plan) (valid : Valid p) (words : List ℕ) (feasible : Feasible p 
       let few = valid .shaped .machines-max in
       omega (arith, sum-mono (machines p) (load p words) (λ m. 2 ^ 44) (λ m l. load-narrow m), sum-const (machines p) (2 ^ 44))
 
-  top-narrow : maxShare p words ≤ 2 ^ 34
+  top-narrow : maxShare p words ≤ shareBound
   unfolding maxShare
-  top-narrow = largest-le (blockCount p) (shareOf p words) (2 ^ 34) (λ i l. omega (arith, share-narrow p valid words feasible narrow i l))
+  top-narrow = largest-le (blockCount p) (shareOf p words) (shareBound) (λ i l. omega (arith, share-narrow p valid words feasible narrow i l))
 
   lastLine-length : (rested : Bool) (steps : ℕ) → steps < 2 ^ 32
       → length (lastLine p (record { rested = rested; steps = steps; words = words })) ≤ 84

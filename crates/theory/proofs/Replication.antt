@@ -4,7 +4,7 @@
 use mathlib.Core.Path.{_≡_, refl, ap, sym, _∙_}
 use mathlib.Core.Logic.{_↔_, inl, inr}
 use mathlib.Core.Bool.{Bool, true, false, _||_}
-use Prim.Native.Nat.{ℕ, suc, _+_, _*_, _-_, _/_, _≤_, _<_, _^_}
+use Prim.Native.Nat.{ℕ, suc, _+_, _*_, _-_, _/_, _≤_, _<_}
 use native.Mathlib.Nat.{mul-comm, mul-assoc, zero-div, le-of-mul-le-mul-right, mul-le-mul-left, mul-le-mul-right, div-le-self, div-eq-of-eq-mul-left, le-add-right, le-of-eq, le-min, le-antisymm, le-trans, le-refl, eq-or-lt-of-le}
 use native.Mathlib.Decide.{decLt, decLe}
 use native.Mathlib.Omega.{arith}
@@ -17,6 +17,7 @@ use Rattle.order.proofs.Sums.{sum-cong, sum-mono, sum-mul}
 use Rattle.order.proofs.Extremes.{least-le, least-passes, least-first, allb-at, allb-iff, largest-term, largest-le}
 use Rattle.model.specs.Plan.{Plan, maxReplicas, blockCount, blockOf, upper, minTotal}
 use Rattle.model.specs.Replication.{limit, FeasibleCounts, unit, share, largestShare, need, reachable, figure, chosen}
+use Rattle.theory.specs.Widths.{popularityBound, shareBound}
 use Rattle.theory.specs.Refusal.{ValidBlock, Shaped, Valid}
 use Rattle.theory.specs.Replication.{ShareLaws, ChosenLaws, ChosenUnique}
 use Rattle.theory.proofs.Plan.{upper-max}
@@ -83,12 +84,12 @@ share-falls P j k pos more max =
     share-within P k (share P j) (omega arith) max .1
     (le-trans (le-of-eq (sym (share-exact P j pos (omega arith)))) (mul-le-mul-left (share P j) more))
 
--- a share is at most the whole popularity, and fits 34 bits
+-- a share is at most the whole popularity, and so within its bound
 pub share-whole : (P k : ℕ) → share P k ≤ P * unit
 unfolding share
 share-whole P k = div-le-self (P * unit) k
 
-pub share-bound : (P k : ℕ) → P < 2 ^ 24 → share P k < 2 ^ 34
+pub share-bound : (P k : ℕ) → P < popularityBound → share P k < shareBound
 share-bound P k l = let whole = share-whole P k in omega arith
 
 pub share-none : (k : ℕ) → share 0 k ≡ 0

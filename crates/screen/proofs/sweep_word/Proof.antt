@@ -21,9 +21,10 @@ use Rattle.theory.proofs.Placement.{bit-le, bit-take, bit-zero}
 use Rattle.bits.specs.Words.{Lowest}
 use Rattle.ranking.specs.Ranks.{keyShare}
 use Rattle.index.specs.Index.{keysAt}
+use Rattle.ranking.proofs.Laws.{keyShare-narrow}
 use Rattle.screen.specs.declared.Sweep.{Sweep}
 use Rattle.screen.specs.Screen.{Side, SweptTo, Rising, Bits}
-use Rattle.screen.proofs.Laws.{keyShare-narrow, skip}
+use Rattle.screen.proofs.Laws.{skip}
 use Rattle.screen.proofs.sweep_word.Statement.{statement}
 use Rattle.screen.proofs.sweep_word.Tie as tie
 
