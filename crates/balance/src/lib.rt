@@ -6,7 +6,7 @@ ghost use mathlib.Core.Path.{_≡_};
 ghost use mathlib.Core.Bool.{not};
 ghost use Prim.Native.Nat.{ℕ};
 ghost use Rattle.model.specs.Plan.{Plan};
-ghost use Rattle.model.specs.Steps.{isStep, nextStep, afterMove, afterSwap, after, run};
+ghost use Rattle.model.specs.Steps.{isStep, afterMove, afterSwap, after, run};
 ghost use Rattle.cluster.specs.Blocks.{PlacementOf};
 ghost use Rattle.index.specs.Index.{Ordered};
 ghost use Rattle.search.specs.Scene.{NextFound, stepOf};

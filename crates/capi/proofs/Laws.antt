@@ -1,7 +1,7 @@
 -- An exported call's effect by cases: a short `out`, a refusal, an answer. And numbers written over `out`, one by one.
 -- Assumes nothing.
 use mathlib.Core.Path.{_≡_, refl, ap, sym, _∙_}
-use mathlib.Core.List.{List, _++_}
+use mathlib.Core.List.{List, [], _∷_, _++_}
 use Prim.Native.Nat.{ℕ, _+_, _<_, _≤_}
 use native.Mathlib.Nat.{le-antisymm}
 use borrow.Author.Tests.{lt-ltb, le-ltb}
@@ -9,8 +9,9 @@ use lib.ListN.{length, getD, drop, set}
 use lib.Seq.{ext-getD}
 use Rattle.order.specs.Table.{table, filled}
 use Rattle.order.proofs.Tables.{length-table, getD-table, filled-none, filled-more}
+use Rattle.model.specs.Steps.{Step, none, move, swap}
 use Rattle.model.specs.Calls.{Outcome, answered, refuse}
-use Rattle.capi.specs.Interface.{effectOf, shortOut, over, replied, effect}
+use Rattle.capi.specs.Interface.{effectOf, shortOut, over, replied, effect, stepNumbers}
 
 module _ {A : Type 0} (need : ℕ) (numbers : A → List ℕ) (items out : List ℕ) (call : Outcome A) where
   pub out-short : length out < need → effectOf shortOut items out ≡ effect need numbers items out call
@@ -59,3 +60,13 @@ module _ (numbers old : List ℕ) where
       written
       ∙ ap (λ (n : ℕ). filled n (λ k. getD numbers k 0) old) (le-antisymm l m)
       ∙ ap (λ (s : List ℕ). s ++ drop (length numbers) old) all-of
+
+-- a step's numbers are six
+pub stepNumbers-six : (s : Step) → let n = stepNumbers s in
+    _≡_ {A = List ℕ}
+    (2 ∷ getD n 0 0 ∷ getD n 1 0 ∷ getD n 2 0 ∷ getD n 3 0 ∷ getD n 4 0 ∷ getD n 5 0 ∷ [])
+    (2 ∷ n)
+unfolding stepNumbers
+stepNumbers-six none = refl
+stepNumbers-six (move racks m n i) = refl
+stepNumbers-six (swap racks m n i j) = refl

@@ -2,7 +2,6 @@
 use cluster::Cluster;
 use index::Pair;
 use transfers::Hit;
-ghost use mathlib.Core.Path.{_≡_};
 ghost use Rattle.transfers.specs.Pair.{pairStep, PairAsked, HitOf};
 ghost use Rattle.search.specs.Scene.{isExchange, isAcross, NextFound, AnswerOf, KindAsked, OfKind, pairOf, rowOf, kindStep, SearchAsked, RowAsked, PairAt, HitIs};
 

@@ -1,11 +1,7 @@
 -- `balance::is_rest` meets its contract: only `Rest` is no step.
 -- Assumes nothing.
 use borrow.Author.Needs.{needs}
-use mathlib.Core.Path.{_≡_, ap, sym}
-use mathlib.Core.Bool.{not}
-use Rattle.model.specs.Steps.{isStep}
 use Rattle.search.specs.Scene.{stepOf}
-use Rattle.search.specs.declared.Step.{Step}
 use Rattle.balance.proofs.is_rest.Statement.{statement}
 use Rattle.balance.proofs.is_rest.Tie as tie
 
@@ -26,23 +22,23 @@ enum-told-5 c = search needs
 
 returns : tie.Need-returns
 unfolding stepOf
-returns c = sym (ap (λ (s : Step). not (isStep (stepOf s))) (c .enum-told .given .1))
+returns c = rw (c .enum-told .given .1)
 
 returns-2 : tie.Need-returns-2
 unfolding stepOf
-returns-2 c = sym (ap (λ (s : Step). not (isStep (stepOf s))) (c .enum-told2 .given .1))
+returns-2 c = rw (c .enum-told2 .given .1)
 
 returns-3 : tie.Need-returns-3
 unfolding stepOf
-returns-3 c = sym (ap (λ (s : Step). not (isStep (stepOf s))) (c .enum-told3 .given .1))
+returns-3 c = rw (c .enum-told3 .given .1)
 
 returns-4 : tie.Need-returns-4
 unfolding stepOf
-returns-4 c = sym (ap (λ (s : Step). not (isStep (stepOf s))) (c .enum-told4 .given .1))
+returns-4 c = rw (c .enum-told4 .given .1)
 
 returns-5 : tie.Need-returns-5
 unfolding stepOf
-returns-5 c = sym (ap (λ (s : Step). not (isStep (stepOf s))) (c .enum-told5 .given .1))
+returns-5 c = rw (c .enum-told5 .given .1)
 
 pub is-rest-spec : {M : Type 1} → statement M
 is-rest-spec =

@@ -1,6 +1,6 @@
--- `balance::run_ordered` meets its contract. The loop's invariant: the loads are those of the words, and the run is the steps taken
--- and the run that is left. Assumes nothing.
-use mathlib.Core.Path.{_≡_, sym, _∙_}
+-- `balance::run_ordered` meets its contract. The loop's invariant: the loads are the words', and the run is the steps taken and the run that is left.
+-- Assumes nothing.
+use mathlib.Core.Path.{sym, _∙_}
 use Prim.Native.Nat.{_-_}
 use native.Mathlib.Omega.{arith}
 use borrow.Author.Needs.{needs}

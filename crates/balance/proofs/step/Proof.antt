@@ -1,7 +1,7 @@
 -- `balance::step` meets its contract: the step that was found is taken.
 -- Assumes nothing.
 use borrow.Author.Needs.{needs}
-use mathlib.Core.Path.{_≡_, ap, _∙_}
+use mathlib.Core.Path.{ap, _∙_}
 use denote.Ref.{now}
 use Rattle.model.specs.Steps.{after}
 use Rattle.balance.proofs.Laws.{take-asked}

@@ -1,43 +1,43 @@
+-- `capi::bpl_play` meets its contract: a short out first, then the script's play, its reply as numbers over out, and so the claim.
+-- Assumes nothing.
 use borrow.Author.Needs.{needs}
+use mathlib.Core.Path.{_≡_, refl, ap, ap₂, sym, _∙_}
+use native.Mathlib.Omega.{arith}
+use Rattle.capi.specs.Interface.{replyNumbers}
+use Rattle.capi.proofs.Laws.{out-short, answers}
+use Rattle.capi.proofs.PlayLaws.{played-into}
 use Rattle.capi.proofs.bpl_play.Statement.{statement}
 use Rattle.capi.proofs.bpl_play.Tie as tie
-use Rattle.capi.proofs.bpl_play.Reads as reads
-use Rattle.capi.proofs.bpl_play.Lts as lts
-use Rattle.capi.proofs.reply_numbers.Reads as reply-numbers-reads
-use Rattle.capi.proofs.write_numbers.Reads as write-numbers-reads
-use Rattle.script.proofs.play.Reads as play-reads
 
--- src/lib.rt:225:9
 returns : tie.Need-returns
-returns c = ?
+returns c =
+    record {
+      equal = out-short 7 replyNumbers _ _ _ (c .if1 .taken);
+      claimed = λ enough. absurd (omega (arith, c .if1 .taken));
+    }
 
--- src/lib.rt:227:9
 play-requires : tie.Need-play-requires
 play-requires c κs = search needs
 
--- src/lib.rt:228:19
 reply-numbers-requires : tie.Need-reply-numbers-requires
 reply-numbers-requires c κs = search needs
 
--- src/lib.rt:229:24
 slice-aggregate-write-numbers : tie.Need-slice-aggregate-write-numbers
 slice-aggregate-write-numbers c = search needs
 
--- src/lib.rt:229:5
 write-numbers-requires : tie.Need-write-numbers-requires
 write-numbers-requires c κs = search needs
 
--- src/lib.rt:213:1
 same-length : tie.Need-same-length
 same-length c = search needs
 
--- src/lib.rt:213:1
 same-length-2 : tie.Need-same-length-2
 same-length-2 c = search needs
 
--- src/lib.rt:213:1
 returns-2 : tie.Need-returns-2
-returns-2 c = ?
+returns-2 c =
+    let numbers = rw (c .before .before .before .before .before .reply-numbers .ensures) at (c .before .before .write-numbers .ensures) in
+    played-into _ _ _ _ _ _ _ _ (c .before .before .before .before .before .before .before .before .before .before .if1 .left) (c .before .before .before .before .before .before .before .before .play .ensures) numbers
 
 pub bpl-play-spec : {M : Type 1} → statement M
 bpl-play-spec =

@@ -1,6 +1,6 @@
 -- `search::find` meets its contract: the kinds in the definition's order, each tried where those before it found nothing.
 -- Assumes nothing.
-use mathlib.Core.Path.{_≡_, sym, _∙_}
+use mathlib.Core.Path.{sym, _∙_}
 use mathlib.Core.Bool.{true, false}
 use borrow.Author.Needs.{needs}
 use Rattle.search.proofs.Laws.{kindStep-taken, kindStep-passed, kindStep-last, nextStep-kinds}

@@ -1,6 +1,6 @@
 -- `search::find_kind` meets its contract. The loop's invariant: the definition finds nothing from the machines passed.
 -- Assumes nothing.
-use mathlib.Core.Path.{_≡_, refl, _∙_}
+use mathlib.Core.Path.{refl, _∙_}
 use Prim.Native.Nat.{_-_}
 use native.Mathlib.Nat.{div-add-mod'}
 use native.Mathlib.Omega.{arith}

@@ -1,6 +1,6 @@
 -- `search::find_row` meets its contract. The loop's invariant: the definition finds nothing at the machines passed.
 -- Assumes nothing.
-use mathlib.Core.Path.{_≡_, _∙_}
+use mathlib.Core.Path.{_∙_}
 use Prim.Native.Nat.{_-_}
 use native.Mathlib.Omega.{arith}
 use borrow.Author.Needs.{needs}
