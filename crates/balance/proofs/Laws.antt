@@ -13,7 +13,7 @@ use Rattle.order.proofs.SumChanges.{sum-change}
 use Rattle.model.specs.Plan.{Plan}
 use Rattle.model.specs.Refusal.{maxMachines}
 use Rattle.model.specs.Placement.{bit, held}
-use Rattle.model.specs.Steps.{none, isStep, nextStep, afterMove, afterSwap, after, Run, run}
+use Rattle.model.specs.Steps.{isStep, nextStep, afterMove, afterSwap, after, Run, run}
 use Rattle.theory.proofs.StepsNext.{isStep-false, nextStep-feasible, run-zero, run-none, run-suc}
 use Rattle.theory.proofs.Steps.{after-length, afterMove-held, afterMove-other, afterMove-length}
 use Rattle.theory.proofs.Placement.{held-apart}

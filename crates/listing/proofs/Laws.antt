@@ -149,8 +149,7 @@ pub first-placement : (p : Plan) (c : Cluster) (profiles : List ℕ) (of : Profi
     → PlacementOf p (chosen p) c later profiles × (later ≡ firstPlacement p)
 first-placement p c profiles of words later sized e =
     let valid = of .cluster .valid in
-    let same = e ∙ first-of p words (sized ∙ cluster-blocks p c (of .cluster)) in
-    (
+    let same = e ∙ first-of p words (sized ∙ cluster-blocks p c (of .cluster)) in (
       record { profiles-of = of; feasible = rw same (firstPlacement-feasible p valid) },
       same,
     )

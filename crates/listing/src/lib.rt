@@ -51,7 +51,11 @@ fn put_block(text: &mut [u8], at: usize, i: usize, profile: u64, word: u64) -> u
     requires { ⌜ Room at (blockRow i profile word) (now text) ⌝ }
     ensures { λ r. ⌜ Put at (blockRow i profile word) (now (text .entry)) (now (text .exit)) r ⌝ }
 {
-    let numbers = [i as u64, cluster::count_of(profile) as u64, cluster::share_of(profile)];
+    let numbers = [
+        i as u64,
+        cluster::count_of(profile) as u64,
+        cluster::share_of(profile),
+    ];
     let named = text::put_word(text, at, b"block");
     let listed = text::put_fields(text, named, &numbers);
     let held = put_holders(text, listed, word);
@@ -59,7 +63,13 @@ fn put_block(text: &mut [u8], at: usize, i: usize, profile: u64, word: u64) -> u
 }
 
 // Puts the block lines in file order.
-fn put_blocks(text: &mut [u8], at: usize, profiles: &[u64], words: &[u64], cluster: Cluster) -> usize
+fn put_blocks(
+    text: &mut [u8],
+    at: usize,
+    profiles: &[u64],
+    words: &[u64],
+    cluster: Cluster,
+) -> usize
     requires { ⌜ RowsAsked at cluster (now profiles) (now words) (now text) ⌝ }
     ensures { λ r. ⌜ Put at (rows cluster (now (profiles .entry)) (now (words .entry))) (now (text .entry)) (now (text .exit)) r ⌝ }
 {
@@ -93,7 +103,13 @@ fn put_last(text: &mut [u8], at: usize, made: FirstRun) -> usize
 }
 
 // Puts all lines.
-fn put_lines(text: &mut [u8], cluster: Cluster, profiles: &[u64], words: &[u64], made: FirstRun) -> usize
+fn put_lines(
+    text: &mut [u8],
+    cluster: Cluster,
+    profiles: &[u64],
+    words: &[u64],
+    made: FirstRun,
+) -> usize
     requires { ⌜ LinesAsked cluster (now profiles) (now words) made (now text) ⌝ }
     ensures { λ r. ⌜ Put 0 (allRows cluster (now (profiles .entry)) (now (words .entry)) made) (now (text .entry)) (now (text .exit)) r ⌝ }
 {
@@ -108,7 +124,13 @@ fn put_lines(text: &mut [u8], cluster: Cluster, profiles: &[u64], words: &[u64],
 }
 
 // The profiles at the chosen counts in the lent list, and in the words the placement after a run from the first placement.
-fn run_first(bytes: &[u8], h: Header, limit: u32, profiles: &mut [u64], words: &mut [u64]) -> FirstRun
+fn run_first(
+    bytes: &[u8],
+    h: Header,
+    limit: u32,
+    profiles: &mut [u64],
+    words: &mut [u64],
+) -> FirstRun
     requires { ⌜ FirstRunAsked (now bytes) h (now profiles) (now words) ⌝ }
     ensures { λ r. ⌜ FirstRunAs (planOf (now (bytes .entry)) h) (h .cluster) limit (now (profiles .exit)) (now (words .exit)) r ⌝ }
 {
@@ -119,11 +141,7 @@ fn run_first(bytes: &[u8], h: Header, limit: u32, profiles: &mut [u64], words: &
     let ran = balance::run(words, profiles, first, cluster, limit);
     let last = loads::sum_words(words, profiles, cluster);
     let report = loads::report(last, cluster);
-    FirstRun {
-        ran,
-        report,
-        top,
-    }
+    FirstRun { ran, report, top }
 }
 
 // Puts the listing of an accepted plan, with room for its words.

@@ -30,16 +30,20 @@ module _ (bytes other : List ℕ) (p : Plan) (code : ℕ) (reads : judge bytes �
   -- refused bytes, with any words
   other-refused : (item : ℕ) (words : List ℕ) → Refuses (callWith other item) words
   unfolding does onPlacement
-  other-refused item words =
-      (code, respond-refused (requestIn item) other (take (lentOf item) words) code
-      (λ A call. onPlan-verdict _ _ call (judge other) code refuses))
+  other-refused item words = (
+    code,
+    respond-refused (requestIn item) other (take (lentOf item) words) code
+        (λ A call. onPlan-verdict _ _ call (judge other) code refuses),
+  )
 
   -- an accepted plan, with fewer than B words
   short-refused : (item : ℕ) (words : List ℕ) → lentOf item < blockCount p → Refuses (callWith bytes item) words
   unfolding does onPlacement placementRefusal
-  short-refused item words short =
-      (12, respond-refused (requestIn item) bytes (take (lentOf item) words) 12
-      (λ A call. onPlan-refused _ _ call (judge bytes) 12 (callRefusal-accepted (judge bytes) p _ reads ∙ code-is) (omega arith)))
+  short-refused item words short = (
+    12,
+    respond-refused (requestIn item) bytes (take (lentOf item) words) 12
+        (λ A call. onPlan-refused _ _ call (judge bytes) 12 (callRefusal-accepted (judge bytes) p _ reads ∙ code-is) (omega arith)),
+  )
     where
       code-is : placementRefusal (take (lentOf item) words) p ≡ 12
       code-is =

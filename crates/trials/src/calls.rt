@@ -1,13 +1,24 @@
 // The public entries of the placement crates, each called once, with its answer as a line.
 use crate::output::Line;
-use counts::CountsAnswer;
-use inspection::CheckAnswer;
-use inspection::ReportAnswer;
-use placing::FirstAnswer;
+use header::Header;
 use plan::Reading;
 use search::Step;
+use service::CheckAnswer;
+use service::CountsAnswer;
+use service::FirstAnswer;
+use service::ReportAnswer;
 use service::RunAnswer;
 use service::StepAnswer;
+
+// A plan's fields: racks, machines per rack, capacity, budget, blocks.
+fn put_header(line: Line, h: Header) -> Line {
+    let cluster = h.cluster;
+    line.number(cluster.racks as u64)
+        .number(cluster.rack_size as u64)
+        .number(cluster.capacity as u64)
+        .number(h.budget as u64)
+        .number(cluster.blocks as u64)
+}
 
 // Judges a plan: its fields, or the refusal.
 pub fn plan_line(bytes: &[u8]) -> Line {
@@ -15,18 +26,14 @@ pub fn plan_line(bytes: &[u8]) -> Line {
     let reading = plan::read(bytes);
     match reading {
         Reading::Refused(code) => line.refused(code),
-        Reading::Accepted(h) => line.number(h.racks as u64)
-            .number(h.rack_size as u64)
-            .number(h.capacity as u64)
-            .number(h.budget as u64)
-            .number(h.blocks as u64),
+        Reading::Accepted(h) => put_header(line, h),
     }
 }
 
 // Chooses the counts: the largest share.
 pub fn counts_line(bytes: &[u8], lent: &mut [u8]) -> Line {
     let line = Line::new(b"counts");
-    let answer = counts::counts(bytes, lent);
+    let answer = service::counts(bytes, lent);
     match answer {
         CountsAnswer::Refused(code) => line.refused(code),
         CountsAnswer::Counted(share) => line.number(share),
@@ -36,7 +43,7 @@ pub fn counts_line(bytes: &[u8], lent: &mut [u8]) -> Line {
 // Makes the first placement: the number of blocks.
 fn first_line(bytes: &[u8], words: &mut [u64]) -> Line {
     let line = Line::new(b"first");
-    let answer = placing::first(bytes, words);
+    let answer = service::first(bytes, words);
     match answer {
         FirstAnswer::Refused(code) => line.refused(code),
         FirstAnswer::Placed(blocks) => line.number(blocks as u64),
@@ -46,7 +53,7 @@ fn first_line(bytes: &[u8], words: &mut [u64]) -> Line {
 // Checks the placement: the number of blocks.
 fn check_line(bytes: &[u8], words: &[u64]) -> Line {
     let line = Line::new(b"check");
-    let answer = inspection::check(bytes, words);
+    let answer = service::check(bytes, words);
     match answer {
         CheckAnswer::Refused(code) => line.refused(code),
         CheckAnswer::Feasible(blocks) => line.number(blocks as u64),
@@ -56,13 +63,13 @@ fn check_line(bytes: &[u8], words: &[u64]) -> Line {
 // Reports on the placement: largest load, smallest load, sum of loads, largest share.
 fn report_line(bytes: &[u8], words: &[u64]) -> Line {
     let line = Line::new(b"report");
-    let answer = inspection::report(bytes, words);
+    let answer = service::report(bytes, words);
     match answer {
         ReportAnswer::Refused(code) => line.refused(code),
-        ReportAnswer::Reported(report) => line.number(report.max_load)
+        ReportAnswer::Reported(report, top) => line.number(report.max_load)
             .number(report.min_load)
             .number(report.total_load)
-            .number(report.max_share),
+            .number(top),
     }
 }
 
