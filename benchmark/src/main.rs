@@ -3,7 +3,7 @@
 use placement_benchmark::{comparison, growth, machine, memory, timing};
 use std::process::exit;
 
-/// All tables; `quick` takes fewer steps where the model is slow.
+/// All tables; `quick` takes fewer steps where the reference is slow.
 fn all(quick: bool) {
     println!("{}\n", timing::RULE);
     machine::print();

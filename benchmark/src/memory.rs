@@ -131,7 +131,7 @@ pub fn memory() {
     println!("Peak resident memory (VmHWM) of a process that makes one listing of the largest plan, spreads mixed, with {STEPS}");
     println!("steps, on one side alone; \"nothing\" makes the plan only.\n");
     let mut table = Table::new(&["process", "peak memory"]);
-    for name in ["nothing", "model", "optimised", "library"] {
+    for name in ["nothing", "reference", "optimised", "library"] {
         table.row([name.to_string(), of_child(name)]);
     }
     if Path::new(PROGRAM).exists() {

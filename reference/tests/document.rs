@@ -1,12 +1,12 @@
 //! The specification's own trial plans and examples of refusals.
 
-use placement_model::calls::*;
-use placement_model::counts::chosen;
-use placement_model::gen::Draft;
-use placement_model::listing::text;
-use placement_model::placement::{feasible, first, loads};
-use placement_model::samples::*;
-use placement_model::steps::{step_literal, step_plain, End, Kind, Step};
+use placement_reference::calls::*;
+use placement_reference::counts::chosen;
+use placement_reference::gen::Draft;
+use placement_reference::listing::text;
+use placement_reference::placement::{feasible, first, loads};
+use placement_reference::samples::*;
+use placement_reference::steps::{step_literal, step_plain, End, Kind, Step};
 
 fn plan_row(draft: &Draft) -> Option<u8> {
     enter_plan(&draft.bytes()).err()

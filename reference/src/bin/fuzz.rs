@@ -1,10 +1,10 @@
-//! Compares a program with the model: fuzz PROGRAM [COUNT] [SEED]. Each plan is given to the program on its
-//! standard input, and what it prints is compared with the model's listing.
+//! Compares a program with the reference: fuzz PROGRAM [COUNT] [SEED]. Each plan is given to the program on its
+//! standard input, and what it prints is compared with the reference's listing.
 
-use placement_model::damage::{flawed, over_budget, over_capacity, over_racks, two_records};
-use placement_model::gen::*;
-use placement_model::listing::{listed, Verdict, STEP_BUDGET};
-use placement_model::steps::End;
+use placement_reference::damage::{flawed, over_budget, over_capacity, over_racks, two_records};
+use placement_reference::gen::*;
+use placement_reference::listing::{listed, Verdict, STEP_BUDGET};
+use placement_reference::steps::End;
 use std::io::{Result, Write};
 use std::process::{exit, Command, Stdio};
 
@@ -29,7 +29,7 @@ fn damaged(rng: &mut Rng) -> Vec<u8> {
         4 => over_racks(rng, SMALL),
         _ => None,
     };
-    let bytes = draft.unwrap_or_else(|| placement_model::gen::draft(rng, SMALL));
+    let bytes = draft.unwrap_or_else(|| placement_reference::gen::draft(rng, SMALL));
     if rng.once_in(2) {
         bytes.bytes()
     } else {
@@ -84,14 +84,14 @@ impl Tally {
 }
 
 /// Saves the plan on which the two differ, says so, and stops.
-fn differ(seed: u64, k: u64, bytes: &[u8], model: &str, program: &[u8]) -> Result<()> {
+fn differ(seed: u64, k: u64, bytes: &[u8], reference: &str, program: &[u8]) -> Result<()> {
     let path = std::env::temp_dir().join(format!("fuzz-{seed}-{k}.plan"));
     std::fs::write(&path, bytes)?;
     println!(
         "seed {seed}, plan {k}: the program differs; the plan is in {}",
         path.display()
     );
-    println!("-- the model prints:\n{model}");
+    println!("-- the reference prints:\n{reference}");
     println!(
         "-- the program prints:\n{}",
         String::from_utf8_lossy(program)
@@ -120,10 +120,10 @@ fn main() -> Result<()> {
         } else {
             input(&mut rng)
         };
-        let (verdict, model) = listed(&bytes, STEP_BUDGET);
+        let (verdict, reference) = listed(&bytes, STEP_BUDGET);
         let said = printed(&program, &bytes)?;
-        if said != model.as_bytes() {
-            differ(seed, k, &bytes, &model, &said)?;
+        if said != reference.as_bytes() {
+            differ(seed, k, &bytes, &reference, &said)?;
         }
         tally.add(verdict);
     }
