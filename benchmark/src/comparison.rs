@@ -49,7 +49,11 @@ pub fn listings(budgets: &[u32]) {
         let bytes = size.fine();
         for &budget in budgets {
             let (times, _) = compared("listing", |side| timed(|| (side.listing)(&bytes, budget)));
-            row(&mut table, &[size.spreads().to_string(), budget.to_string()], times);
+            row(
+                &mut table,
+                &[size.spreads().to_string(), budget.to_string()],
+                times,
+            );
         }
     }
     table.print();
