@@ -5,10 +5,10 @@ use crate::plans::{Size, LARGEST};
 use crate::sides::{compared, first_words, run_timed, step_timed, Side, LIBRARY};
 use crate::table::Table;
 use crate::timing::{ratio, shown, timed};
-use placement_model::gen::Draft;
-use placement_model::plan::read;
-use placement_model::samples::{h, y};
-use placement_model::steps::End;
+use placement_reference::gen::Draft;
+use placement_reference::plan::read;
+use placement_reference::samples::{h, y};
+use placement_reference::steps::End;
 
 /// Spreads one, and spreads mixed.
 pub const BOTH: [Size; 2] = [
@@ -21,10 +21,10 @@ pub const BOTH: [Size; 2] = [
 
 /// The heads of the columns that every comparison ends with.
 const SIDES_HEAD: [&str; 5] = [
-    "model",
+    "reference",
     "optimised",
     "library",
-    "model / library",
+    "reference / library",
     "optimised / library",
 ];
 
@@ -34,9 +34,9 @@ fn table(own: &[&str]) -> Table {
 }
 
 /// A row of a comparison: its own cells, then the times, and how they compare.
-fn row(table: &mut Table, own: &[String], [model, optimised, library]: [f64; 3]) {
-    let times = [model, optimised, library].map(shown);
-    let ratios = [ratio(model, library), ratio(optimised, library)];
+fn row(table: &mut Table, own: &[String], [reference, optimised, library]: [f64; 3]) {
+    let times = [reference, optimised, library].map(shown);
+    let ratios = [ratio(reference, library), ratio(optimised, library)];
     table.row(own.iter().cloned().chain(times).chain(ratios));
 }
 
@@ -49,7 +49,11 @@ pub fn listings(budgets: &[u32]) {
         let bytes = size.fine();
         for &budget in budgets {
             let (times, _) = compared("listing", |side| timed(|| (side.listing)(&bytes, budget)));
-            row(&mut table, &[size.spreads().to_string(), budget.to_string()], times);
+            row(
+                &mut table,
+                &[size.spreads().to_string(), budget.to_string()],
+                times,
+            );
         }
     }
     table.print();

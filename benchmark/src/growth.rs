@@ -5,7 +5,7 @@ use crate::plans::{Size, LARGEST};
 use crate::sides::{compared, run_timed, step_timed, LIBRARY, OPTIMISED};
 use crate::table::Table;
 use crate::timing::{shown, timed};
-use placement_model::steps::End;
+use placement_reference::steps::End;
 
 const HEAD: [&str; 11] = [
     "size",
@@ -85,7 +85,7 @@ pub fn growth() {
     println!("## Growth\n");
     println!("The library's time per call, and the optimised version's where marked, spreads mixed. The mean step is that of a");
     println!("call for {MEAN_OVER} steps from the first placement. The last three columns are of plans with popularities from 0");
-    println!("to 9: a step call at rest. The answers of the short calls are compared with the model's too.\n");
+    println!("to 9: a step call at rest. The answers of the short calls are compared with the reference's too.\n");
     let mixed = Size {
         mixed: true,
         ..LARGEST

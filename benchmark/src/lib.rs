@@ -1,4 +1,4 @@
-//! Times the proved library against the plain model and an optimised version, on the same plans in one process.
+//! Times the proved library against the plain reference and an optimised version, on the same plans in one process.
 //! Every comparison also checks that all sides answer the same.
 
 pub mod comparison;

@@ -6,7 +6,6 @@ use crate::sides::{Side, LIBRARY, SIDES};
 use crate::table::Table;
 use crate::timing::shown;
 use std::io::{Read, Write};
-use std::path::Path;
 use std::process::{Child, Command, Stdio};
 use std::time::{Duration, Instant};
 
@@ -16,7 +15,7 @@ const STEPS: u32 = 60;
 /// The stack of the thread on which the library is tried.
 const STACK: usize = 256 * 1024;
 
-/// The program, built by `rt check place`.
+/// The program, built by scripts/benchmark.
 const PROGRAM: &str = "target/bin/place";
 
 /// The peak memory of a process, as the system tells it.
@@ -125,16 +124,16 @@ fn on_small_stack() {
         .expect("the calls return");
 }
 
-/// The peak memory of all sides.
-pub fn memory() {
+/// The peak memory of all sides, and of the program where it is wanted.
+pub fn memory(program: bool) {
     println!("## Memory\n");
     println!("Peak resident memory (VmHWM) of a process that makes one listing of the largest plan, spreads mixed, with {STEPS}");
     println!("steps, on one side alone; \"nothing\" makes the plan only.\n");
     let mut table = Table::new(&["process", "peak memory"]);
-    for name in ["nothing", "model", "optimised", "library"] {
+    for name in ["nothing", "reference", "optimised", "library"] {
         table.row([name.to_string(), of_child(name)]);
     }
-    if Path::new(PROGRAM).exists() {
+    if program {
         let (peak, seconds) = of_program();
         table.row([
             format!("{PROGRAM}, 100,000 steps in {}", shown(seconds)),

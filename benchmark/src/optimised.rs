@@ -2,13 +2,13 @@
 //!
 //! Loads and lists of blocks per machine are carried from step to step, pairs of machines with Lm <= Ln are passed
 //! over, and the racks of a block are counted only where it changes racks and its spread is above one. Reading a plan,
-//! counts and the first placement are the model's, which are quick already.
+//! counts and the first placement are the reference's, which are quick already.
 
-use placement_model::calls::Report;
-use placement_model::counts::{chosen, share};
-use placement_model::placement::{copies_of, first, holds};
-use placement_model::plan::{read, Plan, Refusal};
-use placement_model::steps::{End, Kind, Step, KINDS};
+use placement_reference::calls::Report;
+use placement_reference::counts::{chosen, share};
+use placement_reference::placement::{copies_of, first, holds};
+use placement_reference::plan::{read, Plan, Refusal};
+use placement_reference::steps::{End, Kind, Step, KINDS};
 use std::fmt::Write;
 
 /// A placement with what is kept up to date beside it.

@@ -1,6 +1,6 @@
 //! The plans that are timed, always the same from the same seed.
 
-use placement_model::gen::{Draft, Record, Rng};
+use placement_reference::gen::{Draft, Record, Rng};
 
 /// How large a plan is, and of what kind.
 #[derive(Clone, Copy)]

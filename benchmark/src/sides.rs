@@ -2,10 +2,10 @@
 
 use crate::optimised;
 use crate::timing::timed;
-use placement_model::calls::{self, Report};
-use placement_model::listing;
-use placement_model::plan::Refusal;
-use placement_model::steps::{End, Kind, Step};
+use placement_reference::calls::{self, Report};
+use placement_reference::listing;
+use placement_reference::plan::Refusal;
+use placement_reference::steps::{End, Kind, Step};
 
 /// What a call answers.
 type Answer<T> = Result<T, Refusal>;
@@ -26,9 +26,9 @@ pub struct Side {
     pub listing: fn(&[u8], u32) -> String,
 }
 
-/// The plain model.
-pub const MODEL: Side = Side {
-    name: "model",
+/// The plain reference.
+pub const REFERENCE: Side = Side {
+    name: "reference",
     plan: |bytes| calls::enter_plan(bytes).map(|_| ()),
     counts: |bytes, lent| calls::enter_counts(bytes, lent).map(|_| ()),
     first: |bytes, lent| calls::enter_first(bytes, lent).map(|_| ()),
@@ -39,7 +39,7 @@ pub const MODEL: Side = Side {
     listing: listing::text,
 };
 
-/// The optimised version; plan, counts and first placement are the model's.
+/// The optimised version; plan, counts and first placement are the reference's.
 pub const OPTIMISED: Side = Side {
     name: "optimised",
     check: |bytes, lent| optimised::check(&calls::enter_plan(bytes)?, lent),
@@ -47,7 +47,7 @@ pub const OPTIMISED: Side = Side {
     step: optimised::enter_step,
     run: optimised::enter_run,
     listing: optimised::listing,
-    ..MODEL
+    ..REFERENCE
 };
 
 /// The proved library.
@@ -75,9 +75,9 @@ pub const LIBRARY: Side = Side {
     },
 };
 
-pub const SIDES: [Side; 3] = [MODEL, OPTIMISED, LIBRARY];
+pub const SIDES: [Side; 3] = [REFERENCE, OPTIMISED, LIBRARY];
 
-/// The library's report in the model's form.
+/// The library's report in the reference's form.
 fn report_of(report: bpl::Report) -> Report {
     Report {
         maximum: report.max_load,
@@ -87,7 +87,7 @@ fn report_of(report: bpl::Report) -> Report {
     }
 }
 
-/// The library's step in the model's form.
+/// The library's step in the reference's form.
 fn step_of(step: bpl::Step) -> Step {
     let (kind, m, n, i, j) = match step {
         bpl::Step::Move { m, n, i } => (Kind::Move, m, n, i, None),
@@ -98,7 +98,7 @@ fn step_of(step: bpl::Step) -> Step {
     Step { kind, m, n, i, j }
 }
 
-/// The library's end of a run in the model's form.
+/// The library's end of a run in the reference's form.
 fn end_of(end: bpl::RunEnd) -> Ended {
     match end {
         bpl::RunEnd::Rest(steps) => (End::Rest, steps),
@@ -108,19 +108,19 @@ fn end_of(end: bpl::RunEnd) -> Ended {
 
 /// Seconds of one call on each side, with the answer of all; fails where the sides answer differently.
 pub fn compared<T: PartialEq>(what: &str, call: impl Fn(&Side) -> (f64, T)) -> ([f64; 3], T) {
-    let [model, optimised, library] = SIDES.map(|side| {
+    let [reference, optimised, library] = SIDES.map(|side| {
         eprintln!("{what}: {}", side.name);
         call(&side)
     });
     assert!(
-        optimised.1 == model.1,
-        "{what}: the optimised version answers differently from the model"
+        optimised.1 == reference.1,
+        "{what}: the optimised version answers differently from the reference"
     );
     assert!(
-        library.1 == model.1,
-        "{what}: the library answers differently from the model"
+        library.1 == reference.1,
+        "{what}: the library answers differently from the reference"
     );
-    ([model.0, optimised.0, library.0], model.1)
+    ([reference.0, optimised.0, library.0], reference.1)
 }
 
 /// A run from the given words: seconds, and the end, the steps and the words after it.

@@ -1,7 +1,16 @@
 //! How times are taken and printed.
 
 use std::hint::black_box;
+use std::sync::atomic::{AtomicBool, Ordering};
 use std::time::Instant;
+
+/// Every call is made once.
+static ONCE: AtomicBool = AtomicBool::new(false);
+
+/// From now on every call is made once, whatever the rule says.
+pub fn once() {
+    ONCE.store(true, Ordering::Relaxed);
+}
 
 /// The rule by which every time is taken, for the reader.
 pub const RULE: &str = "Each time is for one call: one run where it lasts a second or more; else, after a first run, \
@@ -20,7 +29,7 @@ fn lasting<T>(calls: u32, call: &mut impl FnMut() -> T) -> (f64, T) {
 /// Seconds that one call lasts, and its answer. Every call has to make the same.
 pub fn timed<T>(mut call: impl FnMut() -> T) -> (f64, T) {
     let (once, mut answer) = lasting(1, &mut call);
-    if once >= 1.0 {
+    if once >= 1.0 || ONCE.load(Ordering::Relaxed) {
         return (once, answer);
     }
     let calls = if once >= 0.001 {

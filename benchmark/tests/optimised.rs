@@ -1,14 +1,14 @@
-//! The optimised version against the model on random plans: step by step, whole runs, checks and listings.
+//! The optimised version against the reference on random plans: step by step, whole runs, checks and listings.
 
 use placement_benchmark::optimised::{check, enter_report, enter_run, enter_step, listing, State};
-use placement_model::calls;
-use placement_model::damage::{broken, flawed};
-use placement_model::gen::*;
-use placement_model::listing::text;
-use placement_model::placement::{first, loads};
-use placement_model::samples::{empty, h, one_machine, y, z, Z_WORDS};
-use placement_model::steps::{step_plain, End};
-use placement_model::{placement, plan::Plan};
+use placement_reference::calls;
+use placement_reference::damage::{broken, flawed};
+use placement_reference::gen::*;
+use placement_reference::listing::text;
+use placement_reference::placement::{first, loads};
+use placement_reference::samples::{empty, h, one_machine, y, z, Z_WORDS};
+use placement_reference::steps::{step_plain, End};
+use placement_reference::{placement, plan::Plan};
 
 /// Both take the same steps from these words, with the same words and loads after each, until rest or `most` steps.
 fn same_steps(plan: &Plan, words: &[u64], most: usize) -> usize {

@@ -1,4 +1,4 @@
-//! Every entry against the independent model, on random plans and placements and over random lists of calls.
+//! Every entry against the independent reference, on random plans and placements and over random lists of calls.
 //! BPL_CASES sets the number of cases.
 
 mod common;
@@ -7,8 +7,8 @@ mod entries;
 
 use bpl::{RunEnd, Step};
 use common::*;
-use placement_model::gen::{coarse, leaning, sized, Rng, LARGE};
-use placement_model::plan::read;
+use placement_reference::gen::{coarse, leaning, sized, Rng, LARGE};
+use placement_reference::plan::read;
 
 /// The number of blocks that the bytes tell, if they are a plan.
 fn blocks_of(bytes: &[u8]) -> usize {

@@ -1,7 +1,7 @@
 //! The specification's own examples, and the repository's stored ones.
 
 use bpl::{Report, RunEnd, Step};
-use placement_model::samples;
+use placement_reference::samples;
 use std::fs;
 use std::path::PathBuf;
 

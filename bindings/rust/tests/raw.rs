@@ -5,7 +5,7 @@ mod common;
 
 use bpl::raw::*;
 use common::*;
-use placement_model::gen::Rng;
+use placement_reference::gen::Rng;
 
 /// Buffers as one call leaves them, with its code.
 #[derive(Clone, Debug, PartialEq)]

@@ -1,9 +1,9 @@
-//! Each entry on the same bytes and buffer as the model's: the same answer, and the same whole buffer afterwards.
+//! Each entry on the same bytes and buffer as the reference's: the same answer, and the same whole buffer afterwards.
 
 use super::common::*;
 use bpl::{RunEnd, Step};
-use placement_model::calls::*;
-use placement_model::listing;
+use placement_reference::calls::*;
+use placement_reference::listing;
 
 pub fn plan(bytes: &[u8]) {
     let said = numbered(bpl::plan(bytes));
@@ -12,21 +12,21 @@ pub fn plan(bytes: &[u8]) {
 
 pub fn counts(bytes: &[u8], lent: usize) {
     let before: Vec<u8> = (0..lent).map(|i| 0xE0 | (i as u8 % 16)).collect();
-    let (mut ours, mut model) = (before.clone(), before.clone());
+    let (mut ours, mut theirs) = (before.clone(), before.clone());
     let said = numbered(bpl::counts(bytes, &mut ours));
-    let expected = enter_counts(bytes, &mut model).map(|_| ());
+    let expected = enter_counts(bytes, &mut theirs).map(|_| ());
     assert_eq!(said, expected, "counts {bytes:?}");
-    assert_eq!(ours, model, "counts {bytes:?}");
+    assert_eq!(ours, theirs, "counts {bytes:?}");
     kept(said.is_err(), bytes, &before, &ours);
 }
 
 pub fn first(bytes: &[u8], words: &mut [u64]) {
     let before = words.to_vec();
-    let mut model = before.clone();
+    let mut theirs = before.clone();
     let said = numbered(bpl::first(bytes, words));
-    let expected = enter_first(bytes, &mut model).map(|_| ());
+    let expected = enter_first(bytes, &mut theirs).map(|_| ());
     assert_eq!(said, expected, "first {bytes:?}");
-    assert_eq!(*words, model, "first {bytes:?}");
+    assert_eq!(*words, theirs, "first {bytes:?}");
     kept(said.is_err(), bytes, &before, words);
 }
 
@@ -45,22 +45,22 @@ pub fn report(bytes: &[u8], words: &[u64]) {
 
 pub fn step(bytes: &[u8], words: &mut [u64]) -> Result<Option<Step>, u8> {
     let before = words.to_vec();
-    let mut model = before.clone();
+    let mut theirs = before.clone();
     let said = numbered(bpl::step(bytes, words));
-    let expected = enter_step(bytes, &mut model).map(|step| step.map(step_of));
+    let expected = enter_step(bytes, &mut theirs).map(|step| step.map(step_of));
     assert_eq!(said, expected, "step {bytes:?} {before:?}");
-    assert_eq!(*words, model, "step {bytes:?} {before:?}");
+    assert_eq!(*words, theirs, "step {bytes:?} {before:?}");
     kept(said.is_err(), bytes, &before, words);
     said
 }
 
 pub fn run(bytes: &[u8], words: &mut [u64], budget: u32) -> Result<RunEnd, u8> {
     let before = words.to_vec();
-    let mut model = before.clone();
+    let mut theirs = before.clone();
     let said = numbered(bpl::run(bytes, words, budget));
-    let expected = enter_run(bytes, &mut model, budget).map(end_of);
+    let expected = enter_run(bytes, &mut theirs, budget).map(end_of);
     assert_eq!(said, expected, "run {budget} {bytes:?} {before:?}");
-    assert_eq!(*words, model, "run {budget} {bytes:?} {before:?}");
+    assert_eq!(*words, theirs, "run {budget} {bytes:?} {before:?}");
     kept(said.is_err(), bytes, &before, words);
     said
 }

@@ -2,15 +2,15 @@
 #![allow(dead_code)]
 
 use bpl::{Refusal, Report, RunEnd, Step};
-use placement_model::calls;
-use placement_model::damage::{
+use placement_reference::calls;
+use placement_reference::damage::{
     broken, flawed, over_budget, over_capacity, over_racks, two_records,
 };
-use placement_model::gen::{
+use placement_reference::gen::{
     draft, filled, leaning, noise, placement, too_long, Draft, Rng, Size, MEDIUM, SMALL, TINY,
 };
-use placement_model::plan::{read, Plan};
-use placement_model::steps::{self, End, Kind};
+use placement_reference::plan::{read, Plan};
+use placement_reference::steps::{self, End, Kind};
 
 /// What stands in a buffer before a call, so that a write is seen.
 pub const PATTERN: u64 = 0xA5C3_96F0_1B2D_4E87;
@@ -30,7 +30,7 @@ const LONG: Size = Size {
     coarse: false,
 };
 
-/// Mostly small plans, since the model's search is plain loops.
+/// Mostly small plans, since the reference's search is plain loops.
 pub fn size(rng: &mut Rng) -> Size {
     match rng.below(20) {
         0 => MEDIUM,
@@ -141,7 +141,7 @@ pub fn numbered<T>(answer: Result<T, Refusal>) -> Result<T, u8> {
     answer.map_err(Refusal::number)
 }
 
-/// The model's report as the binding's.
+/// The reference's report as the binding's.
 pub fn report_of(report: calls::Report) -> Report {
     Report {
         max_load: report.maximum,
@@ -151,7 +151,7 @@ pub fn report_of(report: calls::Report) -> Report {
     }
 }
 
-/// The model's step as the binding's.
+/// The reference's step as the binding's.
 pub fn step_of(step: steps::Step) -> Step {
     let steps::Step { kind, m, n, i, j } = step;
     match (kind, j) {
@@ -163,7 +163,7 @@ pub fn step_of(step: steps::Step) -> Step {
     }
 }
 
-/// The model's end of a run as the binding's.
+/// The reference's end of a run as the binding's.
 pub fn end_of((end, steps): (End, u32)) -> RunEnd {
     match end {
         End::Rest => RunEnd::Rest(steps),

@@ -293,6 +293,25 @@ pub fn patient(rng: &mut Rng) -> Draft {
     }
 }
 
+/// The largest plan, 1,024 blocks on 64 machines: mixed spreads, and three popularities, so that it comes to rest soon.
+pub fn largest(rng: &mut Rng) -> Draft {
+    let record = |rng: &mut Rng| {
+        let least = rng.from_to(1, 3) as u8;
+        Record {
+            popularity: rng.one_of(&[0, 6, 12]),
+            least,
+            spread: rng.from_to(1, u64::from(least)) as u8,
+        }
+    };
+    Draft {
+        racks: 8,
+        per_rack: 8,
+        capacity: 80,
+        budget: 4000,
+        records: (0..1024).map(|_| record(rng)).collect(),
+    }
+}
+
 /// An input longer than the largest plan, with a header that is refused or not.
 pub fn too_long(rng: &mut Rng) -> Vec<u8> {
     let number = rng.one_of(&[0, 3, 1024]);

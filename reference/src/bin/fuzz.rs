@@ -1,22 +1,48 @@
-//! Compares a program with the model: fuzz PROGRAM [COUNT] [SEED]. Each plan is given to the program on its
-//! standard input, and what it prints is compared with the model's listing.
+//! Compares a program with the reference: fuzz PROGRAM [COUNT] [SEED]. Each plan is given to the program on its
+//! standard input, and what it prints is compared with the reference's listing. The largest plans and inputs longer
+//! than any plan come first, then COUNT random plans.
 
-use placement_model::damage::{flawed, over_budget, over_capacity, over_racks, two_records};
-use placement_model::gen::*;
-use placement_model::listing::{listed, Verdict, STEP_BUDGET};
-use placement_model::steps::End;
+use placement_reference::damage::{flawed, over_budget, over_capacity, over_racks, two_records};
+use placement_reference::gen::*;
+use placement_reference::listing::{listed, Verdict, STEP_BUDGET};
+use placement_reference::samples::{long_listing, H};
+use placement_reference::steps::End;
 use std::io::{Result, Write};
 use std::process::{exit, Command, Stdio};
 
-/// What the program prints for these bytes.
+/// What the program prints for these bytes, on standard output and, if anything, on standard error.
 fn printed(program: &str, bytes: &[u8]) -> Result<Vec<u8>> {
     let mut child = Command::new(program)
         .stdin(Stdio::piped())
         .stdout(Stdio::piped())
+        .stderr(Stdio::piped())
         .spawn()?;
     // A program may stop reading once it knows its answer: a closed pipe is no fault.
     let _ = child.stdin.take().expect("piped").write_all(bytes);
-    Ok(child.wait_with_output()?.stdout)
+    let output = child.wait_with_output()?;
+    Ok([output.stdout, output.stderr].concat())
+}
+
+/// Inputs that are tried whatever the seed, with their names.
+fn named() -> Vec<(&'static str, Vec<u8>)> {
+    let rng = &mut Rng::new(1024);
+    let largest = largest(rng).bytes();
+    let garbage: Vec<u8> = (0..6000).map(|_| rng.below(256) as u8).collect();
+    let refused = [&[0x42, 0x50, 0x4C, 0, 2], &H[5..]].concat();
+    vec![
+        ("long-listing", long_listing().bytes()),
+        ("garbage-behind-a-plan", [&H[..], &garbage].concat()),
+        ("one-byte-behind-the-largest", [&largest[..], &[0]].concat()),
+        (
+            "garbage-behind-the-largest",
+            [&largest[..], &garbage].concat(),
+        ),
+        (
+            "garbage-behind-a-refused-header",
+            [refused, garbage].concat(),
+        ),
+        ("largest", largest),
+    ]
 }
 
 /// A plan that some check refuses, or nearly so.
@@ -29,7 +55,7 @@ fn damaged(rng: &mut Rng) -> Vec<u8> {
         4 => over_racks(rng, SMALL),
         _ => None,
     };
-    let bytes = draft.unwrap_or_else(|| placement_model::gen::draft(rng, SMALL));
+    let bytes = draft.unwrap_or_else(|| placement_reference::gen::draft(rng, SMALL));
     if rng.once_in(2) {
         bytes.bytes()
     } else {
@@ -83,20 +109,30 @@ impl Tally {
     }
 }
 
-/// Saves the plan on which the two differ, says so, and stops.
-fn differ(seed: u64, k: u64, bytes: &[u8], model: &str, program: &[u8]) -> Result<()> {
-    let path = std::env::temp_dir().join(format!("fuzz-{seed}-{k}.plan"));
+/// Saves the input on which the two differ, says so, and stops.
+fn differ(name: &str, bytes: &[u8], reference: &str, program: &[u8]) -> Result<()> {
+    let path = std::env::temp_dir().join(format!("fuzz-{name}.plan"));
     std::fs::write(&path, bytes)?;
     println!(
-        "seed {seed}, plan {k}: the program differs; the plan is in {}",
+        "fuzz: {name}: the program differs; the plan is in {}",
         path.display()
     );
-    println!("-- the model prints:\n{model}");
+    println!("-- the reference prints:\n{reference}");
     println!(
         "-- the program prints:\n{}",
         String::from_utf8_lossy(program)
     );
     exit(1)
+}
+
+/// Compares the two on one input.
+fn compare(program: &str, name: &str, bytes: &[u8]) -> Result<Verdict> {
+    let (verdict, reference) = listed(bytes, STEP_BUDGET);
+    let said = printed(program, bytes)?;
+    if said != reference.as_bytes() {
+        differ(name, bytes, &reference, &said)?;
+    }
+    Ok(verdict)
 }
 
 /// The argument at `at` as a number, or `otherwise`.
@@ -113,6 +149,9 @@ fn main() -> Result<()> {
         .expect("usage: fuzz PROGRAM [COUNT] [SEED]");
     let (count, seed) = (number(2, 3000), number(3, 1));
     let mut tally = Tally::default();
+    for (name, bytes) in named() {
+        tally.add(compare(&program, name, &bytes)?);
+    }
     for k in 0..count {
         let mut rng = Rng::new(seed.wrapping_mul(1 << 32).wrapping_add(k));
         let bytes = if k % 3000 == 2999 {
@@ -120,15 +159,11 @@ fn main() -> Result<()> {
         } else {
             input(&mut rng)
         };
-        let (verdict, model) = listed(&bytes, STEP_BUDGET);
-        let said = printed(&program, &bytes)?;
-        if said != model.as_bytes() {
-            differ(seed, k, &bytes, &model, &said)?;
-        }
-        tally.add(verdict);
+        tally.add(compare(&program, &format!("seed-{seed}-plan-{k}"), &bytes)?);
     }
     println!(
-        "seed {seed}, {count} plans, no difference: {}",
+        "fuzz: seed {seed}, {} named inputs and {count} random ones, no difference: {}",
+        named().len(),
         tally.text()
     );
     Ok(())

@@ -1,12 +1,12 @@
 //! The specification's own trial plans and examples of refusals.
 
-use placement_model::calls::*;
-use placement_model::counts::chosen;
-use placement_model::gen::Draft;
-use placement_model::listing::text;
-use placement_model::placement::{feasible, first, loads};
-use placement_model::samples::*;
-use placement_model::steps::{step_literal, step_plain, End, Kind, Step};
+use placement_reference::calls::*;
+use placement_reference::counts::chosen;
+use placement_reference::gen::Draft;
+use placement_reference::listing::text;
+use placement_reference::placement::{first, loads};
+use placement_reference::samples::*;
+use placement_reference::steps::{step_literal, step_plain, End, Kind, Step};
 
 fn plan_row(draft: &Draft) -> Option<u8> {
     enter_plan(&draft.bytes()).err()
@@ -173,17 +173,4 @@ fn words_past_the_blocks_stay() {
     assert_eq!(counts, [4, 2, 1, 9, 9]);
     enter_first(&H, &mut words).unwrap();
     assert_eq!(words, [15, 5, 2, 77, u64::MAX]);
-}
-
-#[test]
-fn full_machines_break_the_bound_of_three_shares() {
-    let (draft, words, even) = full_machines();
-    let plan = draft.plan().unwrap();
-    assert!(feasible(&plan, &words) && feasible(&plan, &even));
-    assert_eq!(loads(&plan, &even), [12600; 6]);
-    assert_eq!(enter_check(&draft.bytes(), &words), Ok(72));
-    assert_eq!(step_plain(&plan, &words), None);
-    let r = enter_report(&draft.bytes(), &words).unwrap();
-    assert_eq!((r.maximum, r.minimum, r.largest_share), (15120, 10080, 840));
-    assert!(6 * r.maximum > 6 * 12600 + 3 * 5 * r.largest_share);
 }

@@ -1,10 +1,10 @@
 //! Writes the stored trials and examples into a folder: trials.stdin, trials.stdout, examples/*.plan, examples/*.listing.
 
-use placement_model::gen::{patient, sized, Draft, Rng, SMALL};
-use placement_model::listing::{text, STEP_BUDGET};
-use placement_model::samples::{empty, h_budget, y, H};
-use placement_model::stream::replay;
-use placement_model::trials::stream;
+use placement_reference::gen::{patient, sized, Draft, Rng, SMALL};
+use placement_reference::listing::{text, STEP_BUDGET};
+use placement_reference::samples::{empty, h_budget, y, H};
+use placement_reference::stream::replay;
+use placement_reference::trials::stream;
 use std::fs::{create_dir_all, write};
 use std::io::Result;
 use std::path::Path;

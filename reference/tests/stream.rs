@@ -1,8 +1,8 @@
 //! The stream of trials: digests, records, and the stored stream's bounds.
 
-use placement_model::samples::{y, H};
-use placement_model::stream::{digest, replay, Writer};
-use placement_model::trials::stream;
+use placement_reference::samples::{y, H};
+use placement_reference::stream::{digest, replay, Writer};
+use placement_reference::trials::stream;
 
 #[test]
 fn digest_is_fnv() {

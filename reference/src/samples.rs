@@ -97,6 +97,11 @@ pub fn spread_of_j() -> Draft {
     plan_of((2, 2), 4, 8, &[(40, 2, 1), (8, 2, 2), (6, 2, 2), (2, 2, 1)])
 }
 
+/// A long listing: eight copies of each of 1,024 blocks, with shares of ten digits.
+pub fn long_listing() -> Draft {
+    plan_of((8, 8), 128, 8192, &[(0xFF_FFFF, 8, 8); 1024])
+}
+
 /// With full machines the bound of three shares does not hold: a placement at rest that breaks it,
 /// and the one with even loads.
 pub fn full_machines() -> (Draft, Vec<u64>, Vec<u64>) {

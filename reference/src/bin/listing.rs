@@ -1,6 +1,6 @@
 //! Reads a plan from standard input and writes its listing. First argument: the step budget, 100000 if absent.
 
-use placement_model::listing::{text, STEP_BUDGET};
+use placement_reference::listing::{text, STEP_BUDGET};
 use std::io::{Read, Write};
 
 fn main() {

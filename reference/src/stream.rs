@@ -224,19 +224,25 @@ fn obey(memory: &mut Memory, record: &Record) -> String {
     }
 }
 
-/// What the trials program has to print for a stream.
-pub fn replay(mut stream: &[u8]) -> String {
+/// Plays a stream to its end, and hands on what each record prints.
+pub fn play(mut stream: &[u8], mut print: impl FnMut(&str)) {
     let mut memory = Memory {
         plan: Vec::new(),
         words: vec![0; WORDS],
         lent: 0,
     };
-    let mut output = String::new();
     loop {
         let record = next_record(&mut stream);
-        output += &obey(&mut memory, &record);
+        print(&obey(&mut memory, &record));
         if record.op == b'E' {
-            return output;
+            return;
         }
     }
+}
+
+/// What the trials program has to print for a stream.
+pub fn replay(stream: &[u8]) -> String {
+    let mut output = String::new();
+    play(stream, |text| output += text);
+    output
 }

@@ -1,4 +1,4 @@
-//! An independent model of the placement service, in the specification's own order and words.
+//! An independent reference model of the placement service, in the specification's own order and words.
 //!
 //! It shares no code with the service. Everything here is written the plainest way: the next step is found by
 //! nested loops over kind, m, n, i and j. It serves to make the stored trials and to be compared with the program.

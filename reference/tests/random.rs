@@ -1,13 +1,13 @@
 //! Claims of the specification on random plans, against brute force where the plans are tiny.
 
-use placement_model::counts::{chosen, largest_share, share};
-use placement_model::damage::{
+use placement_reference::counts::{chosen, largest_share, share};
+use placement_reference::damage::{
     broken, flawed, over_budget, over_capacity, over_racks, two_records,
 };
-use placement_model::gen::*;
-use placement_model::placement::*;
-use placement_model::plan::{read, Plan};
-use placement_model::steps::{run, step_literal, step_plain, End};
+use placement_reference::gen::*;
+use placement_reference::placement::*;
+use placement_reference::plan::{read, Plan};
+use placement_reference::steps::{run, step_literal, step_plain, End};
 
 const QUARTER: Size = Size {
     machines: 4,

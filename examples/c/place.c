@@ -1,0 +1,300 @@
+/*
+ * A caller of the placement library in C, to start from.
+ *
+ *     place [FILE]
+ *
+ * prints the listing of the plan in FILE, or without FILE that of plan H of the specification, which it makes itself.
+ * It makes the calls one by one, as a store would: judge the plan, choose the counts, make the first placement, take
+ * steps until rest, report. It puts the listing together from their answers, and compares it with bpl_listing's.
+ * scripts/c-example compiles, runs and tests it. The status is 0 for a listing, 1 for a refused plan, 2 for a failure.
+ *
+ * How every call is used here:
+ * - All memory is the caller's. A buffer is passed as a pointer and its number of items, not its size in bytes.
+ * - The code that a call answers is looked at before anything else. Only with code 0 has the call written something;
+ *   with a refusal, 1 to 16, every buffer is as it was.
+ * - BPL_SHORT_BUFFER is no property of the plan but a mistake of the caller: a buffer for results is too short.
+ */
+#include "bpl.h"
+
+#include <inttypes.h>
+#include <stdarg.h>
+#include <stdbool.h>
+#include <stdio.h>
+#include <string.h>
+
+/* The steps that the program ./place takes at most. */
+#define STEP_BUDGET 100000
+
+/* A read is 840 units, so that the share of each of 1 to 8 copies is whole. */
+#define UNITS_PER_READ 840
+
+/* Where the fields of a plan file begin, and how many bytes each has. */
+#define RACKS_AT 5
+#define RACK_SIZE_AT 6
+#define BLOCKS_AT 13
+#define RECORDS_AT 15
+#define RECORD_BYTES 5
+#define POPULARITY_BYTES 3
+
+enum { LISTED = 0, REFUSED = 1, FAILED = 2 };
+
+/* ---- Refusals ---- */
+
+/* Why a plan or a placement is turned back, by the number of the refusal. */
+static const char *reason(uint32_t code)
+{
+    static const char *const reasons[] = {
+        [0] = "done",
+        [1] = "the plan is shorter than 15 bytes",
+        [2] = "the mark differs",
+        [3] = "the version is not 1",
+        [4] = "R or S is 0, or there are more than 64 machines",
+        [5] = "C is 0 or above 1,024",
+        [6] = "there are more than 1,024 blocks",
+        [7] = "the length is not 15 + 5 * B",
+        [8] = "a block's least copies are 0 or above the smaller of 8 and M",
+        [9] = "a block's spread is 0, above its least copies, or above R",
+        [10] = "the sum of least copies is above the budget",
+        [11] = "the sum of least copies is above M * C",
+        [12] = "fewer than B counts or words are lent",
+        [13] = "a bit at or above M is set",
+        [14] = "a block's copies are not its chosen count",
+        [15] = "a block lies in fewer racks than its spread",
+        [16] = "a machine holds more than C copies",
+    };
+    if (code < sizeof reasons / sizeof reasons[0])
+        return reasons[code];
+    return code == BPL_SHORT_BUFFER ? "a buffer for results is too short" : "unknown";
+}
+
+/* Says on standard error that a call was refused, and why. */
+static void say_refused(const char *what, uint32_t code)
+{
+    fprintf(stderr, "place: %s: refused %" PRIu32 ": %s\n", what, code, reason(code));
+}
+
+/* ---- The plan's bytes ---- */
+
+/* Puts a field of so many bytes at the place `at`, high byte first; answers where the next one begins. */
+static size_t put_field(uint8_t *plan, size_t at, size_t bytes, uint32_t number)
+{
+    for (size_t k = 0; k < bytes; k++)
+        plan[at + k] = (uint8_t)(number >> (8 * (bytes - 1 - k)));
+    return at + bytes;
+}
+
+/* The field of so many bytes at the place `at`. */
+static uint32_t field(const uint8_t *plan, size_t at, size_t bytes)
+{
+    uint32_t number = 0;
+    for (size_t k = 0; k < bytes; k++)
+        number = number << 8 | plan[at + k];
+    return number;
+}
+
+/* Makes plan H with a budget of copies: 2 racks of 2 machines, 3 copies on each, three blocks. Answers its length. */
+static size_t make_plan_h(uint8_t *plan, uint32_t budget)
+{
+    static const struct {
+        uint32_t popularity;
+        uint8_t least_copies;
+        uint8_t spread;
+    } blocks[] = {{12, 2, 2}, {6, 1, 1}, {2, 1, 1}};
+    const size_t number = sizeof blocks / sizeof blocks[0];
+
+    size_t at = put_field(plan, 0, 3, 0x42504C); /* the mark, "BPL" */
+    at = put_field(plan, at, 2, 1);              /* version */
+    at = put_field(plan, at, 1, 2);              /* racks R */
+    at = put_field(plan, at, 1, 2);              /* machines per rack S */
+    at = put_field(plan, at, 2, 3);              /* capacity C: copies that a machine can hold */
+    at = put_field(plan, at, 4, budget);         /* most copies in all */
+    at = put_field(plan, at, 2, (uint32_t)number);
+    for (size_t i = 0; i < number; i++) {
+        at = put_field(plan, at, POPULARITY_BYTES, blocks[i].popularity);
+        at = put_field(plan, at, 1, blocks[i].least_copies);
+        at = put_field(plan, at, 1, blocks[i].spread);
+    }
+    return at;
+}
+
+/* Reads at most `room` bytes of a file. False where that fails; else their number is in *size. */
+static bool read_file(const char *path, uint8_t *bytes, size_t room, size_t *size)
+{
+    FILE *file = fopen(path, "rb");
+    if (file == NULL)
+        return false;
+    *size = fread(bytes, 1, room, file);
+    const bool done = !ferror(file);
+    fclose(file);
+    return done;
+}
+
+/* ---- A text that grows ---- */
+
+struct text {
+    char bytes[BPL_LISTING_ROOM];
+    size_t size;
+};
+
+/* Adds to the text as printf would. Every listing fits; what did not would be left out, and the comparison see it. */
+static void add(struct text *text, const char *format, ...)
+{
+    const size_t room = sizeof text->bytes - text->size;
+    va_list values;
+    va_start(values, format);
+    const int size = vsnprintf(text->bytes + text->size, room, format, values);
+    va_end(values);
+    if (size > 0 && (size_t)size < room)
+        text->size += (size_t)size;
+}
+
+/* ---- The calls ---- */
+
+/* What the calls are about: a plan, its counts and a placement. */
+struct store {
+    const uint8_t *plan;
+    size_t plan_len;
+    uint8_t counts[BPL_MAX_BLOCKS];
+    uint64_t words[BPL_MAX_BLOCKS];
+};
+
+/* Takes steps until none is left or the budget is used. Answers the code; the number of steps taken is in *steps. */
+static uint32_t take_steps(struct store *store, uint32_t budget, uint32_t *steps)
+{
+    for (*steps = 0; *steps < budget; ++*steps) {
+        uint64_t step[BPL_STEP_NUMBERS];
+        const uint32_t code =
+            bpl_step(store->plan, store->plan_len, store->words, BPL_MAX_BLOCKS, step, BPL_STEP_NUMBERS);
+        if (code != 0 || step[0] == 0) /* refused, or at rest */
+            return code;
+        /* The step is taken. step[1] is its kind, and a store would now copy block step[4] from machine step[2] to
+         * machine step[3] and, for BPL_SWAP and BPL_RACK_SWAP, block step[5] the other way. */
+    }
+    return 0;
+}
+
+/* Makes all calls from the counts to the report, and the listing of their answers. Answers the first refusal, or 0. */
+static uint32_t list(struct store *store, struct text *text)
+{
+    const uint8_t *plan = store->plan;
+    const size_t plan_len = store->plan_len;
+
+    uint32_t code = bpl_counts(plan, plan_len, store->counts, BPL_MAX_BLOCKS);
+    if (code != 0)
+        return code;
+    code = bpl_first(plan, plan_len, store->words, BPL_MAX_BLOCKS);
+    if (code != 0)
+        return code;
+
+    /* Step by step. One call of bpl_run with this budget would do the same at once; with a budget of 0 it takes no
+     * step and tells whether one is left. */
+    uint32_t steps;
+    code = take_steps(store, STEP_BUDGET, &steps);
+    if (code != 0)
+        return code;
+    uint64_t end[BPL_RUN_NUMBERS];
+    code = bpl_run(plan, plan_len, store->words, BPL_MAX_BLOCKS, 0, end, BPL_RUN_NUMBERS);
+    if (code != 0)
+        return code;
+
+    uint64_t report[BPL_REPORT_NUMBERS];
+    code = bpl_report(plan, plan_len, store->words, BPL_MAX_BLOCKS, report, BPL_REPORT_NUMBERS);
+    if (code != 0)
+        return code;
+
+    /* The plan was accepted, so all its records are there. */
+    const uint32_t racks = field(plan, RACKS_AT, 1);
+    const uint32_t rack_size = field(plan, RACK_SIZE_AT, 1);
+    const uint32_t blocks = field(plan, BLOCKS_AT, 2);
+    text->size = 0;
+    add(text, "plan %" PRIu32 " %" PRIu32 " %" PRIu32 "\n", racks, rack_size, blocks);
+    for (uint32_t i = 0; i < blocks; i++) {
+        const uint64_t popularity = field(plan, RECORDS_AT + RECORD_BYTES * (size_t)i, POPULARITY_BYTES);
+        const uint64_t share = popularity * UNITS_PER_READ / store->counts[i];
+        add(text, "block %" PRIu32 " %u %" PRIu64, i, (unsigned)store->counts[i], share);
+        for (uint32_t m = 0; m < racks * rack_size; m++)
+            if (store->words[i] >> m & 1)
+                add(text, " %" PRIu32, m);
+        add(text, "\n");
+    }
+    add(text, "%s %" PRIu32, end[0] == 1 ? "rest" : "spent", steps);
+    for (size_t k = 0; k < BPL_REPORT_NUMBERS; k++)
+        add(text, " %" PRIu64, report[k]);
+    add(text, "\n");
+    return 0;
+}
+
+/* Whether the text is the library's own listing, which makes all these calls in one. */
+static bool is_listing(const struct store *store, const struct text *text)
+{
+    static uint8_t listing[BPL_LISTING_ROOM];
+    uint64_t size[BPL_LISTING_NUMBERS];
+    const uint32_t code = bpl_listing(store->plan, store->plan_len, STEP_BUDGET, listing, sizeof listing, size,
+                                      BPL_LISTING_NUMBERS);
+    return code == 0 && size[0] == text->size && memcmp(listing, text->bytes, text->size) == 0;
+}
+
+/* Two refusals, as a caller meets them: a plan that has no lawful placement, and a placement with a copy too few. */
+static bool show_refusals(void)
+{
+    uint8_t plan[BPL_MAX_PLAN_BYTES];
+    size_t plan_len = make_plan_h(plan, 3);
+    uint64_t words[3] = {15, 1, 2};
+
+    uint32_t code = bpl_first(plan, plan_len, words, 3);
+    say_refused("plan H with a budget of 3 copies", code);
+    if (code != 10)
+        return false;
+
+    plan_len = make_plan_h(plan, 8);
+    code = bpl_check(plan, plan_len, words, 3);
+    say_refused("plan H with block 1 on machine 0 alone", code);
+
+    /* Neither call has written: the words are those from above. */
+    return code == 14 && words[0] == 15 && words[1] == 1 && words[2] == 2;
+}
+
+int main(int argc, char **argv)
+{
+    /* One byte more than the largest plan has: a longer file is refused without the rest of it. */
+    static uint8_t plan[BPL_MAX_PLAN_BYTES + 1];
+    static struct store store = {.plan = plan};
+    static struct text text;
+
+    if (argc > 2) {
+        fprintf(stderr, "usage: place [FILE]\n");
+        return FAILED;
+    }
+    if (argc < 2) {
+        store.plan_len = make_plan_h(plan, 8);
+        if (!show_refusals()) {
+            fprintf(stderr, "place: the refusals are not as they should be\n");
+            return FAILED;
+        }
+    } else if (!read_file(argv[1], plan, sizeof plan, &store.plan_len)) {
+        perror(argv[1]);
+        return FAILED;
+    }
+
+    uint32_t code = bpl_plan(plan, store.plan_len);
+    if (code != 0) {
+        say_refused(argc < 2 ? "plan H" : argv[1], code);
+        printf("refused %" PRIu32 "\n", code);
+        return REFUSED;
+    }
+    /* The plan is accepted and the placement is the library's own, so nothing is left that could be refused. */
+    code = list(&store, &text);
+    if (code != 0) {
+        say_refused("a call on an accepted plan", code);
+        return FAILED;
+    }
+    if (!is_listing(&store, &text)) {
+        fprintf(stderr, "place: the listing differs from bpl_listing's\n");
+        return FAILED;
+    }
+    if (fwrite(text.bytes, 1, text.size, stdout) != text.size || fflush(stdout) != 0) {
+        perror("place: standard output");
+        return FAILED;
+    }
+    return LISTED;
+}
