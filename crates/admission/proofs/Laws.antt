@@ -1,17 +1,12 @@
 -- From an accepted plan's demands and the loads of the words to what the calls work with.
 -- Assumes nothing.
-use mathlib.Core.Path.{_≡_, ap, sym, _∙_}
+use mathlib.Core.Path.{_≡_, ap, _∙_}
 use mathlib.Core.List.{List}
-use Prim.Native.Nat.{ℕ, zero, suc, _<_, _≤_, _*_, min}
-use native.Mathlib.Decide.{decLt}
-use native.Mathlib.Omega.{arith}
+use Prim.Native.Nat.{ℕ, _*_, min}
 use lib.ListN.{length, getD}
 use Rattle.order.proofs.Tables.{getD-filled}
-use Rattle.model.specs.Plan.{Plan, blockCount, planIn}
-use Rattle.model.specs.Refusal.{check12, Verdict, refused, accepted, refusal, verdict, judge}
-use Rattle.model.specs.Replication.{limit as limitOf, chosen}
-use Rattle.model.specs.Calls.{callRefusal}
-use Rattle.theory.proofs.Refusal.{check12-short, check12-enough}
+use Rattle.model.specs.Plan.{Plan, blockCount}
+use Rattle.model.specs.Replication.{limit as limitOf}
 use Rattle.cluster.specs.declared.Cluster.{Cluster}
 use Rattle.cluster.specs.Cluster.{machinesIn, ClusterOf}
 use Rattle.cluster.specs.Blocks.{PlacementFits}
@@ -53,25 +48,6 @@ prepared-of p c cluster profiles₀ profiles top made =
       fit = made .profiles-are .fit;
       top-is = made .top-is;
     }
-
--- where row 12 or an earlier one refuses, the later rows are not asked
-pub callRefusal-short : (v : Verdict) (lent code : ℕ) (later : Plan → ℕ) → callRefusal v (λ p. check12 lent (blockCount p) 0) ≡ code
-    → 1 ≤ code → callRefusal v (λ p. check12 lent (blockCount p) (later p)) ≡ code
-unfolding callRefusal
-callRefusal-short (refused n) lent code later e some = e
-callRefusal-short (accepted p) lent code later e some = elim (decLt lent (blockCount p)) [
-  | yes l ↦ check12-short lent (blockCount p) (later p) l ∙ sym (check12-short lent (blockCount p) 0 l) ∙ e
-  | no l ↦ absurd (let z = check12-enough lent (blockCount p) 0 (omega arith) in omega arith)
-]
-
--- a refusal has a number
-pub judge-some : (bytes : List ℕ) (code : ℕ) → judge bytes ≡ refused code → 1 ≤ code
-unfolding judge
-judge-some bytes code e = go (refusal bytes) e
-  where
-    go : (n : ℕ) → verdict n (planIn bytes) ≡ refused code → 1 ≤ code
-    go zero e = absurd (let z : _≡_ {A = ℕ} 0 1 = cc in omega arith)
-    go (suc n) e = let same : suc n ≡ code = cc in omega arith
 
 -- the words lent to an admitted plan, with its profiles
 pub fits-of : (bytes words profiles : List ℕ) (r : Intake) → PlanReady bytes (length words) profiles r

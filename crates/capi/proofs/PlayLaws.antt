@@ -1,16 +1,15 @@
 -- What the player of scripts promises, through the C interface.
 -- Assumes nothing.
-use mathlib.Core.Path.{_≡_, ap, sym, _∙_}
+use mathlib.Core.Path.{_≡_, ap, sym}
 use mathlib.Core.List.{List}
 use Prim.Native.Nat.{ℕ, _≤_}
 use lib.ListN.{length}
-use Rattle.model.specs.Calls.{answered}
 use Rattle.model.specs.Claims.{Played}
 use Rattle.script.specs.declared.LastReply.{LastReply}
-use Rattle.script.specs.Script.{replyIs, playedBy}
+use Rattle.script.specs.Script.{replyIs}
 use Rattle.script.specs.Promise.{ScriptPlayed}
 use Rattle.capi.specs.Interface.{over, replyNumbers}
-use Rattle.capi.specs.Script.{playOutcome, played, PlayedInto}
+use Rattle.capi.specs.Script.{playOutcome, PlayedInto}
 use Rattle.capi.proofs.Laws.{answers}
 
 pub played-into : (plan other script words out : List ℕ) (reply : LastReply) (words' out' : List ℕ) → 7 ≤ length out

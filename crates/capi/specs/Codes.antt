@@ -1,6 +1,6 @@
--- What the codes tell apart: 0 is returned exactly for an answer, any other code is a row of the table or that of a short buffer.
+-- What the codes tell apart: 0 is returned exactly if there is an answer and room for it, any other code is a row of the table or that of a short buffer.
 use mathlib.Core.Path.{_≡_}
-use mathlib.Core.Logic.{_⊎_}
+use mathlib.Core.Logic.{_⊎_, _↔_}
 use mathlib.Core.List.{List, []}
 use Prim.Native.Nat.{ℕ, _≤_}
 use lib.ListN.{length}
@@ -19,14 +19,14 @@ pub record RefusalCode (code : ℕ) : Type 0 where
   pub some : 1 ≤ code
   pub row : (code ≤ lastRow) ⊎ (code ≡ shortOut)
 
--- With 0 there is an answer, and `out` had room for its numbers.
+-- There is an answer, and `out` has room for its numbers.
 pub record Done {A : Type 0} (need : ℕ) (out : List ℕ) (answer : Answer A) : Type 0 where
   pub room : need ≤ length out
   pub given : (a : A) × (answer ≡ answered a)
 
 pub record Tells {A : Type 0} (need : ℕ) (out : List ℕ) (answer : Answer A) (code : ℕ) : Type 0 where
   pub known : (code ≡ 0) ⊎ RefusalCode code
-  pub done : code ≡ 0 → Done need out answer
+  pub done : (code ≡ 0) ↔ Done need out answer
 
 abbrev pub EffectTells : {A : Type 0} → ℕ → (A → List ℕ) → List ℕ → List ℕ → Outcome A → Type 0
 EffectTells need numbers items out call = Tells need out (call .answer) (effect need numbers items out call .code)
@@ -34,7 +34,7 @@ EffectTells need numbers items out call = Tells need out (call .answer) (effect 
 -- Of every exported function, whatever it is lent.
 pub record Codes (plan items out : List ℕ) (budget : ℕ) : Type 0 where
   pub plan-known : (verdictCode (judge plan) ≡ 0) ⊎ RefusalCode (verdictCode (judge plan))
-  pub plan-done : verdictCode (judge plan) ≡ 0 → (p : Plan) × (judge plan ≡ accepted p)
+  pub plan-done : (verdictCode (judge plan) ≡ 0) ↔ ((p : Plan) × (judge plan ≡ accepted p))
   pub counts-tells : EffectTells 0 noNumbers items [] (countsCall plan items)
   pub first-tells : EffectTells 0 noNumbers items [] (firstCall plan items)
   pub check-tells : EffectTells 0 noNumbers items [] (checkCall plan items)

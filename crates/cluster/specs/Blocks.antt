@@ -4,7 +4,7 @@ use mathlib.Core.Path.{_≡_}
 use mathlib.Core.List.{List}
 use Prim.Native.Nat.{ℕ, _+_, _*_, _/_, _%_, _<_, _≤_}
 use lib.ListN.{length, getD}
-use Rattle.model.specs.Plan.{Plan, maxReplicas, blockCount, blockOf, upper}
+use Rattle.model.specs.Plan.{Plan, maxReplicas, blockOf, upper}
 use Rattle.model.specs.Replication.{share}
 use Rattle.model.specs.Placement.{Feasible}
 use Rattle.theory.specs.Widths.{popularityBound, shareBound}

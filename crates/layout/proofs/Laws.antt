@@ -1,7 +1,7 @@
 -- The circle of positions: a cursor's rack and level against its position, and the words that are laid from it on.
 -- Assumes nothing.
-use mathlib.Core.Path.{_≡_, refl, ap, ap₂, sym, _∙_}
 use mathlib.Core.List.{[]}
+use mathlib.Core.Path.{_≡_, refl, ap, ap₂, sym, _∙_}
 use Prim.Native.Nat.{ℕ, _+_, _*_, _/_, _%_, _^_, _<_}
 use native.Mathlib.Nat.{mul-comm, add-assoc, add-zero, le-trans, min-le-right, lt-of-lt-of-le, mod-lt, mod-eq-of-lt, mod-self, mod-add-mod, one-le-mul, div-add-mod', div-lt-iff-lt-mul, zero-mod, zero-div}
 use native.Mathlib.Omega.{arith}

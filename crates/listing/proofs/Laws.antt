@@ -1,6 +1,6 @@
 -- From the run and the loads to the listing's lines, and the machines of a word one by one.
 -- Assumes nothing.
-use mathlib.Core.Path.{_≡_, refl, ap, ap₂, sym, _∙_}
+use mathlib.Core.Path.{_≡_, ap, ap₂, sym, _∙_}
 use mathlib.Core.Bool.{Bool}
 use mathlib.Core.List.{List, [], _∷_, _++_, append-assoc, append-nil}
 use Prim.Native.Nat.{ℕ, _+_, _-_, _^_, _<_, _≤_}
@@ -17,7 +17,6 @@ use Rattle.model.specs.Calls.{answered, reportOf}
 use Rattle.model.specs.Listing.{wrote, numberField, fields, lineEnd, line, blockWord, planLine, holders, blockLine, lines, endWord, lastLine, listingOf, listingRoom}
 use Rattle.theory.specs.Widths.{shareBound}
 use Rattle.theory.proofs.PlacementFirst.{firstPlacement-feasible}
-use Rattle.theory.proofs.Replication.{chosen-laws}
 use Rattle.theory.proofs.Listing.{fields-append, holders-zero, holders-low, holders-past, lines-cong, lines-step, lines-prefix, listingOf-feasible, listingOf-fits}
 use Rattle.cluster.specs.declared.Cluster.{Cluster}
 use Rattle.cluster.specs.Blocks.{countIn, ProfilesOf, PlacementOf}

@@ -1,6 +1,6 @@
 -- Document 01, "First placement", and what a placement's words say: replicas, racks, loads, lawfulness.
 use mathlib.Core.Path.{_≡_}
-use mathlib.Core.Bool.{Bool, not, cond, _&&_}
+use mathlib.Core.Bool.{Bool, cond, _&&_}
 use mathlib.Core.List.{List}
 use Prim.Native.Nat.{ℕ, _+_, _*_, _/_, _%_, _^_, _<_, _≤_, min}
 use lib.Dec.{leb, ltb, eqb}

@@ -75,26 +75,6 @@ module _ (test : ℕ → Bool) where
         | no h ↦ omega arith
       ]
 
-  pub least-at : (n x : ℕ) → x < n → test x ≡ true → ((y : ℕ) → y < x → test y ≡ false) → least test n ≡ x
-  least-at n x l t below =
-      least-one (least-is n) (record { in-range = omega arith; passes = λ h. t; fails = below })
-
-  pub least-none : (n : ℕ) → ((x : ℕ) → x < n → test x ≡ false) → least test n ≡ n
-  least-none n below =
-      least-one (least-is n) (record { in-range = le-refl n; passes = λ h. absurd (omega arith); fails = below })
-
--- tests that agree below n have one least number there
-pub least-cong : (s t : ℕ → Bool) (n : ℕ) → ((x : ℕ) → x < n → s x ≡ t x) → least s n ≡ least t n
-least-cong s t n e =
-    let m = least-is s n in
-    least-one
-    (record {
-      in-range = m .in-range;
-      passes = λ l. sym (e (least s n) l) ∙ m .passes l;
-      fails = λ x l. sym (e x (omega arith)) ∙ m .fails x l;
-    })
-    (least-is t n)
-
 -- the step of a loop that counts
 pub allb-step : (n : ℕ) (test : ℕ → Bool) → allb (n + 1) test ≡ (test n && allb n test)
 unfolding allb

@@ -1,5 +1,5 @@
 -- Searches and extremes over the numbers below a bound.
-use mathlib.Core.Bool.{Bool, true, false, cond, _&&_}
+use mathlib.Core.Bool.{Bool, true, cond, _&&_}
 use Prim.Native.Nat.{ℕ, zero, suc, min, max}
 use lib.Dec.{ltb}
 

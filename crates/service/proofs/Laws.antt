@@ -1,6 +1,6 @@
 -- How an entry's outcome follows from what the way in says: refused with its code, or the call's own work on the plan.
 -- Assumes nothing.
-use mathlib.Core.Path.{_≡_, refl, ap, sym, _∙_}
+use mathlib.Core.Path.{_≡_, ap, sym, _∙_}
 use mathlib.Core.Bool.{Bool}
 use mathlib.Core.List.{List}
 use Prim.Native.Nat.{ℕ}
@@ -10,9 +10,9 @@ use Rattle.order.specs.Table.{filled}
 use Rattle.order.proofs.Tables.{filled-cong}
 use Rattle.model.specs.Plan.{Plan, blockCount}
 use Rattle.model.specs.Refusal.{judge}
-use Rattle.model.specs.Replication.{largestShare, chosen}
+use Rattle.model.specs.Replication.{chosen}
 use Rattle.model.specs.Steps.{Run}
-use Rattle.model.specs.Calls.{Outcome, answered, refuse, onPlan, bufferRefusal, placementRefusal, onPlacement, Report, reportOf, RunReply}
+use Rattle.model.specs.Calls.{Outcome, answered, refuse, onPlan, bufferRefusal, placementRefusal, onPlacement, reportOf, RunReply}
 use Rattle.theory.proofs.Calls.{onPlan-refused, onPlan-made}
 use Rattle.theory.proofs.Refusal.{check12-enough}
 use Rattle.theory.proofs.Replication.{chosen-laws}

@@ -1,23 +1,25 @@
 -- Laws of the calls: how a call's outcome follows from the verdict and the code of its own checks, and that rows 12 to 16 pass
 -- exactly the lawful placements with the chosen counts.
 -- Assumes nothing.
-use mathlib.Core.Path.{_≡_, ap, _∙_}
-use mathlib.Core.Bool.{true, not}
+use mathlib.Core.Path.{_≡_, ap, sym, _∙_}
+use mathlib.Core.Bool.{Bool, true, not}
 use mathlib.Core.List.{List}
 use mathlib.Core.Logic.{_↔_}
 use Prim.Native.Nat.{ℕ, zero, suc, _<_, _≤_}
+use native.Mathlib.Decide.{decLt}
 use native.Mathlib.Omega.{arith}
 use borrow.Author.Tests.{not-false}
+use lib.Dec.{ltb, lit≤}
 use lib.ListN.{length}
 use Rattle.order.proofs.Booleans.{eqb-iff}
 use Rattle.order.proofs.Extremes.{allb-iff}
 use Rattle.model.specs.Plan.{Plan, blockCount}
-use Rattle.model.specs.Refusal.{Verdict, refused, accepted}
+use Rattle.model.specs.Refusal.{refuseIf, check12, Verdict, refused, accepted}
 use Rattle.model.specs.Replication.{chosen}
 use Rattle.model.specs.Placement.{countOf, Feasible, allWithin, allSpread, allFit}
 use Rattle.model.specs.Calls.{Outcome, refuse, unless, callRefusal, onPlan, allCounted, placementRefusal}
 use Rattle.theory.specs.Refusal.{Valid}
-use Rattle.theory.proofs.Refusal.{refuseIf-zero, check12-zero, check12-enough}
+use Rattle.theory.proofs.Refusal.{refuseIf-zero, refuseIf-all, check12-zero, check12-short, check12-enough}
 use Rattle.theory.proofs.Replication.{chosen-laws}
 use Rattle.theory.proofs.Placement.{feasible-length, allWithin-iff, allSpread-iff, allFit-iff}
 
@@ -40,6 +42,16 @@ callRefusal-accepted v p rows e = ap (λ (w : Verdict). callRefusal w rows) e
 pub callRefusal-refused : (v : Verdict) (code : ℕ) (rows : Plan → ℕ) → v ≡ refused code → callRefusal v rows ≡ code
 unfolding callRefusal
 callRefusal-refused v code rows e = ap (λ (w : Verdict). callRefusal w rows) e
+
+-- where row 12 or an earlier one refuses, the later rows are not asked
+pub callRefusal-short : (v : Verdict) (lent code : ℕ) (later : Plan → ℕ) → callRefusal v (λ p. check12 lent (blockCount p) 0) ≡ code
+    → 1 ≤ code → callRefusal v (λ p. check12 lent (blockCount p) (later p)) ≡ code
+unfolding callRefusal
+callRefusal-short (refused n) lent code later e some = e
+callRefusal-short (accepted p) lent code later e some = elim (decLt lent (blockCount p)) [
+  | yes l ↦ check12-short lent (blockCount p) (later p) l ∙ sym (check12-short lent (blockCount p) 0 l) ∙ e
+  | no l ↦ absurd (let z = check12-enough lent (blockCount p) 0 (omega arith) in omega arith)
+]
 
 -- ── onPlan ───────────────────────────────────────────────────────────────────────────────────────
 -- a call is refused with the code of its checks, or made
@@ -64,6 +76,18 @@ unfolding allCounted
 allCounted-iff p words = allb-iff (blockCount p) _ _ (λ i. eqb-iff (countOf p words i) (chosen p i))
 
 -- ── placementRefusal ─────────────────────────────────────────────────────────────────────────────
+pub placementRefusal-le : (p : Plan) (words : List ℕ) → placementRefusal words p ≤ 16
+unfolding placementRefusal check12
+placementRefusal-le p words =
+    row (ltb (length words) (blockCount p)) 12 _ (lit≤ tt)
+    (row (not (allWithin p words)) 13 _ (lit≤ tt)
+    (row (not (allCounted p words)) 14 _ (lit≤ tt)
+    (row (not (allSpread p words)) 15 _ (lit≤ tt)
+    (row (not (allFit p words)) 16 0 (lit≤ tt) (lit≤ tt)))))
+  where
+    row : (t : Bool) (code later : ℕ) → code ≤ 16 → later ≤ 16 → refuseIf t code later ≤ 16
+    row = refuseIf-all (λ n. n ≤ 16)
+
 module _ (p : Plan) (valid : Valid p) (words : List ℕ) where
   pub placementRefusal-passes : Feasible p (chosen p) words → placementRefusal words p ≡ 0
   unfolding placementRefusal

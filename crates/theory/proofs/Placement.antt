@@ -12,7 +12,7 @@ use native.Mathlib.Decide.{decLe, decLt}
 use native.Mathlib.Omega.{arith}
 use lib.Dec.{eqb, eqb·suc-suc}
 use lib.Pow.{pow-pos, pow-mono, shr-shr}
-use lib.ListN.{length, getD, List·getD-eq-default}
+use lib.ListN.{length, List·getD-eq-default}
 use Rattle.order.specs.Sum.{sum, delta}
 use Rattle.order.proofs.Booleans.{and-iff, leb-iff, ltb-iff}
 use Rattle.order.proofs.Sums.{sum-cong, sum-none, sum-scale, sum-exchange, sum-term, delta-same, delta-other}
@@ -243,13 +243,6 @@ unfolding shareOf
 shareOf-feasible p count words feasible i l = ap (share (blockOf p i .popularity)) (sym (feasible .counted i l))
 
 -- ── load ─────────────────────────────────────────────────────────────────────────────────────────
--- the load, from a list that holds the shares
-pub load-shares : (p : Plan) (words shares : List ℕ) (m : ℕ)
-    → ((i : ℕ) → i < blockCount p → getD shares i 0 ≡ shareOf p words i)
-    → sum (blockCount p) (λ i. held words m i * getD shares i 0) ≡ load p words m
-unfolding load
-load-shares p words shares m same = sum-cong (blockCount p) _ _ (λ i l. ap (λ (s : ℕ). held words m i * s) (same i l))
-
 -- the load of a domain's machines is the sum of share × copies in it
 pub load-domain : (p : Plan) (words : List ℕ) (d : ℕ) → d < domains p
     → sum (domainSize p) (λ x. load p words (member p d x)) ≡ sum (blockCount p) (λ i. shareOf p words i * replicasIn p (wordOf words i) d)

@@ -241,6 +241,15 @@ pub judge-accepted : (bytes : List ℕ) → refusal bytes ≡ 0 → judge bytes 
 unfolding judge
 judge-accepted bytes e = ap (λ (n : ℕ). verdict n (planIn bytes)) e
 
+-- a refusal has a number
+pub judge-some : (bytes : List ℕ) (code : ℕ) → judge bytes ≡ refused code → 1 ≤ code
+unfolding judge
+judge-some bytes code e = go (refusal bytes) e
+  where
+    go : (n : ℕ) → verdict n (planIn bytes) ≡ refused code → 1 ≤ code
+    go zero e = absurd (let z : _≡_ {A = ℕ} 0 1 = cc in omega arith)
+    go (suc n) e = let same : suc n ≡ code = cc in omega arith
+
 verdict-accepted : (code : ℕ) (p q : Plan) → verdict code p ≡ accepted q → (code ≡ 0) × (p ≡ q)
 verdict-accepted zero p q e = (refl, cc)
 verdict-accepted (suc code) p q e = absurd (let z : _≡_ {A = ℕ} 0 1 = cc in omega arith)

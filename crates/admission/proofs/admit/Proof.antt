@@ -1,11 +1,11 @@
 -- `admission::admit` meets its contract: a refused plan's code is the call's, and an accepted plan goes on to row 12.
 -- Assumes nothing.
 use borrow.Author.Needs.{needs}
-use mathlib.Core.Path.{_≡_, sym, _∙_}
+use mathlib.Core.Path.{sym, _∙_}
 use native.Mathlib.Omega.{arith}
 use Rattle.theory.proofs.Calls.{callRefusal-refused}
 use Rattle.plan.specs.Reading.{verdictOf}
-use Rattle.admission.proofs.Laws.{judge-some}
+use Rattle.theory.proofs.Refusal.{judge-some}
 use Rattle.admission.proofs.admit.Statement.{statement}
 use Rattle.admission.proofs.admit.Tie as tie
 use Rattle.admission.proofs.admit_accepted.Reads as admit-accepted-reads

@@ -1,7 +1,7 @@
 -- `admission::admit_accepted` meets its contract: an accepted plan is refused 12 where too few items are lent, and prepared otherwise.
 -- Assumes nothing.
 use borrow.Author.Needs.{needs}
-use mathlib.Core.Path.{_≡_, sym, _∙_}
+use mathlib.Core.Path.{sym, _∙_}
 use native.Mathlib.Nat.{le-trans}
 use native.Mathlib.Omega.{arith}
 use Rattle.theory.proofs.Calls.{callRefusal-accepted}

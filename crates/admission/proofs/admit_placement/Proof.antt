@@ -1,12 +1,11 @@
 -- `admission::admit_placement` meets its contract: the plan's code and row 12 first, then the rows of the words.
 -- Assumes nothing.
 use borrow.Author.Needs.{needs}
-use mathlib.Core.Path.{_≡_, sym, _∙_}
+use mathlib.Core.Path.{sym, _∙_}
 use native.Mathlib.Nat.{pos-of-ne-zero}
-use native.Mathlib.Omega.{arith}
 use Rattle.model.specs.Calls.{placementRefusal}
-use Rattle.theory.proofs.Calls.{callRefusal-accepted, placementRefusal-feasible}
-use Rattle.admission.proofs.Laws.{callRefusal-short, fits-of}
+use Rattle.theory.proofs.Calls.{callRefusal-short, callRefusal-accepted, placementRefusal-feasible}
+use Rattle.admission.proofs.Laws.{fits-of}
 use Rattle.admission.proofs.admit_placement.Statement.{statement}
 use Rattle.admission.proofs.admit_placement.Tie as tie
 use Rattle.admission.proofs.admit.Reads as admit-reads

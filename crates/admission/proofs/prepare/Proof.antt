@@ -1,8 +1,6 @@
 -- `admission::prepare` meets its contract: the demands of the records are the plan's, and its counts are chosen from them.
 -- Assumes nothing.
 use borrow.Author.Needs.{needs}
-use mathlib.Core.Path.{_≡_, sym, _∙_}
-use Prim.Native.Nat.{ℕ, _≤_}
 use native.Mathlib.Nat.{mul-le-mul}
 use native.Mathlib.Omega.{arith}
 use Rattle.cluster.proofs.Laws.{cluster-range}

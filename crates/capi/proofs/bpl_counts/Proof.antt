@@ -1,8 +1,8 @@
 -- `capi::bpl_counts` meets its contract: the entry's outcome, as a code and the counts.
 -- Assumes nothing.
+use mathlib.Core.List.{[]}
 use borrow.Author.Needs.{needs}
 use mathlib.Core.Path.{refl}
-use mathlib.Core.List.{[]}
 use native.Mathlib.Omega.{arith}
 use Rattle.service.specs.Entries.{countsOutcome}
 use Rattle.capi.specs.Interface.{over, noNumbers}

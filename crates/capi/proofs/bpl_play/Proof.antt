@@ -1,10 +1,9 @@
 -- `capi::bpl_play` meets its contract: a short out first, then the script's play, its reply as numbers over out, and so the claim.
 -- Assumes nothing.
 use borrow.Author.Needs.{needs}
-use mathlib.Core.Path.{_≡_, refl, ap, ap₂, sym, _∙_}
 use native.Mathlib.Omega.{arith}
 use Rattle.capi.specs.Interface.{replyNumbers}
-use Rattle.capi.proofs.Laws.{out-short, answers}
+use Rattle.capi.proofs.Laws.{out-short}
 use Rattle.capi.proofs.PlayLaws.{played-into}
 use Rattle.capi.proofs.bpl_play.Statement.{statement}
 use Rattle.capi.proofs.bpl_play.Tie as tie

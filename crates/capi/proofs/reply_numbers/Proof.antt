@@ -1,7 +1,6 @@
 -- `capi::reply_numbers` meets its contract, variant by variant.
 -- Assumes nothing.
 use borrow.Author.Needs.{needs}
-use mathlib.Core.Path.{_≡_, refl, ap, ap₂, sym, _∙_}
 use Rattle.script.specs.Script.{replyIs}
 use Rattle.capi.specs.Interface.{replyNumbers}
 use Rattle.capi.proofs.Laws.{stepNumbers-six}

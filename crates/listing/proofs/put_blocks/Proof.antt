@@ -1,6 +1,6 @@
 -- `listing::put_blocks` meets its contract. The loop's invariant: the lines of the blocks passed stand in the text.
 -- Assumes nothing.
-use mathlib.Core.Path.{_≡_, refl, ap, ap₂, sym, _∙_}
+use mathlib.Core.Path.{_≡_, refl, _∙_}
 use Prim.Native.Nat.{_-_, _≤_}
 use native.Mathlib.Omega.{arith}
 use lib.ListN.{length}

@@ -1,7 +1,7 @@
 -- `listing::run_first` meets its contract: the run starts from the first placement, and the report is on the words after it.
 -- Assumes nothing.
 use borrow.Author.Needs.{needs}
-use mathlib.Core.Path.{_≡_, refl, ap, ap₂, sym, _∙_}
+use mathlib.Core.Path.{ap, sym, _∙_}
 use native.Mathlib.Nat.{le-of-eq}
 use Rattle.model.specs.Steps.{run}
 use Rattle.theory.proofs.Placement.{maxShare-feasible}

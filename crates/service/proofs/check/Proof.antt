@@ -1,7 +1,7 @@
 -- `service::check` meets its contract: refused by the way in, or the number of blocks.
 -- Assumes nothing.
 use borrow.Author.Needs.{needs}
-use mathlib.Core.Path.{_≡_, refl, ap, ap₂, sym, _∙_}
+use mathlib.Core.Path.{ap, _∙_}
 use Prim.Native.Nat.{ℕ}
 use denote.Ref.{now}
 use Rattle.model.specs.Calls.{checkCall, answered}

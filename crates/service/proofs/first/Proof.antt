@@ -1,7 +1,7 @@
 -- `service::first` meets its contract: refused by the way in, or the first placement laid down.
 -- Assumes nothing.
 use borrow.Author.Needs.{needs}
-use mathlib.Core.Path.{_≡_, refl, ap, ap₂, sym, _∙_}
+use mathlib.Core.Path.{ap₂, _∙_}
 use Rattle.model.specs.Calls.{firstCall, answered}
 use Rattle.cluster.proofs.Laws.{cluster-blocks}
 use Rattle.service.specs.Entries.{firstOutcome}

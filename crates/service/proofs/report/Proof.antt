@@ -1,7 +1,7 @@
 -- `service::report` meets its contract: refused by the way in, or the report on its loads.
 -- Assumes nothing.
 use borrow.Author.Needs.{needs}
-use mathlib.Core.Path.{_≡_, refl, ap, ap₂, sym, _∙_}
+use mathlib.Core.Path.{ap, _∙_}
 use denote.Ref.{now}
 use Rattle.model.specs.Calls.{reportCall, answered, Report}
 use Rattle.loads.proofs.Laws.{loads-narrow}

@@ -1,7 +1,7 @@
 -- `service::run` meets its contract: refused by the way in, or next steps taken and how they ended.
 -- Assumes nothing.
 use borrow.Author.Needs.{needs}
-use mathlib.Core.Path.{_≡_, refl, ap, ap₂, sym, _∙_}
+use mathlib.Core.Path.{ap, sym, _∙_}
 use Rattle.model.specs.Calls.{runCall}
 use Rattle.balance.specs.Standing.{ranOf}
 use Rattle.service.specs.Entries.{runOutcome}

@@ -1,7 +1,7 @@
 -- `service::step` meets its contract: refused by the way in, or the next step taken.
 -- Assumes nothing.
 use borrow.Author.Needs.{needs}
-use mathlib.Core.Path.{_≡_, refl, ap, ap₂, sym, _∙_}
+use mathlib.Core.Path.{ap₂, _∙_}
 use mathlib.Core.List.{List}
 use Rattle.model.specs.Steps.{Step}
 use Rattle.model.specs.Calls.{stepCall, answered}
