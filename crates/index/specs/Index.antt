@@ -55,15 +55,16 @@ pub record Indexed (c : Cluster) (words profiles index : List ℕ) : Type 0 wher
   pub by-number : (m i : ℕ) → m < maxMachines → i < c .blocks → spot index byNumber m i ≡ held words m i
   pub by-rank : (m i : ℕ) → m < maxMachines → i < c .blocks → spot index byRank m (rankAt index i) ≡ held words m i
 
--- A part that is copied into the index.
-pub record CopyAsked (index : List ℕ) (part : ℕ) (from : List ℕ) : Type 0 where
+-- The first items of a part that are copied into the index.
+pub record CopyAsked (index : List ℕ) (part : ℕ) (from : List ℕ) (blocks : ℕ) : Type 0 where
   pub sized : length index ≡ indexLength
   pub part-max : part ≤ ranksAt
   pub from-sized : length from ≡ maxBlocks
+  pub blocks-max : blocks ≤ maxBlocks
 
-pub record CopiedTo (index : List ℕ) (part : ℕ) (from later : List ℕ) : Type 0 where
+pub record CopiedTo (index : List ℕ) (part : ℕ) (from : List ℕ) (blocks : ℕ) (later : List ℕ) : Type 0 where
   pub sized : length later ≡ indexLength
-  pub here : (k : ℕ) → k < maxBlocks → getD later (part + k) 0 ≡ getD from k 0
+  pub here : (k : ℕ) → k < blocks → getD later (part + k) 0 ≡ getD from k 0
   pub below : (k : ℕ) → k < part → getD later k 0 ≡ getD index k 0
 
 -- The bit sets empty, the rest as it was.

@@ -1,6 +1,5 @@
 // The index of a placement: each machine's blocks as bit sets, by number and by rank, and the blocks in order of their shares.
 use cluster::Cluster;
-use cluster::MAX_BLOCKS;
 ghost use mathlib.Core.List.{List};
 ghost use Prim.Native.Nat.{ℕ};
 ghost use mathlib.Core.Path.{_≡_};
@@ -27,13 +26,13 @@ pub struct Pair {
     pub margin: u64,
 }
 
-// The 1,024 items as a part of the index.
-fn copy_part(index: &mut [u64], part: usize, from: &[u64])
-    requires { ⌜ CopyAsked (now index) part (now from) ⌝ }
-    ensures { λ r. ⌜ CopiedTo (now (index .entry)) part (now (from .entry)) (now (index .exit)) ⌝ }
+// The first B of the items at the start of a part of the index.
+fn copy_part(index: &mut [u64], part: usize, from: &[u64], blocks: usize)
+    requires { ⌜ CopyAsked (now index) part (now from) blocks ⌝ }
+    ensures { λ r. ⌜ CopiedTo (now (index .entry)) part (now (from .entry)) blocks (now (index .exit)) ⌝ }
 {
     let mut k: usize = 0;
-    while k < MAX_BLOCKS {
+    while k < blocks {
         index[part + k] = from[k];
         k += 1;
     }
@@ -47,8 +46,8 @@ pub fn start(profiles: &[u64], cluster: Cluster) -> [u64; INDEX_LENGTH]
     let keys = ranking::rank(profiles, cluster);
     let ranks = ranking::ranks(&keys[..], cluster);
     let mut index = [0u64; INDEX_LENGTH];
-    copy_part(&mut index[..], KEYS_AT, &keys[..]);
-    copy_part(&mut index[..], RANKS_AT, &ranks[..]);
+    copy_part(&mut index[..], KEYS_AT, &keys[..], cluster.blocks);
+    copy_part(&mut index[..], RANKS_AT, &ranks[..], cluster.blocks);
     index
 }
 

@@ -30,9 +30,9 @@ fn needed(demand: u64, figure: u64) -> usize
     let reads = cluster::popularity_of(demand) * UNIT;
     let most = cluster::most_of(demand);
     let mut k = cluster::least_of(demand);
-    while k <= most {
-        if reads <= figure * (k as u64) {
-            return k;
+    while figure * (k as u64) < reads {
+        if most <= k {
+            return most + 1;
         }
         k += 1;
     }

@@ -4,16 +4,15 @@ use mathlib.Core.Path.{_≡_, refl, sym, _∙_}
 use Prim.Native.Nat.{_+_, _-_, _≤_}
 use native.Mathlib.Omega.{arith}
 use lib.ListN.{getD}
-use Rattle.model.specs.Refusal.{maxBlocks}
 use Rattle.index.proofs.Laws.{Written, written-none, written-more}
 use Rattle.index.proofs.copy_part.Statement.{statement}
 use Rattle.index.proofs.copy_part.Tie as tie
 
 abbrev Inv-loop : tie.InvT-loop
-Inv-loop index₀ part from k₀ index k = (k ≤ maxBlocks) × Written index₀ part (part + k) (λ j. getD from (j - part) 0) index
+Inv-loop index₀ part from blocks k₀ index k = (k ≤ blocks) × Written index₀ part (part + k) (λ j. getD from (j - part) 0) index
 
 abbrev μ-loop : tie.MeasureT-loop
-μ-loop index₀ part from k₀ index k = maxBlocks - k
+μ-loop index₀ part from blocks k₀ index k = blocks - k
 
 loop-holds : tie.Need-loop-holds Inv-loop μ-loop
 loop-holds c =

@@ -3,7 +3,6 @@
 use mathlib.Core.Path.{_≡_, sym, _∙_}
 use mathlib.Core.List.{List}
 use Prim.Native.Nat.{ℕ, _+_, _<_, _≤_}
-use native.Mathlib.Nat.{le-trans}
 use native.Mathlib.Omega.{arith}
 use borrow.Author.Needs.{needs}
 use lib.ListN.{getD}
@@ -17,12 +16,13 @@ use Rattle.index.proofs.start.Tie as tie
 
 -- an index with the keys and the ranks copied into it
 module _ {c : Cluster} {profiles keys ranks entry half index : List ℕ} (few : c .blocks ≤ maxBlocks) (ranked : Ranked c profiles keys)
-    (of : RanksOf c profiles keys ranks) (first : CopiedTo entry keysAt keys half) (second : CopiedTo half ranksAt ranks index) where
+    (of : RanksOf c profiles keys ranks) (first : CopiedTo entry keysAt keys (c .blocks) half)
+    (second : CopiedTo half ranksAt ranks (c .blocks) index) where
   key : (r : ℕ) → r < c .blocks → keyAt index r ≡ getD keys r 0
-  key r l = second .below (keysAt + r) (omega arith) ∙ first .here r (le-trans l few)
+  key r l = second .below (keysAt + r) (omega arith) ∙ first .here r l
 
   rank : (i : ℕ) → i < c .blocks → rankAt index i ≡ getD ranks i 0
-  rank i l = second .here i (le-trans l few)
+  rank i l = second .here i l
 
   copied-ordered : Ordered c profiles index
   copied-ordered =

@@ -1,7 +1,7 @@
 -- `replication::needed` meets its contract. The loop's invariant: every count passed has a share above the figure.
 -- Assumes nothing.
 use mathlib.Core.Path.{_≡_, sym, _∙_}
-use Prim.Native.Nat.{ℕ, suc, _-_, _<_, _≤_}
+use Prim.Native.Nat.{ℕ, suc, _+_, _-_, _<_, _≤_}
 use native.Mathlib.Nat.{mul-le-mul, lt-of-not-le}
 use native.Mathlib.Omega.{arith}
 use borrow.Author.Count.{below-more}
@@ -20,7 +20,7 @@ abbrev Above : ℕ → ℕ → ℕ → Type 0
 Above demand figure k = (j : ℕ) → j < k → leastIn demand ≤ j → figure < share (popularityIn demand) j
 
 abbrev Inv-loop : tie.InvT-loop
-Inv-loop demand figure reads most k₀ k = (leastIn demand ≤ k) × (k ≤ suc (mostIn demand)) × Above demand figure k
+Inv-loop demand figure reads most k₀ k = (leastIn demand ≤ k) × (k ≤ mostIn demand) × Above demand figure k
 
 abbrev μ-loop : tie.MeasureT-loop
 μ-loop demand figure reads most k₀ k = suc most - k
@@ -44,22 +44,34 @@ mul-reads c = omega arith
 loop-holds : tie.Need-loop-holds Inv-loop μ-loop
 loop-holds c = (omega arith, omega arith, λ j low high. omega arith)
 
-mul-if1 : tie.Need-mul-if1 Inv-loop μ-loop
-mul-if1 c =
-    let a = c .before .before .before .before .before .args in
-    omega (arith, mul-le-mul {n₁ = a .figure} {m₁ = c .before .loop .k} {n₂ = shareBound} {m₂ = maxReplicas} (omega arith) (omega arith))
+mul-loop : tie.Need-mul-loop Inv-loop μ-loop
+mul-loop c =
+    let a = c .before .before .before .before .args in
+    omega (arith, mul-le-mul {n₁ = a .figure} {m₁ = c .loop .k} {n₂ = shareBound} {m₂ = maxReplicas} (omega arith) (omega arith))
+
+add-result : tie.Need-add-result Inv-loop μ-loop
+add-result c = omega arith
+
+-- where the loop goes on, the share at k is above the figure
+above-here : (c : tie.In-loop Inv-loop μ-loop)
+    → c .before .before .before .before .before .args .figure
+    < share (popularityIn (c .before .before .before .before .before .args .demand)) (c .before .loop .k)
+above-here c =
+    lt-of-not-le (λ l. let w = share-within _ (c .before .loop .k) _ (omega arith) (omega arith) .0 l in omega arith)
 
 returns : tie.Need-returns Inv-loop μ-loop
 returns c =
-    let at = c .before .before in
-    let a = at .before .before .before .before .args in
-    let k = at .loop .k in
+    let turn = c .before in
+    let at = turn .before in
     let inv = at .loop .inv in
-    let within : share (popularityIn (a .demand)) k ≤ a .figure = share-within _ k _ (omega arith) (omega arith) .1 (omega arith) in
+    let last : at .loop .k + 1 ≡ suc (mostIn (at .before .before .before .before .args .demand)) = omega arith in
+    let all = below-more _ (at .loop .k) (inv .2) (λ low. above-here turn) in
+    let most = at .before .before .most-of in
+    let result : most .result + 1 ≡ suc (mostIn (at .before .before .before .before .args .demand)) = omega (arith, most .ensures) in
     record {
-      low = inv .0;
-      high = inv .1;
-      is = λ p i v same. found p i v _ _ same k (inv .0) (omega arith) within (inv .2);
+      low = omega arith;
+      high = omega arith;
+      is = λ p i v same. result ∙ past p i v _ _ same (rw last at all);
     }
 
 add-k : tie.Need-add-k Inv-loop μ-loop
@@ -70,24 +82,21 @@ loop-less c = omega arith
 
 loop-again : tie.Need-loop-again Inv-loop μ-loop
 loop-again c =
-    let at = c .before .before in
-    let a = at .before .before .before .before .args in
-    let k = at .loop .k in
-    let inv = at .loop .inv in
-    let above : a .figure < share (popularityIn (a .demand)) k =
-    lt-of-not-le (λ l. let w = share-within _ k _ (omega arith) (omega arith) .0 l in omega arith)
-    in
-    (omega arith, omega arith, below-more _ k (inv .2) (λ low. above))
+    let turn = c .before in
+    let inv = turn .before .loop .inv in
+    (omega arith, omega arith, below-more _ (turn .before .loop .k) (inv .2) (λ low. above-here turn))
 
 returns-2 : tie.Need-returns-2 Inv-loop μ-loop
 returns-2 c =
     let at = c .before in
+    let a = at .before .before .before .before .args in
+    let k = at .loop .k in
     let inv = at .loop .inv in
-    let past-all : at .loop .k ≡ suc (mostIn (at .before .before .before .before .args .demand)) = omega arith in
+    let within : share (popularityIn (a .demand)) k ≤ a .figure = share-within _ k _ (omega arith) (omega arith) .1 (omega arith) in
     record {
       low = inv .0;
-      high = inv .1;
-      is = λ p i v same. past-all ∙ past p i v _ _ same (rw past-all at (inv .2));
+      high = omega arith;
+      is = λ p i v same. found p i v _ _ same k (inv .0) (inv .1) within (inv .2);
     }
 
 pub needed-spec : {M : Type 1} → statement M
@@ -101,7 +110,8 @@ needed-spec =
     (λ c κs. tt)
     (λ c κs. tt)
     loop-holds
-    mul-if1
+    mul-loop
+    add-result
     returns
     add-k
     loop-less
