@@ -36,7 +36,7 @@
  *     B are never read or written.
  *   - `out` takes numbers. Its items past those named are never written.
  *
- * The functions keep no state and use no memory but the lent buffers and the stack (80 KiB were enough where it was
+ * The functions keep no state and use no memory but the lent buffers and the stack (120 KiB were enough where it was
  * measured; leave 256): calls in several threads at once are independent of each other. They always return: bpl_run
  * and bpl_listing after at most `budget` steps, and bpl_play's runs after at most as many as their limits say.
  */
