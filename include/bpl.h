@@ -8,7 +8,7 @@
  *   1 to 16   refused, by the table below: nothing is written to any buffer.
  *   255       a lent buffer for results is too short (`out`, or the text of bpl_listing): nothing is written. A short
  *             `out` is judged first of all, before the plan is looked at.
- *   No other value is returned (proved: crates/capi/specs/Codes.antt).
+ *   No other value is returned (proved: crates/capi/specs/Codes.antt, and for bpl_play by its contract).
  *
  *    1  the plan is shorter than 15 bytes            9  a spread is 0, above the least copies, or above R
  *    2  its mark differs from 42 50 4C              10  the sum of least copies is above the budget
@@ -20,7 +20,8 @@
  *    8  least copies 0 or above min(8, M)           16  a machine holds more than C copies
  *
  *   The checks go in numerical order, but 8 and 9 are made block by block, 8 first. 13 to 16 are made on a placement
- *   handed in (bpl_check, bpl_report, bpl_step, bpl_run), each over all blocks or machines before the next.
+ *   handed in (bpl_check, bpl_report, bpl_step, bpl_run, the calls of bpl_play), each over all blocks or machines
+ *   before the next.
  *
  * Buffers
  *   A buffer is a pointer and then the number of its items (bytes for uint8_t, words for uint64_t; not the size in
@@ -28,16 +29,16 @@
  *   - The pointer is not null, also where the number is 0, and it is aligned for its type.
  *   - All items are readable for the whole call, and writable where the pointer is not const.
  *   - The buffers of one call do not overlap, and no other thread writes to one of them during the call, or reads one
- *     that the call writes. The plan may be shared: it is never written.
+ *     that the call writes. The plan may be shared: it is never written; `other` of bpl_play may be the same buffer.
  *   Any contents and any number of items are allowed; the functions make all the checks themselves.
  *   - `plan` is a plan file's bytes.
  *   - `words` is a placement: word i is block i, its bit m is set where machine m holds a copy. Words past the first
  *     B are never read or written.
  *   - `out` takes numbers. Its items past those named are never written.
  *
- * The functions keep no state and use no memory but the lent buffers and the stack (80 KiB were enough where it was
+ * The functions keep no state and use no memory but the lent buffers and the stack (120 KiB were enough where it was
  * measured; leave 256): calls in several threads at once are independent of each other. They always return: bpl_run
- * and bpl_listing after at most `budget` steps.
+ * and bpl_listing after at most `budget` steps, and bpl_play's runs after at most as many as their limits say.
  */
 #ifndef BPL_H
 #define BPL_H
@@ -58,6 +59,7 @@ extern "C" {
 #define BPL_STEP_NUMBERS 6
 #define BPL_RUN_NUMBERS 2
 #define BPL_LISTING_NUMBERS 1
+#define BPL_PLAY_NUMBERS 7
 
 /* Bytes of text that bpl_listing has to be lent: every listing fits. */
 #define BPL_LISTING_ROOM 65536
@@ -70,6 +72,27 @@ extern "C" {
 #define BPL_SWAP 1
 #define BPL_RACK_MOVE 2
 #define BPL_RACK_SWAP 3
+
+/* The kinds of a reply in bpl_play. */
+#define BPL_REFUSED 0
+#define BPL_CHECKED 1
+#define BPL_STEPPED 2
+#define BPL_RAN 3
+
+/*
+ * A call in a script of bpl_play, as an item of the script: what it asks for, or-ed with how many of the words it is
+ * lent (none without BPL_LEND) and, where it gets the other bytes in place of the plan's, with BPL_WITH_OTHER.
+ *   BPL_ASK_STEP | BPL_LEND_ALL
+ *   BPL_ASK_RUN(100) | BPL_LEND(3) | BPL_WITH_OTHER
+ * Bits 0 to 31 are the step limit of a run, 32 and 33 the kind of call (0 check, 1 step, 2 and 3 run), 34 is set for
+ * the other bytes, and 35 to 63 are the number of words, below 2^29; all are lent where there are fewer.
+ */
+#define BPL_ASK_CHECK ((uint64_t)0)
+#define BPL_ASK_STEP ((uint64_t)1 << 32)
+#define BPL_ASK_RUN(limit) ((uint64_t)2 << 32 | (uint32_t)(limit))
+#define BPL_WITH_OTHER ((uint64_t)1 << 34)
+#define BPL_LEND(number) ((uint64_t)(number) << 35)
+#define BPL_LEND_ALL BPL_LEND(0x1FFFFFFF)
 
 /* Judges a plan: refusals 1 to 11. Writes nothing. */
 uint32_t bpl_plan(const uint8_t *plan, size_t plan_len);
@@ -117,6 +140,32 @@ uint32_t bpl_run(const uint8_t *plan, size_t plan_len, uint64_t *words, size_t w
  */
 uint32_t bpl_listing(const uint8_t *plan, size_t plan_len, uint32_t budget, uint8_t *text, size_t text_len,
                      uint64_t *out, size_t out_len);
+
+/*
+ * Plays a script, checks, steps and runs one after the other over the same words: 255 where out_len is below 7, and
+ * else 0, also where calls of the script are refused.
+ * Of all functions here this is the one whose contract is the claim about lists of calls (demand 3 of the
+ * specification) about code that has run: the calls that it has just made.
+ *
+ * Each item of `script` is a call, made by the macros above. It gets the bytes of `plan` or of `other`, and the first
+ * so many of the words as it is lent, as the calls before it left them. A refused call writes nothing, and the next
+ * one is made all the same. `other` may be empty: a call that gets it is refused with 1.
+ * The words are as the last call left them. Writes that call's reply to out[0] to out[6]: out[0] its kind, and then
+ *   BPL_REFUSED   out[1] the refusal, 1 to 16;
+ *   BPL_CHECKED   nothing: the check passed, or the script is empty;
+ *   BPL_STEPPED   out[1] to out[6] as bpl_step writes out[0] to out[5];
+ *   BPL_RAN       out[1] and out[2] as bpl_run writes out[0] and out[1];
+ * what is not named is 0.
+ *
+ * The claim (crates/capi/specs/Script.antt): let the plan be accepted, the words before be a lawful placement with
+ * the chosen counts, and each call get the plan and at least B words, or be refused. Then the words afterwards are a
+ * lawful placement with the chosen counts, and those past the first B are as they were. The placement is at rest if
+ * the last reply says so, by a step that found none or a run with 1; and at rest its hottest load is within the
+ * specification's bounds of that of every lawful placement.
+ */
+uint32_t bpl_play(const uint8_t *plan, size_t plan_len, const uint8_t *other, size_t other_len,
+                  uint64_t *words, size_t words_len, const uint64_t *script, size_t script_len,
+                  uint64_t *out, size_t out_len);
 
 #ifdef __cplusplus
 }

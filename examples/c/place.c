@@ -5,7 +5,8 @@
  *
  * prints the listing of the plan in FILE, or without FILE that of plan H of the specification, which it makes itself.
  * It makes the calls one by one, as a store would: judge the plan, choose the counts, make the first placement, take
- * steps until rest, report. It puts the listing together from their answers, and compares it with bpl_listing's.
+ * steps until rest, report. It puts the listing together from their answers, and compares it with bpl_listing's. Last
+ * it makes the steps anew as one script, and compares the placements.
  * scripts/c-example compiles, runs and tests it. The status is 0 for a listing, 1 for a refused plan, 2 for a failure.
  *
  * How every call is used here:
@@ -234,6 +235,25 @@ static bool is_listing(const struct store *store, const struct text *text)
     return code == 0 && size[0] == text->size && memcmp(listing, text->bytes, text->size) == 0;
 }
 
+/* Whether a script from the first placement ends in the same one: a step, a call that is refused, a run for the other
+ * steps, a check. The other bytes are empty here, with a pointer that is not null all the same. */
+static bool plays_alike(const struct store *store)
+{
+    static uint64_t words[BPL_MAX_BLOCKS];
+    static const uint64_t script[] = {
+        BPL_ASK_STEP | BPL_LEND_ALL,
+        BPL_ASK_STEP | BPL_LEND_ALL | BPL_WITH_OTHER, /* refused with 1, and the words stay */
+        BPL_ASK_RUN(STEP_BUDGET - 1) | BPL_LEND_ALL,
+        BPL_ASK_CHECK | BPL_LEND(BPL_MAX_BLOCKS),
+    };
+    uint64_t reply[BPL_PLAY_NUMBERS];
+    if (bpl_first(store->plan, store->plan_len, words, BPL_MAX_BLOCKS) != 0)
+        return false;
+    const uint32_t code = bpl_play(store->plan, store->plan_len, store->plan, 0, words, BPL_MAX_BLOCKS, script,
+                                   sizeof script / sizeof script[0], reply, BPL_PLAY_NUMBERS);
+    return code == 0 && reply[0] == BPL_CHECKED && memcmp(words, store->words, sizeof words) == 0;
+}
+
 /* Two refusals, as a caller meets them: a plan that has no lawful placement, and a placement with a copy too few. */
 static bool show_refusals(void)
 {
@@ -290,6 +310,10 @@ int main(int argc, char **argv)
     }
     if (!is_listing(&store, &text)) {
         fprintf(stderr, "place: the listing differs from bpl_listing's\n");
+        return FAILED;
+    }
+    if (!plays_alike(&store)) {
+        fprintf(stderr, "place: a script of the calls ends in another placement\n");
         return FAILED;
     }
     if (fwrite(text.bytes, 1, text.size, stdout) != text.size || fflush(stdout) != 0) {

@@ -8,6 +8,7 @@ pub mod counts;
 pub mod damage;
 pub mod gen;
 pub mod listing;
+pub mod lists;
 pub mod placement;
 pub mod plan;
 pub mod samples;

@@ -1,6 +1,6 @@
 //! What the calls answer, made from the archive's numbers.
 
-use crate::raw::{REPORT_NUMBERS, RUN_NUMBERS, STEP_NUMBERS};
+use crate::raw::{PLAY_NUMBERS, REPORT_NUMBERS, RUN_NUMBERS, STEP_NUMBERS};
 use std::error::Error;
 use std::fmt;
 
@@ -136,6 +136,33 @@ impl RunEnd {
         match out[0] {
             0 => RunEnd::Spent(steps),
             _ => RunEnd::Rest(steps),
+        }
+    }
+}
+
+/// What a call of a script answered: its refusal, that the check passed, the step taken (`None` at rest), or how the run
+/// ended.
+#[derive(Clone, Copy, Debug, PartialEq, Eq, Hash)]
+pub enum Reply {
+    Refused(Refusal),
+    Checked,
+    Stepped(Option<Step>),
+    Ran(RunEnd),
+}
+
+impl Reply {
+    /// Whether the call says that the placement is at rest: a step that found none, or a run that came to rest.
+    pub fn says_rest(self) -> bool {
+        matches!(self, Reply::Stepped(None) | Reply::Ran(RunEnd::Rest(_)))
+    }
+
+    pub(crate) fn from_numbers(out: [u64; PLAY_NUMBERS]) -> Reply {
+        let [kind, a, b, c, d, e, f] = out;
+        match kind {
+            0 => Reply::Refused(Refusal(a as u8)),
+            1 => Reply::Checked,
+            2 => Reply::Stepped(Step::from_numbers([a, b, c, d, e, f])),
+            _ => Reply::Ran(RunEnd::from_numbers([a, b])),
         }
     }
 }

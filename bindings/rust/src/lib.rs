@@ -20,8 +20,10 @@
 
 mod answers;
 pub mod raw;
+mod script;
 
-pub use answers::{Refusal, Report, RunEnd, Step};
+pub use answers::{Refusal, Reply, Report, RunEnd, Step};
+pub use script::{Call, Request, Source};
 
 use answers::settled;
 
@@ -122,4 +124,49 @@ pub fn listing(plan: &[u8], budget: u32) -> Result<String, Refusal> {
     })?;
     text.truncate(out[0] as usize);
     Ok(String::from_utf8(text).expect("a listing is ASCII"))
+}
+
+/// Plays a script: checks, steps and runs, one after the other over the same words, each with the plan's bytes or the
+/// other ones. Answers the last call's reply, `Reply::Checked` where there is no call.
+///
+/// A refused call writes nothing, and the next one is made all the same. Of all functions here this is the one whose
+/// contract in the archive is the claim about lists of calls, about code that has run; `include/bpl.h` says what it is.
+///
+/// ```
+/// use bpl::{Call, Reply, Request, RunEnd};
+///
+/// // One rack of two machines, three blocks of one copy.
+/// let mut plan = vec![0x42, 0x50, 0x4C, 0, 1, 1, 2, 0, 2, 0, 0, 0, 3, 0, 3];
+/// plan.extend([0, 0, 4, 1, 1, 0, 0, 1, 1, 1, 0, 0, 2, 1, 1]);
+/// let mut words = [1, 2, 1];
+/// let calls = [
+///     Call::new(Request::Step),
+///     Call::new(Request::Check).with_other(), // refused with 1: the other bytes are no plan
+///     Call::new(Request::Step).lending(2),    // refused with 12
+///     Call::new(Request::Run(100)),
+/// ];
+/// assert_eq!(bpl::play(&plan, &[], &mut words, &calls), Reply::Ran(RunEnd::Rest(1)));
+/// assert_eq!(words, [2, 1, 1]);
+/// ```
+pub fn play(plan: &[u8], other: &[u8], words: &mut [u64], calls: &[Call]) -> Reply {
+    let script: Vec<u64> = calls.iter().map(|call| call.item()).collect();
+    let mut out = [0; raw::PLAY_NUMBERS];
+    // SAFETY: as in `first`, and for `other` as for the plan; neither is written, so the two may overlap. `script` and
+    // `out` are locals of their own with the lengths that are passed.
+    let code = unsafe {
+        raw::bpl_play(
+            plan.as_ptr(),
+            plan.len(),
+            other.as_ptr(),
+            other.len(),
+            words.as_mut_ptr(),
+            words.len(),
+            script.as_ptr(),
+            script.len(),
+            out.as_mut_ptr(),
+            out.len(),
+        )
+    };
+    assert_eq!(code, 0, "a play with room for its reply has one");
+    Reply::from_numbers(out)
 }

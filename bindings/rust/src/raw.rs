@@ -5,11 +5,12 @@
 //! Each pointer is valid for as many items as the length after it says, aligned and not null, for the whole call;
 //! a buffer behind a `*mut` overlaps no other buffer of the call.
 
-/// Words of `out` that a report, a step, a run and a listing write, and have to be lent.
+/// Words of `out` that a report, a step, a run, a listing and a play write, and have to be lent.
 pub const REPORT_NUMBERS: usize = 4;
 pub const STEP_NUMBERS: usize = 6;
 pub const RUN_NUMBERS: usize = 2;
 pub const LISTING_NUMBERS: usize = 1;
+pub const PLAY_NUMBERS: usize = 7;
 
 /// Bytes of text that a listing has to be lent.
 pub const LISTING_ROOM: usize = 65536;
@@ -60,6 +61,19 @@ extern "C" {
         budget: u32,
         text: *mut u8,
         text_len: usize,
+        out: *mut u64,
+        out_len: usize,
+    ) -> u32;
+
+    pub fn bpl_play(
+        plan: *const u8,
+        plan_len: usize,
+        other: *const u8,
+        other_len: usize,
+        words: *mut u64,
+        words_len: usize,
+        script: *const u64,
+        script_len: usize,
         out: *mut u64,
         out_len: usize,
     ) -> u32;

@@ -1,6 +1,6 @@
 //! The specification's own examples, and the repository's stored ones.
 
-use bpl::{Report, RunEnd, Step};
+use bpl::{Call, Reply, Report, Request, RunEnd, Step};
 use placement_reference::samples;
 use std::fs;
 use std::path::PathBuf;
@@ -66,6 +66,42 @@ fn plan_z() {
     assert_eq!(bpl::step(&bytes, &mut words), Ok(Some(second)));
     assert_eq!(bpl::run(&bytes, &mut words, 9), Ok(RunEnd::Rest(0)));
     assert_eq!(words, [1, 2, 1, 2]);
+}
+
+/// Plan Y as a script, with calls between that are refused: the last reply of each of its beginnings. No call at all
+/// answers as a check that passed.
+#[test]
+fn plan_y_as_a_script() {
+    let (bytes, other) = (samples::y().bytes(), samples::h_budget(3).bytes());
+    let calls = [
+        Call::new(Request::Run(0)),
+        Call::new(Request::Check).with_other(),
+        Call::new(Request::Step),
+        Call::new(Request::Step).lending(2),
+        Call::new(Request::Run(1)).lending(3),
+        Call::new(Request::Step),
+        Call::new(Request::Check),
+    ];
+    let row = |reply| match reply {
+        Reply::Refused(refusal) => Err(refusal.number()),
+        said => Ok(said),
+    };
+    let step = Step::Move { m: 0, n: 1, i: 0 };
+    let expected = [
+        (Ok(Reply::Checked), [1, 2, 1, 77]),
+        (Ok(Reply::Ran(RunEnd::Spent(0))), [1, 2, 1, 77]),
+        (Err(10), [1, 2, 1, 77]),
+        (Ok(Reply::Stepped(Some(step))), [2, 2, 1, 77]),
+        (Err(12), [2, 2, 1, 77]),
+        (Ok(Reply::Ran(RunEnd::Rest(1))), [2, 1, 1, 77]),
+        (Ok(Reply::Stepped(None)), [2, 1, 1, 77]),
+        (Ok(Reply::Checked), [2, 1, 1, 77]),
+    ];
+    for (made, (reply, after)) in expected.into_iter().enumerate() {
+        let mut words = [1, 2, 1, 77];
+        let said = bpl::play(&bytes, &other, &mut words, &calls[..made]);
+        assert_eq!((row(said), words), (reply, after), "{made} calls");
+    }
 }
 
 /// The refusals of the empty file and of a short buffer, in words.
