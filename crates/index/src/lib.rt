@@ -1,5 +1,6 @@
 // The index of a placement: each machine's blocks as bit sets, by number and by rank, and the blocks in order of their shares.
 use cluster::Cluster;
+use cluster::MAX_BLOCKS;
 ghost use mathlib.Core.List.{List};
 ghost use Prim.Native.Nat.{ℕ};
 ghost use mathlib.Core.Path.{_≡_};
@@ -43,8 +44,10 @@ pub fn start(profiles: &[u64], cluster: Cluster) -> [u64; INDEX_LENGTH]
     requires { ⌜ ProfilesFit cluster (now profiles) ⌝ }
     ensures { λ r. ⌜ Ordered cluster (now (profiles .entry)) r ⌝ }
 {
-    let keys = ranking::rank(profiles, cluster);
-    let ranks = ranking::ranks(&keys[..], cluster);
+    let mut keys = [0u64; MAX_BLOCKS];
+    let mut ranks = [0u64; MAX_BLOCKS];
+    ranking::rank(profiles, cluster, &mut keys[..]);
+    ranking::ranks(&keys[..], cluster, &mut ranks[..]);
     let mut index = [0u64; INDEX_LENGTH];
     copy_part(&mut index[..], KEYS_AT, &keys[..], cluster.blocks);
     copy_part(&mut index[..], RANKS_AT, &ranks[..], cluster.blocks);

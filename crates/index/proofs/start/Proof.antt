@@ -35,11 +35,17 @@ module _ {c : Cluster} {profiles keys ranks entry half index : List ℕ} (few : 
             rw (key r (omega arith), key q h) (keyShare-rises (getD keys r 0) (getD keys q 0) (ranked .sorted r q l h));
       }
 
+slice-aggregate-rank : tie.Need-slice-aggregate-rank
+slice-aggregate-rank c = search needs
+
 rank-requires : tie.Need-rank-requires
 rank-requires c κs = search needs
 
 slice-aggregate-ranks : tie.Need-slice-aggregate-ranks
 slice-aggregate-ranks c = search needs
+
+slice-aggregate-ranks-2 : tie.Need-slice-aggregate-ranks-2
+slice-aggregate-ranks-2 c = search needs
 
 ranks-requires : tie.Need-ranks-requires
 ranks-requires c κs = search needs
@@ -64,21 +70,19 @@ copy-part-requires-2 c κs = search needs
 
 returns : tie.Need-returns
 returns c =
-    let copy2 = c .before in
-    let copy = copy2 .before .before .before .before in
-    let inverse = copy .before .before .before in
-    let order = inverse .before .before in
-    let fit = order .before .before .pre in
-    let ranked = order .rank .ensures in
-    copied-ordered (fit .in-range .blocks-max) ranked (inverse .ranks .ensures _ fit ranked)
-    (copy .copy-part .ensures) (copy2 .copy-part2 .ensures)
+    let fit = c .before .before .before .before .before .before .before .before .before .before .before .before .before .before .before .before .pre in
+    let ranked = c .before .before .before .before .before .before .before .before .before .before .before .before .before .rank .ensures in
+    copied-ordered (fit .in-range .blocks-max) ranked (c .before .before .before .before .before .before .before .before .before .ranks2 .ensures _ fit ranked)
+    (c .before .before .before .before .before .copy-part .ensures) (c .before .copy-part2 .ensures)
 
 pub start-spec : {M : Type 1} → statement M
 start-spec =
     tie.close
     (tie.spec
+    slice-aggregate-rank
     rank-requires
     slice-aggregate-ranks
+    slice-aggregate-ranks-2
     ranks-requires
     slice-aggregate-copy-part
     slice-aggregate-copy-part-2
