@@ -11,7 +11,7 @@ use Rattle.cluster.specs.declared.Cluster.{Cluster}
 use Rattle.cluster.specs.Blocks.{PlacementFits}
 use Rattle.loads.specs.declared.Loads.{Loads}
 use Rattle.loads.specs.Loads.{LoadsOf}
-use Rattle.index.specs.Index.{Ordered}
+use Rattle.index.specs.Index.{Ordered, Cleared}
 use Rattle.search.specs.Scene.{stepOf, Found}
 use Rattle.search.specs.declared.Step.{Step}
 use Rattle.search.specs.declared.Step.the-variants.{Rest, Move, Swap, RackMove, RackSwap}
@@ -22,10 +22,11 @@ pub record StepAsked (c : Cluster) (words profiles : List ℕ) (loads : Loads) :
   pub fits : PlacementFits c words profiles
   pub loads-of : LoadsOf c words profiles (loads .load) (loads .copies)
 
--- With an index that has its blocks in order.
+-- With an index that has its blocks in order and no placement yet.
 pub record OrderedAsked (c : Cluster) (words profiles index : List ℕ) (loads : Loads) : Type 0 where
   pub asked : StepAsked c words profiles loads
   pub ordered : Ordered c profiles index
+  pub cleared : Cleared index
 
 -- A copy that can be shifted: m holds block i and n does not.
 pub record ShiftAsked (words : List ℕ) (m n i : ℕ) : Type 0 where

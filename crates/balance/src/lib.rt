@@ -140,6 +140,7 @@ fn run_ordered(
         }
         loads = loads_after(loads, profiles, step);
         take_step(words, step);
+        index::clear(index);
         steps += 1;
     }
     let step = look(words, profiles, index, loads, cluster);

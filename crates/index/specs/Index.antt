@@ -49,6 +49,10 @@ pub record Ordered (c : Cluster) (profiles index : List ℕ) : Type 0 where
   pub rank-apart : (i j : ℕ) → i < c .blocks → j < c .blocks → rankAt index i ≡ rankAt index j → i ≡ j
   pub rising : (r q : ℕ) → r ≤ q → q < c .blocks → shareAt index r ≤ shareAt index q
 
+-- The bit sets are empty.
+abbrev pub Cleared : List ℕ → Type 0
+Cleared index = (k : ℕ) → k < keysAt → getD index k 0 ≡ 0
+
 -- With the machines' blocks, by number and by rank.
 pub record Indexed (c : Cluster) (words profiles index : List ℕ) : Type 0 where
   pub ordered : Ordered c profiles index
@@ -70,7 +74,7 @@ pub record CopiedTo (index : List ℕ) (part : ℕ) (from : List ℕ) (blocks : 
 -- The bit sets empty, the rest as it was.
 pub record ClearedTo (index later : List ℕ) : Type 0 where
   pub sized : length later ≡ indexLength
-  pub clear : (k : ℕ) → k < keysAt → getD later k 0 ≡ 0
+  pub clear : Cleared later
   pub kept : (k : ℕ) → keysAt ≤ k → getD later k 0 ≡ getD index k 0
 
 -- Block i and its rank stand nowhere yet.
@@ -99,6 +103,7 @@ pub record FillAsked (c : Cluster) (words index : List ℕ) : Type 0 where
   pub word-room : c .blocks ≤ length words
   pub profiles : List ℕ
   pub ordered : Ordered c profiles index
+  pub cleared : Cleared index
 
 pub record NextAsked (index : List ℕ) (part m n from : ℕ) (c : Cluster) : Type 0 where
   pub sized : length index ≡ indexLength

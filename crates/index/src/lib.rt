@@ -6,7 +6,7 @@ ghost use Prim.Native.Nat.{ℕ};
 ghost use mathlib.Core.Path.{_≡_};
 ghost use lib.ListN.{length};
 ghost use Rattle.cluster.specs.Blocks.{ProfilesFit};
-ghost use Rattle.index.specs.Index.{indexLength, Ordered, Indexed, CopyAsked, CopiedTo, ClearedTo, EnterAsked, Entered, FillAsked, NextAsked, NextOf};
+ghost use Rattle.index.specs.Index.{indexLength, Ordered, Cleared, Indexed, CopyAsked, CopiedTo, ClearedTo, EnterAsked, Entered, FillAsked, NextAsked, NextOf};
 
 // The index's length, and where its parts begin: the blocks by number and by rank, the keys and the ranks.
 pub const INDEX_LENGTH: usize = 4096;
@@ -42,7 +42,7 @@ fn copy_part(index: &mut [u64], part: usize, from: &[u64], blocks: usize)
 // An index with the blocks in order of their shares, and no placement yet.
 pub fn start(profiles: &[u64], cluster: Cluster) -> [u64; INDEX_LENGTH]
     requires { ⌜ ProfilesFit cluster (now profiles) ⌝ }
-    ensures { λ r. ⌜ Ordered cluster (now (profiles .entry)) r ⌝ }
+    ensures { λ r. ⌜ Ordered cluster (now (profiles .entry)) r × Cleared r ⌝ }
 {
     let mut keys = [0u64; MAX_BLOCKS];
     let mut ranks = [0u64; MAX_BLOCKS];
@@ -54,8 +54,8 @@ pub fn start(profiles: &[u64], cluster: Cluster) -> [u64; INDEX_LENGTH]
     index
 }
 
-// The bit sets emptied.
-fn clear(index: &mut [u64])
+// The bit sets emptied; the order stays.
+pub fn clear(index: &mut [u64])
     requires { ⌜ length (now index) ≡ indexLength ⌝ }
     ensures { λ r. ⌜ ClearedTo (now (index .entry)) (now (index .exit)) ⌝ }
 {
@@ -83,13 +83,12 @@ fn enter(index: &mut [u64], word: u64, i: usize)
     }
 }
 
-// The bit sets of a placement; the order stays.
+// The bit sets of a placement, in an index that has none; the order stays.
 pub fn fill(index: &mut [u64], words: &[u64], cluster: Cluster)
     requires { ⌜ FillAsked cluster (now words) (now index) ⌝ }
     ensures { λ r. ⌜ ((profiles : List ℕ) → Ordered cluster profiles (now (index .entry))
         → Indexed cluster (now (words .entry)) profiles (now (index .exit))) ⌝ }
 {
-    clear(index);
     let mut i: usize = 0;
     while i < cluster.blocks {
         enter(index, words[i], i);

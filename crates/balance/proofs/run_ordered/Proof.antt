@@ -7,6 +7,7 @@ use borrow.Author.Needs.{needs}
 use borrow.Author.Tests.{not-true, not-false}
 use Rattle.balance.specs.Standing.{OrderedAsked}
 use Rattle.balance.proofs.Laws.{take-asked, Along, along-first, along-more, along-rest, along-end}
+use Rattle.index.proofs.Laws.{ordered-kept}
 use Rattle.balance.proofs.run_ordered.Statement.{statement}
 use Rattle.balance.proofs.run_ordered.Tie as tie
 
@@ -43,19 +44,23 @@ loads-after-requires c κs =
 take-step-requires : tie.Need-take-step-requires Inv-loop μ-loop
 take-step-requires c κs = take-asked (c .before .before .before .before .before .before .before .before .before .before .loop .inv .1 .asked .fits) (c .before .before .before .before .before .before .look .ensures .0)
 
+clear-requires : tie.Need-clear-requires Inv-loop μ-loop
+clear-requires c κs = c .before .before .before .before .before .before .before .before .before .before .look .ensures .1 .sized
+
 add-steps : tie.Need-add-steps Inv-loop μ-loop
-add-steps c = omega (arith, c .before .before .before .before .before .before .before .before .before .before .before .before .loop-test .taken)
+add-steps c = omega (arith, c .before .before .before .before .before .before .before .before .before .before .before .before .before .before .before .before .loop-test .taken)
 
 loop-less : tie.Need-loop-less Inv-loop μ-loop
-loop-less c = omega (arith, c .before .before .before .before .before .before .before .before .before .before .before .before .loop-test .taken)
+loop-less c = omega (arith, c .before .before .before .before .before .before .before .before .before .before .before .before .before .before .before .before .loop-test .taken)
 
 loop-again : tie.Need-loop-again Inv-loop μ-loop
 loop-again c =
-    let at = c .before .before .before .before .before .before .before .before .before .before .before .before .before .loop .inv in
-    let found = c .before .before .before .before .before .before .before .before .before .look .ensures in
-    rw (c .before .before .take-step .ensures) (
-      along-more (at .0) (found .0) (c .before .before .before .before .before .before .before .before .before .before .before .before .loop-test .taken) (not-false _ (sym (c .before .before .before .before .before .before .is-rest .ensures) ∙ c .before .before .before .before .before .if1 .left)),
-      record { asked = c .before .before .before .before .loads-after .ensures _ _ (at .1 .asked) (found .0 .sound); ordered = found .1 },
+    let at = c .before .before .before .before .before .before .before .before .before .before .before .before .before .before .before .before .before .loop .inv in
+    let found = c .before .before .before .before .before .before .before .before .before .before .before .before .before .look .ensures in
+    let cleared = c .before .before .clear .ensures in
+    rw (c .before .before .before .before .before .before .take-step .ensures) (
+      along-more (at .0) (found .0) (c .before .before .before .before .before .before .before .before .before .before .before .before .before .before .before .before .loop-test .taken) (not-false _ (sym (c .before .before .before .before .before .before .before .before .before .before .is-rest .ensures) ∙ c .before .before .before .before .before .before .before .before .before .if1 .left)),
+      record { asked = c .before .before .before .before .before .before .before .before .loads-after .ensures _ _ (at .1 .asked) (found .0 .sound); ordered = ordered-kept (cleared .sized) (cleared .kept) (found .1); cleared = cleared .clear },
     )
 
 look-requires-2 : tie.Need-look-requires-2 Inv-loop μ-loop
@@ -88,6 +93,7 @@ run-ordered-spec =
     returns
     loads-after-requires
     take-step-requires
+    clear-requires
     add-steps
     loop-less
     loop-again

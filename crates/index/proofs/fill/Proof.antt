@@ -76,23 +76,15 @@ abbrev μ-loop : tie.MeasureT-loop
 
 -- the call's arguments
 abbrev start : tie.At-loop Inv-loop μ-loop → tie.Start Inv-loop μ-loop
-start at = at .before .before .before .before .before .before .before
-
--- the order that was there is there when the loop begins
-order : (at : tie.At-loop Inv-loop μ-loop) {profiles : List ℕ} → Ordered (start at .args .cluster) profiles (now (start at .args .index))
-    → Ordered (start at .args .cluster) profiles (at .before .before .before .clear .last .0)
-order at = let cleared = at .before .before .before .clear .ensures in ordered-kept (cleared .sized) (cleared .kept)
-
-clear-requires : tie.Need-clear-requires Inv-loop μ-loop
-clear-requires c κs = c .before .before .before .pre .ordered .sized
+start at = at .before .before .before
 
 loop-holds : tie.Need-loop-holds Inv-loop μ-loop
 loop-holds c =
-    let cleared = c .before .before .clear .ensures in (
+    let asked = c .before .before .pre in (
       record {
-        sized = cleared .sized;
-        number = filed-none _ _ byNumber _ (omega arith) (cleared .clear);
-        rank = filed-none _ _ byRank _ (omega arith) (cleared .clear);
+        sized = asked .ordered .sized;
+        number = filed-none _ _ byNumber _ (omega arith) (asked .cleared);
+        rank = filed-none _ _ byRank _ (omega arith) (asked .cleared);
         kept = λ k l. refl;
       },
       omega arith,
@@ -109,7 +101,7 @@ enter-requires c κs =
     let turn = c .before .before in
     let at = turn .before .before in
     let asked = start at .pre in
-    enter-asked (asked .in-range .blocks-max) (order at (asked .ordered)) (at .loop .inv .0) (turn .if1 .taken)
+    enter-asked (asked .in-range .blocks-max) (asked .ordered) (at .loop .inv .0) (turn .if1 .taken)
 
 add-i : tie.Need-add-i Inv-loop μ-loop
 add-i c = omega arith
@@ -123,7 +115,7 @@ loop-again c =
     let turn = call .before .before .before in
     let at = turn .before .before in
     let asked = start at .pre in (
-      filling-step (asked .in-range .blocks-max) (order at (asked .ordered)) (at .loop .inv .0) (turn .if1 .taken) (call .enter .ensures),
+      filling-step (asked .in-range .blocks-max) (asked .ordered) (at .loop .inv .0) (turn .if1 .taken) (call .enter .ensures),
       omega arith,
     )
 
@@ -134,7 +126,7 @@ returns : tie.Need-returns Inv-loop μ-loop
 returns c =
     let at = c .before .before in
     let done : at .loop .i ≡ start at .args .cluster .blocks = omega arith in
-    λ profiles ordered. filling-done (rw done at (at .loop .inv .0)) (order at ordered)
+    λ profiles ordered. filling-done (rw done at (at .loop .inv .0)) ordered
 
 pub fill-spec : {M : Type 1} → statement M
 fill-spec =
@@ -142,7 +134,6 @@ fill-spec =
     (tie.spec
     Inv-loop
     μ-loop
-    clear-requires
     loop-holds
     mul-enter
     shared-slice-read-enter

@@ -5,12 +5,12 @@ use mathlib.Core.List.{List}
 use Prim.Native.Nat.{ℕ, _+_, _<_, _≤_}
 use native.Mathlib.Omega.{arith}
 use borrow.Author.Needs.{needs}
-use lib.ListN.{getD}
+use lib.ListN.{getD, getD-replicate}
 use Rattle.model.specs.Refusal.{maxBlocks}
 use Rattle.cluster.specs.declared.Cluster.{Cluster}
 use Rattle.ranking.specs.Ranks.{Ranked, RanksOf}
 use Rattle.ranking.proofs.Laws.{keyShare-rises, ranks-share, ranks-apart}
-use Rattle.index.specs.Index.{keysAt, ranksAt, keyAt, rankAt, Ordered, CopiedTo}
+use Rattle.index.specs.Index.{keysAt, ranksAt, indexLength, keyAt, rankAt, Ordered, Cleared, CopiedTo}
 use Rattle.index.proofs.start.Statement.{statement}
 use Rattle.index.proofs.start.Tie as tie
 
@@ -34,6 +34,9 @@ module _ {c : Cluster} {profiles keys ranks entry half index : List ℕ} (few : 
         rising = λ r q l h.
             rw (key r (omega arith), key q h) (keyShare-rises (getD keys r 0) (getD keys q 0) (ranked .sorted r q l h));
       }
+
+  copied-cleared : Cleared entry → Cleared index
+  copied-cleared empty k l = second .below k (omega arith) ∙ first .below k l ∙ empty k l
 
 slice-aggregate-rank : tie.Need-slice-aggregate-rank
 slice-aggregate-rank c = search needs
@@ -72,8 +75,14 @@ returns : tie.Need-returns
 returns c =
     let fit = c .before .before .before .before .before .before .before .before .before .before .before .before .before .before .before .before .pre in
     let ranked = c .before .before .before .before .before .before .before .before .before .before .before .before .before .rank .ensures in
-    copied-ordered (fit .in-range .blocks-max) ranked (c .before .before .before .before .before .before .before .before .before .ranks2 .ensures _ fit ranked)
-    (c .before .before .before .before .before .copy-part .ensures) (c .before .copy-part2 .ensures)
+    let copied = c .before .before .before .before .before .copy-part .ensures in
+    let later = c .before .copy-part2 .ensures in (
+      copied-ordered (fit .in-range .blocks-max) ranked
+          (c .before .before .before .before .before .before .before .before .before .ranks2 .ensures _ fit ranked) copied later,
+      copied-cleared (fit .in-range .blocks-max) ranked
+          (c .before .before .before .before .before .before .before .before .before .ranks2 .ensures _ fit ranked) copied later
+          (λ k l. getD-replicate {A = ℕ} indexLength k 0 0 (omega arith)),
+    )
 
 pub start-spec : {M : Type 1} → statement M
 start-spec =
