@@ -4,8 +4,8 @@ use mathlib.Core.List.{List, [], _∷_, _++_}
 use Prim.Native.Nat.{ℕ, zero, suc, _+_, _/_, _%_}
 use lib.Dec.{ltb, eqb}
 use lib.ListN.{length, drop}
-use Rattle.model.specs.Plan.{Plan, machines, blockCount}
-use Rattle.model.specs.Refusal.{refuseIf, Verdict, refused, accepted, judge}
+use Rattle.model.specs.Plan.{Plan, machines, blockCount, formatOf, recordAt}
+use Rattle.model.specs.Refusal.{refuseIf, maxBlocks, Verdict, refused, accepted, judge}
 use Rattle.model.specs.Placement.{bit, wordOf, countOf, shareOf, firstPlacement}
 use Rattle.model.specs.Steps.{Run, run}
 use Rattle.model.specs.Calls.{Outcome, answered, unless, onPlan, reportOf}
@@ -98,9 +98,17 @@ unfoldable pub printedOf : Verdict → ℕ → List ℕ
 printedOf (refused code) budget = refusedLine code
 printedOf (accepted p) budget = listingOf p budget
 
--- What the program prints for any bytes.
+-- What is printed for any bytes.
 unfoldable pub printed : List ℕ → ℕ → List ℕ
 printed bytes budget = printedOf (judge bytes) budget
+
+-- The program runs "with step budget 100,000".
+abbrev pub stepLimit : ℕ
+stepLimit = 100_000
+
+-- The bytes that it reads at most: one more than the largest plan has, which is of version 1.
+unfoldable pub inputRoom : ℕ
+inputRoom = recordAt (formatOf 1) maxBlocks + 1
 
 -- Bytes that every listing fits in, and the code for a shorter text, above all refusal numbers.
 abbrev pub listingRoom : ℕ

@@ -14,7 +14,7 @@ use Rattle.model.specs.Replication.{limit, share, need, chosen}
 use Rattle.model.specs.Placement.{bit, replicas, replicasIn, domainsUsed, used, allWithin, allSpread, allFit, countsFeasible, isFeasible, position, laidWord, firstWord, firstPlacement, shareOf, load, maxLoad, minLoad, totalLoad, maxShare}
 use Rattle.model.specs.Steps.{shifted, afterMove, afterSwap, after, improves, canMove, canSwap, pairs, nextMove, nextSwap, nextStep, Run, run}
 use Rattle.model.specs.Calls.{reportOf}
-use Rattle.model.specs.Listing.{digits, decimal, numberField, fields, line, planLine, holders, blockLine, lines, lastLine, listingOf, refusedLine, printedOf, printed, listingRoom}
+use Rattle.model.specs.Listing.{digits, decimal, numberField, fields, line, planLine, holders, blockLine, lines, lastLine, listingOf, refusedLine, printedOf, printed, stepLimit, listingRoom}
 use Rattle.theory.specs.Widths.{shareBound}
 use Rattle.theory.proofs.Plan.{field-bound, planIn-blockCount, planIn-blockOf}
 use Rattle.theory.proofs.Refusal.{refusal-le, refusal-zero, judge-refused, judge-accepted}
@@ -33,15 +33,15 @@ H-first : firstPlacement (planIn plan-H) ≡ 15 ∷ 5 ∷ 2 ∷ []
 unfolding firstPlacement planIn blockIn formatOf field upper chosen position laidWord firstWord need share sum table least plan-H
 H-first = rw (figures .H) refl
 
-H-lines : runLines (planIn plan-H) (run (planIn plan-H) 100_000 (15 ∷ 5 ∷ 2 ∷ [])) ≡ listing-H
+H-lines : runLines (planIn plan-H) (run (planIn plan-H) stepLimit (15 ∷ 5 ∷ 2 ∷ [])) ≡ listing-H
 unfolding runLines lastLine planLine blockLine lines holders line fields numberField decimal digits reportOf maxLoad minLoad totalLoad maxShare planIn blockIn formatOf field upper minTotal shifted afterMove afterSwap after improves canMove canSwap pairs nextMove nextSwap nextStep run bit replicas replicasIn domainsUsed used allWithin allSpread allFit countsFeasible isFeasible shareOf load largest smallest share limit sum table allb firstUp plan-H listing-H
 H-lines = refl
 
-H-printed : printed plan-H 100_000 ≡ listing-H
+H-printed : printed plan-H stepLimit ≡ listing-H
 unfolding printed printedOf listingOf runLines
 H-printed =
-    ap (λ (v : Verdict). printedOf v 100_000) (trials .H-accepted)
-    ∙ ap (λ (words : List ℕ). runLines (planIn plan-H) (run (planIn plan-H) 100_000 words)) H-first
+    ap (λ (v : Verdict). printedOf v stepLimit) (trials .H-accepted)
+    ∙ ap (λ (words : List ℕ). runLines (planIn plan-H) (run (planIn plan-H) stepLimit words)) H-first
     ∙ H-lines
 
 empty-printed : (budget : ℕ) → printed [] budget ≡ listing-empty

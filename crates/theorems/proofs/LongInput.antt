@@ -12,10 +12,10 @@ use lib.ListN.{length, take}
 use lib.Seq.{length-take-le}
 use Rattle.model.specs.Plan.{field, markIn, versionIn, racksIn, rackSizeIn, capacityIn, blockCountIn, formatOf, recordAt, planIn}
 use Rattle.model.specs.Refusal.{mark, maxMachines, maxCapacity, maxBlocks, check1, check2, check3, check4, check5, check6, check7, planRefusal, refusal, Verdict}
-use Rattle.model.specs.Listing.{printed, printedOf}
+use Rattle.model.specs.Listing.{printed, printedOf, inputRoom}
 use Rattle.theory.proofs.Plan.{field-take}
 use Rattle.theory.proofs.Refusal.{refuseIf-all, judge-refused}
-use Rattle.theorems.specs.Listing.{inputRoom, LongInput}
+use Rattle.theorems.specs.Listing.{LongInput}
 
 -- the refusal of a long input, from its header alone
 longRefusal : ℕ → ℕ → ℕ → ℕ → ℕ → ℕ → ℕ
