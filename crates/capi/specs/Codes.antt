@@ -31,7 +31,7 @@ pub record Tells {A : Type 0} (need : ℕ) (out : List ℕ) (answer : Answer A) 
 abbrev pub EffectTells : {A : Type 0} → ℕ → (A → List ℕ) → List ℕ → List ℕ → Outcome A → Type 0
 EffectTells need numbers items out call = Tells need out (call .answer) (effect need numbers items out call .code)
 
--- Of every exported function, whatever it is lent.
+-- Of every exported function that makes one call, whatever it is lent. Playing a script is never refused: it is short of `out`, or done.
 pub record Codes (plan items out : List ℕ) (budget : ℕ) : Type 0 where
   pub plan-known : (verdictCode (judge plan) ≡ 0) ⊎ RefusalCode (verdictCode (judge plan))
   pub plan-done : (verdictCode (judge plan) ≡ 0) ↔ ((p : Plan) × (judge plan ≡ accepted p))
