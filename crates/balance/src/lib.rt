@@ -1,5 +1,6 @@
 // Steps over the words of a placement: the next one, one taken, a run of them. The loads follow each step.
 use cluster::Cluster;
+use index::INDEX_LENGTH;
 use loads::Loads;
 use search::Step;
 ghost use mathlib.Core.Path.{_≡_};
@@ -156,7 +157,8 @@ pub fn step(words: &mut [u64], profiles: &[u64], loads: Loads, cluster: Cluster)
     ensures { λ r. ⌜ ((p : Plan) (count : ℕ → ℕ) → PlacementOf p count cluster (now (words .entry)) (now (profiles .entry))
         → Stepped p (now (words .entry)) (now (words .exit)) r) ⌝ }
 {
-    let mut index = index::start(profiles, cluster);
+    let mut index = [0u64; INDEX_LENGTH];
+    index::start(&mut index[..], profiles, cluster);
     let step = look(words, profiles, &mut index[..], loads, cluster);
     take_step(words, step);
     step
@@ -168,6 +170,7 @@ pub fn run(words: &mut [u64], profiles: &[u64], loads: Loads, cluster: Cluster, 
     ensures { λ r. ⌜ ((p : Plan) (count : ℕ → ℕ) → PlacementOf p count cluster (now (words .entry)) (now (profiles .entry))
         → ranOf r (now (words .exit)) ≡ run p limit (now (words .entry))) ⌝ }
 {
-    let mut index = index::start(profiles, cluster);
+    let mut index = [0u64; INDEX_LENGTH];
+    index::start(&mut index[..], profiles, cluster);
     run_ordered(words, profiles, &mut index[..], loads, cluster, limit)
 }

@@ -8,7 +8,7 @@ use Prim.Native.Nat.{ℕ, _+_, _*_, _-_, _/_, _%_, _^_, _<_, _≤_}
 use native.Mathlib.Nat.{zero-mul, one-mul}
 use native.Mathlib.Decide.{ℕ-discrete, decLt}
 use native.Mathlib.Omega.{arith}
-use lib.ListN.{length, getD, set, length-set}
+use lib.ListN.{length, getD, set, length-set, replicate, getD-replicate}
 use lib.Seq.{getD-set-same, getD-set-other}
 use Rattle.order.proofs.Sums.{delta-same, delta-other}
 use Rattle.model.specs.Refusal.{maxMachines, maxBlocks}
@@ -17,7 +17,7 @@ use Rattle.theory.proofs.Placement.{bit-add, bit-take, bit-le, bit-cases, bit-a
 use Rattle.cluster.specs.declared.Cluster.{Cluster}
 use Rattle.bits.specs.Words.{Lowest}
 use Rattle.bits.proofs.Laws.{bit-from}
-use Rattle.index.specs.Index.{indexLength, byRank, keysAt, ranksAt, spot, keyAt, rankAt, Ordered, Marked}
+use Rattle.index.specs.Index.{indexLength, byRank, keysAt, ranksAt, spot, keyAt, rankAt, Ordered, Cleared, Marked}
 
 -- ── words written ──────────────────────────────────────────────────────────────────────────────────────────────────────
 
@@ -218,3 +218,7 @@ next-within d s t h on = elim (decLt (s + t) 64) [
       let off = bit-above-from d 64 h (s + t) (omega arith) in
       absurd (omega (arith, bit-from d s t))
 ]
+
+-- an index of zeros has no bit sets
+pub blank-cleared : Cleared (replicate {A = ℕ} indexLength 0)
+blank-cleared k l = getD-replicate {A = ℕ} indexLength k 0 0 (omega arith)

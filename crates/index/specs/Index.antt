@@ -8,7 +8,7 @@ use Rattle.model.specs.Refusal.{maxMachines, maxBlocks}
 use Rattle.model.specs.Placement.{bit, held}
 use Rattle.cluster.specs.declared.Cluster.{Cluster}
 use Rattle.cluster.specs.Cluster.{InRange}
-use Rattle.cluster.specs.Blocks.{shareIn}
+use Rattle.cluster.specs.Blocks.{shareIn, ProfilesFit}
 use Rattle.ranking.specs.Ranks.{keyShare}
 
 abbrev pub indexLength : ℕ
@@ -58,6 +58,12 @@ pub record Indexed (c : Cluster) (words profiles index : List ℕ) : Type 0 wher
   pub ordered : Ordered c profiles index
   pub by-number : (m i : ℕ) → m < maxMachines → i < c .blocks → spot index byNumber m i ≡ held words m i
   pub by-rank : (m i : ℕ) → m < maxMachines → i < c .blocks → spot index byRank m (rankAt index i) ≡ held words m i
+
+-- An index without bit sets, to be given the blocks' order.
+pub record StartAsked (c : Cluster) (profiles index : List ℕ) : Type 0 where
+  pub fit : ProfilesFit c profiles
+  pub sized : length index ≡ indexLength
+  pub cleared : Cleared index
 
 -- The first items of a part that are copied into the index.
 pub record CopyAsked (index : List ℕ) (part : ℕ) (from : List ℕ) (blocks : ℕ) : Type 0 where

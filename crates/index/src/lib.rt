@@ -5,8 +5,7 @@ ghost use mathlib.Core.List.{List};
 ghost use Prim.Native.Nat.{ℕ};
 ghost use mathlib.Core.Path.{_≡_};
 ghost use lib.ListN.{length};
-ghost use Rattle.cluster.specs.Blocks.{ProfilesFit};
-ghost use Rattle.index.specs.Index.{indexLength, Ordered, Cleared, Indexed, CopyAsked, CopiedTo, ClearedTo, EnterAsked, Entered, FillAsked, NextAsked, NextOf};
+ghost use Rattle.index.specs.Index.{indexLength, Ordered, Cleared, StartAsked, Indexed, CopyAsked, CopiedTo, ClearedTo, EnterAsked, Entered, FillAsked, NextAsked, NextOf};
 
 // The index's length, and where its parts begin: the blocks by number and by rank, the keys and the ranks.
 pub const INDEX_LENGTH: usize = 4096;
@@ -39,19 +38,17 @@ fn copy_part(index: &mut [u64], part: usize, from: &[u64], blocks: usize)
     }
 }
 
-// An index with the blocks in order of their shares, and no placement yet.
-pub fn start(profiles: &[u64], cluster: Cluster) -> [u64; INDEX_LENGTH]
-    requires { ⌜ ProfilesFit cluster (now profiles) ⌝ }
-    ensures { λ r. ⌜ Ordered cluster (now (profiles .entry)) r × Cleared r ⌝ }
+// Puts the blocks in order of their shares into an index that has no bit sets yet.
+pub fn start(index: &mut [u64], profiles: &[u64], cluster: Cluster)
+    requires { ⌜ StartAsked cluster (now profiles) (now index) ⌝ }
+    ensures { λ r. ⌜ Ordered cluster (now (profiles .entry)) (now (index .exit)) × Cleared (now (index .exit)) ⌝ }
 {
     let mut keys = [0u64; MAX_BLOCKS];
     let mut ranks = [0u64; MAX_BLOCKS];
     ranking::rank(profiles, cluster, &mut keys[..]);
     ranking::ranks(&keys[..], cluster, &mut ranks[..]);
-    let mut index = [0u64; INDEX_LENGTH];
-    copy_part(&mut index[..], KEYS_AT, &keys[..], cluster.blocks);
-    copy_part(&mut index[..], RANKS_AT, &ranks[..], cluster.blocks);
-    index
+    copy_part(index, KEYS_AT, &keys[..], cluster.blocks);
+    copy_part(index, RANKS_AT, &ranks[..], cluster.blocks);
 }
 
 // The bit sets emptied; the order stays.

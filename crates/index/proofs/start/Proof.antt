@@ -5,12 +5,12 @@ use mathlib.Core.List.{List}
 use Prim.Native.Nat.{ℕ, _+_, _<_, _≤_}
 use native.Mathlib.Omega.{arith}
 use borrow.Author.Needs.{needs}
-use lib.ListN.{getD, getD-replicate}
+use lib.ListN.{getD}
 use Rattle.model.specs.Refusal.{maxBlocks}
 use Rattle.cluster.specs.declared.Cluster.{Cluster}
 use Rattle.ranking.specs.Ranks.{Ranked, RanksOf}
 use Rattle.ranking.proofs.Laws.{keyShare-rises, ranks-share, ranks-apart}
-use Rattle.index.specs.Index.{keysAt, ranksAt, indexLength, keyAt, rankAt, Ordered, Cleared, CopiedTo}
+use Rattle.index.specs.Index.{keysAt, ranksAt, keyAt, rankAt, Ordered, Cleared, CopiedTo}
 use Rattle.index.proofs.start.Statement.{statement}
 use Rattle.index.proofs.start.Tie as tie
 
@@ -56,33 +56,27 @@ ranks-requires c κs = search needs
 slice-aggregate-copy-part : tie.Need-slice-aggregate-copy-part
 slice-aggregate-copy-part c = search needs
 
-slice-aggregate-copy-part-2 : tie.Need-slice-aggregate-copy-part-2
-slice-aggregate-copy-part-2 c = search needs
-
 copy-part-requires : tie.Need-copy-part-requires
 copy-part-requires c κs = search needs
 
-slice-aggregate-copy-part-3 : tie.Need-slice-aggregate-copy-part-3
-slice-aggregate-copy-part-3 c = search needs
-
-slice-aggregate-copy-part-4 : tie.Need-slice-aggregate-copy-part-4
-slice-aggregate-copy-part-4 c = search needs
+slice-aggregate-copy-part-2 : tie.Need-slice-aggregate-copy-part-2
+slice-aggregate-copy-part-2 c = search needs
 
 copy-part-requires-2 : tie.Need-copy-part-requires-2
 copy-part-requires-2 c κs = search needs
 
+same-length : tie.Need-same-length
+same-length c = search needs
+
 returns : tie.Need-returns
 returns c =
-    let fit = c .before .before .before .before .before .before .before .before .before .before .before .before .before .before .before .before .pre in
-    let ranked = c .before .before .before .before .before .before .before .before .before .before .before .before .before .rank .ensures in
-    let copied = c .before .before .before .before .before .copy-part .ensures in
-    let later = c .before .copy-part2 .ensures in (
-      copied-ordered (fit .in-range .blocks-max) ranked
-          (c .before .before .before .before .before .before .before .before .before .ranks2 .ensures _ fit ranked) copied later,
-      copied-cleared (fit .in-range .blocks-max) ranked
-          (c .before .before .before .before .before .before .before .before .before .ranks2 .ensures _ fit ranked) copied later
-          (λ k l. getD-replicate {A = ℕ} indexLength k 0 0 (omega arith)),
-    )
+    let asked = c .before .before .before .before .before .before .before .before .before .before .before .before .before .before .before .before .before .before .before .pre in
+    let few = asked .fit .in-range .blocks-max in
+    let ranked = c .before .before .before .before .before .before .before .before .before .before .before .before .before .before .before .rank .ensures in
+    let of = c .before .before .before .before .before .before .before .before .before .before .before .ranks2 .ensures _ (asked .fit) ranked in
+    let first = c .before .before .before .before .before .before .before .copy-part .ensures in
+    let second = c .before .before .copy-part2 .ensures in
+    (copied-ordered few ranked of first second, copied-cleared few ranked of first second (asked .cleared))
 
 pub start-spec : {M : Type 1} → statement M
 start-spec =
@@ -94,9 +88,8 @@ start-spec =
     slice-aggregate-ranks-2
     ranks-requires
     slice-aggregate-copy-part
-    slice-aggregate-copy-part-2
     copy-part-requires
-    slice-aggregate-copy-part-3
-    slice-aggregate-copy-part-4
+    slice-aggregate-copy-part-2
     copy-part-requires-2
+    same-length
     returns)
