@@ -2,23 +2,15 @@
 use mathlib.Core.Path.{_≡_}
 use mathlib.Core.List.{List}
 use Prim.Native.Nat.{ℕ, _≤_}
-use lib.ListN.{length}
 use Rattle.model.specs.Plan.{Plan, blockCount}
 use Rattle.model.specs.Refusal.{check12, judge, accepted}
 use Rattle.model.specs.Replication.{largestShare, chosen}
 use Rattle.model.specs.Calls.{callRefusal, placementRefusal}
 use Rattle.cluster.specs.declared.Cluster.{Cluster}
 use Rattle.cluster.specs.Blocks.{ProfilesFit, ProfilesOf, PlacementFits, PlacementOf}
-use Rattle.header.specs.declared.Header.{Header}
-use Rattle.plan.specs.Reading.{planOf}
 use Rattle.loads.specs.Loads.{LoadsOf}
 use Rattle.admission.specs.declared.Intake.{Intake}
 use Rattle.admission.specs.declared.Placement.{Placement}
-
--- An accepted plan's bytes with its header, and room for its blocks' profiles.
-pub record PrepareAsked (bytes : List ℕ) (h : Header) (profiles : List ℕ) : Type 0 where
-  pub accepts : judge bytes ≡ accepted (planOf bytes h)
-  pub room : h .cluster .blocks ≤ length profiles
 
 -- The profiles of plan p's blocks at the chosen counts, in their ranges, and the largest share.
 pub record Prepared (p : Plan) (c : Cluster) (profiles : List ℕ) (top : ℕ) : Type 0 where

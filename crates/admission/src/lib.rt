@@ -1,6 +1,5 @@
 // The one way in for the entries: a plan's bytes are judged, its counts chosen, and a placement handed in is judged with it.
 use cluster::Cluster;
-use cluster::MAX_BLOCKS;
 use cluster::MAX_MACHINES;
 use header::Header;
 use loads::Loads;
@@ -9,8 +8,8 @@ ghost use mathlib.Core.Path.{_≡_};
 ghost use Prim.Native.Nat.{_≤_, min};
 ghost use lib.ListN.{length};
 ghost use Rattle.model.specs.Refusal.{maxBlocks, judge, accepted};
-ghost use Rattle.plan.specs.Reading.{planOf};
-ghost use Rattle.admission.specs.Admission.{PrepareAsked, Prepared, Admitted, PlacementAdmitted};
+ghost use Rattle.plan.specs.Reading.{planOf, DecodeAsked};
+ghost use Rattle.admission.specs.Admission.{Prepared, Admitted, PlacementAdmitted};
 
 // What a call on a plan begins with: the refusal code, 0 for none; the cluster, and the largest share at the chosen counts.
 pub struct Intake {
@@ -38,14 +37,13 @@ fn smaller(a: usize, b: usize) -> usize
 
 // The profiles of an accepted plan's blocks at the chosen counts, and the largest share.
 pub fn prepare(bytes: &[u8], h: Header, profiles: &mut [u64]) -> u64
-    requires { ⌜ PrepareAsked (now bytes) h (now profiles) ⌝ }
+    requires { ⌜ DecodeAsked (now bytes) h (now profiles) ⌝ }
     ensures { λ r. ⌜ Prepared (planOf (now (bytes .entry)) h) (h .cluster) (now (profiles .exit)) r ⌝ }
 {
     let cluster = h.cluster;
-    let mut demands = [0u64; MAX_BLOCKS];
-    plan::decode(bytes, h, &mut demands);
+    plan::decode(bytes, h, profiles);
     let limit = smaller(h.budget, cluster.machines() * cluster.capacity);
-    replication::choose(&demands, limit, cluster, profiles)
+    replication::choose(profiles, limit, cluster)
 }
 
 // A refused call has no cluster.

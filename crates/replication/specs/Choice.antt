@@ -2,7 +2,6 @@
 use mathlib.Core.Path.{_≡_}
 use mathlib.Core.List.{List}
 use Prim.Native.Nat.{ℕ, suc, _<_, _≤_}
-use lib.ListN.{length}
 use Rattle.order.specs.Table.{filled}
 use Rattle.model.specs.Plan.{Plan, blockCount}
 use Rattle.model.specs.Replication.{limit as limitOf, largestShare, need, figure, chosen}
@@ -27,28 +26,26 @@ pub record LimitedDemands (p : Plan) (c : Cluster) (demands : List ℕ) (limit :
   pub demands-of : DemandsOf p c demands
   pub limit-is : limit ≡ limitOf p
 
--- The demands belong to some plan, and there is room for its profiles.
-pub record ChooseAsked (c : Cluster) (demands : List ℕ) (limit : ℕ) (profiles : List ℕ) : Type 0 where
+-- The demands belong to some plan.
+pub record ChooseAsked (c : Cluster) (demands : List ℕ) (limit : ℕ) : Type 0 where
   pub fit : DemandsFit c demands
   pub plan : Plan
   pub limited : LimitedDemands plan c demands limit
-  pub room : c .blocks ≤ length profiles
 
 -- The same, with the figure of that plan.
-pub record FillAsked (c : Cluster) (demands : List ℕ) (wanted : ℕ) (profiles : List ℕ) : Type 0 where
+pub record FillAsked (c : Cluster) (demands : List ℕ) (wanted : ℕ) : Type 0 where
   pub fit : DemandsFit c demands
   pub plan : Plan
   pub demands-of : DemandsOf plan c demands
   pub figure-is : wanted ≡ figure plan
   pub narrow : wanted < shareBound
-  pub room : c .blocks ≤ length profiles
 
--- The profiles of plan p's blocks at the chosen counts, in their ranges; the later items stay.
-pub record ChosenProfiles (p : Plan) (c : Cluster) (profiles₀ profiles : List ℕ) : Type 0 where
-  pub are : profiles ≡ filled (blockCount p) (profileOf p (chosen p)) profiles₀
+-- The profiles of plan p's blocks at the chosen counts, in their ranges, in the place of the demands; the later items stay.
+pub record ChosenProfiles (p : Plan) (c : Cluster) (demands profiles : List ℕ) : Type 0 where
+  pub are : profiles ≡ filled (blockCount p) (profileOf p (chosen p)) demands
   pub fit : ProfilesFit c profiles
 
 -- With the largest share.
-pub record ChosenAs (p : Plan) (c : Cluster) (profiles₀ profiles : List ℕ) (top : ℕ) : Type 0 where
-  pub profiles-are : ChosenProfiles p c profiles₀ profiles
+pub record ChosenAs (p : Plan) (c : Cluster) (demands profiles : List ℕ) (top : ℕ) : Type 0 where
+  pub profiles-are : ChosenProfiles p c demands profiles
   pub top-is : top ≡ largestShare p (chosen p)

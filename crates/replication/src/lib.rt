@@ -98,29 +98,29 @@ fn best_figure(demands: &[u64], limit: usize, cluster: Cluster) -> u64
     high
 }
 
-// The profiles of the blocks at the counts within the plan's figure.
-fn fill(demands: &[u64], cluster: Cluster, wanted: u64, profiles: &mut [u64])
-    requires { ⌜ FillAsked cluster (now demands) wanted (now profiles) ⌝ }
-    ensures { λ r. ⌜ ((p : Plan) → DemandsOf p cluster (now (demands .entry)) → wanted ≡ figure p
-        → ChosenProfiles p cluster (now (profiles .entry)) (now (profiles .exit))) ⌝ }
+// Puts the blocks' profiles, at the counts within the plan's figure, in the place of their demands.
+fn fill(items: &mut [u64], cluster: Cluster, wanted: u64)
+    requires { ⌜ FillAsked cluster (now items) wanted ⌝ }
+    ensures { λ r. ⌜ ((p : Plan) → DemandsOf p cluster (now (items .entry)) → wanted ≡ figure p
+        → ChosenProfiles p cluster (now (items .entry)) (now (items .exit))) ⌝ }
 {
     let mut i: usize = 0;
     while i < cluster.blocks {
-        let demand = demands[i];
+        let demand = items[i];
         let count = needed(demand, wanted);
         let share = share_at(cluster::popularity_of(demand), count);
-        profiles[i] = cluster::profile(share, count, cluster::spread_asked(demand));
+        items[i] = cluster::profile(share, count, cluster::spread_asked(demand));
         i += 1;
     }
 }
 
-// The profiles of the blocks at the chosen counts, and the largest share.
-pub fn choose(demands: &[u64], limit: usize, cluster: Cluster, profiles: &mut [u64]) -> u64
-    requires { ⌜ ChooseAsked cluster (now demands) limit (now profiles) ⌝ }
-    ensures { λ r. ⌜ ((p : Plan) → LimitedDemands p cluster (now (demands .entry)) limit
-        → ChosenAs p cluster (now (profiles .entry)) (now (profiles .exit)) r) ⌝ }
+// Puts the blocks' profiles at the chosen counts in the place of their demands, and answers the largest share.
+pub fn choose(items: &mut [u64], limit: usize, cluster: Cluster) -> u64
+    requires { ⌜ ChooseAsked cluster (now items) limit ⌝ }
+    ensures { λ r. ⌜ ((p : Plan) → LimitedDemands p cluster (now (items .entry)) limit
+        → ChosenAs p cluster (now (items .entry)) (now (items .exit)) r) ⌝ }
 {
-    let figure = best_figure(demands, limit, cluster);
-    fill(demands, cluster, figure, profiles);
+    let figure = best_figure(items, limit, cluster);
+    fill(items, cluster, figure);
     figure
 }

@@ -8,47 +8,27 @@ use Rattle.plan.proofs.Laws.{accepted-header}
 use Rattle.admission.proofs.Laws.{limited-of, prepared-of}
 use Rattle.admission.proofs.prepare.Statement.{statement}
 use Rattle.admission.proofs.prepare.Tie as tie
-use Rattle.admission.proofs.smaller.Reads as smaller-reads
-use Rattle.cluster.proofs.Cluster.machines.Reads as machines-reads
-use Rattle.plan.proofs.decode.Reads as decode-reads
-use Rattle.replication.proofs.choose.Reads as choose-reads
-
-slice-aggregate-decode : tie.Need-slice-aggregate-decode
-slice-aggregate-decode c = search needs
 
 decode-requires : tie.Need-decode-requires
-decode-requires c κs =
-    let pre = c .before .before .before .before .pre in
-    record {
-      accepts = pre .accepts;
-      room = cluster-range _ _ (accepted-header _ _ (pre .accepts) .cluster-of) .blocks-max;
-    }
+decode-requires c κs = c .before .before .before .before .pre
 
 machines-requires : tie.Need-machines-requires
 machines-requires c κs = search needs
 
 mul-smaller : tie.Need-mul-smaller
 mul-smaller c =
-    let laws = accepted-header _ _ (c .before .before .before .before .before .before .before .before .pre .accepts) in
+    let laws = accepted-header _ _ (c .before .before .before .before .before .before .before .before .before .pre .accepts) in
     omega (arith, mul-le-mul (c .before .machines .ensures .1) (cluster-range _ _ (laws .cluster-of) .capacity-max))
 
 smaller-requires : tie.Need-smaller-requires
 smaller-requires c κs = search needs
 
-slice-aggregate-choose : tie.Need-slice-aggregate-choose
-slice-aggregate-choose c = search needs
-
 choose-requires : tie.Need-choose-requires
 choose-requires c κs =
     let pre = c .before .before .before .before .before .before .before .before .before .before .before .pre in
     let decoded = c .before .before .before .before .before .before .decode .ensures in
-    let limit = rw (c .before .before .before .before .machines .ensures .0) at (c .before .before .smaller .ensures) in
-    record {
-      fit = decoded .fit;
-      plan = _;
-      limited = limited-of _ _ (accepted-header _ _ (pre .accepts)) _ _ decoded _ limit;
-      room = pre .room;
-    }
+    let limit = rw (c .before .before .before .machines .ensures .0) at (c .before .smaller .ensures) in
+    record { fit = decoded .fit; plan = _; limited = limited-of _ _ (accepted-header _ _ (pre .accepts)) _ _ decoded _ limit }
 
 same-length : tie.Need-same-length
 same-length c = search needs
@@ -56,7 +36,7 @@ same-length c = search needs
 returns : tie.Need-returns
 returns c =
     let laws = accepted-header _ _ (c .before .before .before .before .before .before .before .before .before .before .before .before .before .before .pre .accepts) in
-    let limit = rw (c .before .before .before .before .before .before .before .machines .ensures .0) at (c .before .before .before .before .before .smaller .ensures) in
+    let limit = rw (c .before .before .before .before .before .before .machines .ensures .0) at (c .before .before .before .before .smaller .ensures) in
     prepared-of _ _ (laws .cluster-of) _ _ _
     (c .before .before .choose .ensures _ (limited-of _ _ laws _ _ (c .before .before .before .before .before .before .before .before .before .decode .ensures) _ limit))
 
@@ -64,12 +44,10 @@ pub prepare-spec : {M : Type 1} → statement M
 prepare-spec =
     tie.close
     (tie.spec
-    slice-aggregate-decode
     decode-requires
     machines-requires
     mul-smaller
     smaller-requires
-    slice-aggregate-choose
     choose-requires
     same-length
     returns)

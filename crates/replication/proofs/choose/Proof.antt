@@ -19,7 +19,6 @@ fill-requires c κs =
       demands-of = asked .limited .demands-of;
       figure-is = figure .0 (asked .plan) (asked .limited);
       narrow = figure .1;
-      room = asked .room;
     }
 
 same-length : tie.Need-same-length

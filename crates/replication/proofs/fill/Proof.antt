@@ -1,30 +1,32 @@
--- `replication::fill` meets its contract. The loop's invariant: the profiles are filled as far as the loop has come.
+-- `replication::fill` meets its contract. The loop's invariant: as far as it has come, profiles stand where the demands were.
 -- Assumes nothing.
 use mathlib.Core.Path.{_≡_, refl, ap, ap₂, _∙_}
 use mathlib.Core.List.{List}
 use Prim.Native.Nat.{ℕ, _-_, _<_, _≤_}
 use native.Mathlib.Omega.{arith}
 use denote.Ref.{now}
-use lib.ListN.{length, length-set}
+use lib.ListN.{length, getD, length-set}
+use lib.Seq.{getD-set-other}
 use Rattle.order.specs.Table.{filled}
 use Rattle.order.proofs.Tables.{filled-none, filled-more, getD-filled}
 use Rattle.model.specs.Plan.{Plan, maxReplicas, blockCount, blockOf}
 use Rattle.model.specs.Replication.{share, figure, need, chosen}
 use Rattle.theory.proofs.Replication.{share-whole, feasibleCounts-range, chosen-laws}
 use Rattle.cluster.specs.declared.Cluster.{Cluster}
-use Rattle.cluster.specs.Blocks.{profileOf, DemandsFit, DemandsOf, ProfilesFit}
+use Rattle.cluster.specs.Blocks.{popularityIn, spreadAsked, profileOf, DemandsFit, DemandsOf, ProfilesFit}
 use Rattle.cluster.proofs.Laws.{cluster-blocks, cluster-block, demands-popularity, demands-spread, profileOf-share}
 use Rattle.replication.proofs.fill.Statement.{statement}
 use Rattle.replication.proofs.fill.Tie as tie
 
 abbrev Inv-loop : tie.InvT-loop
-Inv-loop demands cluster wanted profiles₀ i₀ profiles i =
+Inv-loop items₀ cluster wanted i₀ items i =
     (i ≤ cluster .blocks)
-    × (length profiles ≡ length profiles₀)
-    × ((p : Plan) → DemandsOf p cluster demands → wanted ≡ figure p → profiles ≡ filled i (profileOf p (chosen p)) profiles₀)
+    × (length items ≡ length items₀)
+    × ((k : ℕ) → i ≤ k → getD items k 0 ≡ getD items₀ k 0)
+    × ((p : Plan) → DemandsOf p cluster items₀ → wanted ≡ figure p → items ≡ filled i (profileOf p (chosen p)) items₀)
 
 abbrev μ-loop : tie.MeasureT-loop
-μ-loop demands cluster wanted profiles₀ i₀ profiles i = cluster .blocks - i
+μ-loop items₀ cluster wanted i₀ items i = cluster .blocks - i
 
 -- chosen counts are from 1 to 8
 chosen-range : (p : Plan) (c : Cluster) (demands : List ℕ) → DemandsOf p c demands → (i : ℕ) → i < c .blocks
@@ -38,17 +40,17 @@ module _ (c : tie.After-needed Inv-loop μ-loop) where
   abbrev At : tie.At-loop Inv-loop μ-loop
   At = c .before .before .before .before
 
-  chosen-here : (p : Plan) → let a = At .before .before .before .args in
-      DemandsOf p (a .cluster) (now (a .demands)) → a .wanted ≡ figure p → c .needed .result ≡ chosen p (At .loop .i)
+  chosen-here : (p : Plan) → let a = At .before .before .args in
+      DemandsOf p (a .cluster) (now (a .items)) → a .wanted ≡ figure p → c .needed .result ≡ chosen p (At .loop .i)
   unfolding chosen
   chosen-here p of same =
       let i = At .loop .i in
-      let l : i < At .before .before .before .args .cluster .blocks = omega arith in
-      c .needed .ensures .is p i (cluster-block p _ (of .cluster) i l) (of .are i l) ∙ ap (λ (x : ℕ). need p x i) same
+      let l : i < At .before .before .args .cluster .blocks = omega arith in
+      c .needed .ensures .is p i (cluster-block p _ (of .cluster) i l) (At .loop .inv .2 i (omega arith) ∙ of .are i l) ∙ ap (λ (x : ℕ). need p x i) same
 
   count-here : (1 ≤ c .needed .result) × (c .needed .result ≤ maxReplicas)
   count-here =
-      let asked = At .before .before .before .pre in
+      let asked = At .before .before .pre in
       rw (chosen-here (asked .plan) (asked .demands-of) (asked .figure-is))
       (chosen-range (asked .plan) _ _ (asked .demands-of) (At .loop .i) (omega arith))
 
@@ -71,24 +73,25 @@ profiles-fit p c demands profiles₀ profiles fit of room are =
     }
 
 loop-holds : tie.Need-loop-holds Inv-loop μ-loop
-loop-holds c = (omega arith, refl, λ p of same. filled-none _ _)
+loop-holds c = (omega arith, refl, λ k l. refl, λ p of same. filled-none _ _)
 
 mul-demand : tie.Need-mul-demand Inv-loop μ-loop
 mul-demand c = omega arith
 
-shared-slice-read-demand : tie.Need-shared-slice-read-demand Inv-loop μ-loop
-shared-slice-read-demand c = omega (arith, c .before .before .before .before .before .before .pre .fit .room)
+slice-read-demand : tie.Need-slice-read-demand Inv-loop μ-loop
+slice-read-demand c = omega (arith, c .before .before .before .before .before .pre .fit .room)
 
 needed-requires : tie.Need-needed-requires Inv-loop μ-loop
 needed-requires c κs =
     let at = c .before .before .before in
-    let asked = at .before .before .before .pre in
-    record { in-range = asked .fit .each (at .loop .i) (omega arith); wanted-narrow = asked .narrow }
+    let asked = at .before .before .pre in
+    record { in-range = rw (at .loop .inv .2 (at .loop .i) (omega arith)) (asked .fit .each (at .loop .i) (omega arith)); wanted-narrow = asked .narrow }
 
 share-at-requires : tie.Need-share-at-requires Inv-loop μ-loop
 share-at-requires c κs =
     let at = c .before .before .before .before .before in
-    let d = at .before .before .before .pre .fit .each (at .loop .i) (omega arith) in
+    let d = at .before .before .pre .fit .each (at .loop .i) (omega arith) in
+    let kept = at .loop .inv .2 (at .loop .i) (omega arith) in
     let count = count-here (c .before) in
     (omega arith, count .0, count .1)
 
@@ -97,11 +100,11 @@ profile-requires c κs =
     let few = count-here (c .before .before .before) .1 in
     (c .before .share-at .ensures .1, omega arith, omega arith)
 
-mul-profiles : tie.Need-mul-profiles Inv-loop μ-loop
-mul-profiles c = omega arith
+mul-items : tie.Need-mul-items Inv-loop μ-loop
+mul-items c = omega arith
 
-slice-write-profiles : tie.Need-slice-write-profiles Inv-loop μ-loop
-slice-write-profiles c = omega arith
+slice-write-items : tie.Need-slice-write-items Inv-loop μ-loop
+slice-write-items c = omega arith
 
 add-i : tie.Need-add-i Inv-loop μ-loop
 add-i c = omega arith
@@ -113,18 +116,19 @@ loop-again : tie.Need-loop-again Inv-loop μ-loop
 unfolding profileOf
 loop-again c =
     let at = c .before .before .before .before .before .before .before .before in
-    let start = at .before .before .before in
+    let start = at .before .before in
     let i = at .loop .i in
     let inv = at .loop .inv in
     let l : i < start .args .cluster .blocks = omega arith in (
       omega arith,
       simp length-set (inv .1),
+      λ k l. getD-set-other (at .loop .items) i k (c .profile .result) 0 (omega arith) ∙ inv .2 k (omega arith),
       λ p of same.
           let count-is = chosen-here (c .before .before .before .before) p of same in
-          let spread-is = demands-spread p _ _ of i l in
+          let spread-is = ap spreadAsked (inv .2 i (omega arith)) ∙ demands-spread p _ _ of i l in
           let share-is = c .before .before .share-at .ensures .0
-          ∙ ap₂ share (c .before .before .before .popularity-of .ensures ∙ demands-popularity p _ _ of i l) count-is in
-          filled-more i _ _ _ _ (inv .2 p of same) (omega arith) (omega arith),
+          ∙ ap₂ share (c .before .before .before .popularity-of .ensures ∙ ap popularityIn (inv .2 i (omega arith)) ∙ demands-popularity p _ _ of i l) count-is in
+          filled-more i _ _ _ _ (inv .3 p of same) (omega arith) (omega arith),
     )
 
 same-length : tie.Need-same-length Inv-loop μ-loop
@@ -133,9 +137,9 @@ same-length c = c .before .before .loop .inv .1
 returns : tie.Need-returns Inv-loop μ-loop
 returns c p of same =
     let at = c .before .before in
-    let asked = at .before .before .before .pre in
+    let asked = at .before .before .pre in
     let all : at .loop .i ≡ blockCount p = omega (arith, cluster-blocks p _ (of .cluster)) in
-    let are = rw all at (at .loop .inv .2 p of same) in
+    let are = rw all at (at .loop .inv .3 p of same) in
     record { are = are; fit = profiles-fit p _ _ _ _ (asked .fit) of (omega arith) are }
 
 pub fill-spec : {M : Type 1} → statement M
@@ -146,14 +150,14 @@ fill-spec =
     μ-loop
     loop-holds
     mul-demand
-    shared-slice-read-demand
+    slice-read-demand
     needed-requires
     (λ c κs. tt)
     share-at-requires
     (λ c κs. tt)
     profile-requires
-    mul-profiles
-    slice-write-profiles
+    mul-items
+    slice-write-items
     add-i
     loop-less
     loop-again
