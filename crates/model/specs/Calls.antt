@@ -10,7 +10,7 @@ use Rattle.order.specs.Search.{allb}
 use Rattle.model.specs.Plan.{Plan, blockCount}
 use Rattle.model.specs.Refusal.{refuseIf, check12, Verdict, refused, accepted, judge}
 use Rattle.model.specs.Replication.{largestShare, chosen}
-use Rattle.model.specs.Placement.{countOf, allWithin, allSpread, allFit, firstWord, maxLoad, minLoad, totalLoad, maxShare}
+use Rattle.model.specs.Placement.{countOf, allWithin, allSpread, allFit, allApart, firstWord, maxLoad, minLoad, totalLoad, maxShare}
 use Rattle.model.specs.Steps.{Step, nextStep, after, run}
 
 -- A refusal code, or the call's own answer.
@@ -57,7 +57,7 @@ firstCall bytes words =
     onPlan (judge bytes) words (bufferRefusal words)
     (λ p. record { answer = answered (blockCount p); items = filled (blockCount p) (firstWord p) words })
 
--- Rows 12 to 16, for a placement handed in, each over all blocks or machines before the next.
+-- Rows 12 to 16 and 18, for a placement handed in, each over all blocks or machines before the next.
 -- 14: a block's copies are not its chosen count.
 unfoldable pub allCounted : Plan → List ℕ → Bool
 allCounted p words = allb (blockCount p) (λ i. eqb (countOf p words i) (chosen p i))
@@ -69,7 +69,8 @@ placementRefusal words p =
     (refuseIf (not (allCounted p words)) 14
     (refuseIf (not (allSpread p words)) 15
     (refuseIf (not (allFit p words)) 16
-    0))))
+    (refuseIf (not (allApart p words)) 18
+    0)))))
 
 -- A call on a placement that passes them.
 unfoldable pub onPlacement : {A : Type 0} → List ℕ → List ℕ → (Plan → Outcome A) → Outcome A

@@ -1,4 +1,4 @@
--- The model of the service, in the order of document 01. Every definition computes.
+-- The model of the service, in the order of document 01, with the requests of document 02. Every definition computes.
 pub mod Plan
 pub mod Refusal
 pub mod Replication

@@ -4,7 +4,7 @@ use mathlib.Core.List.{List, [], _∷_, _++_}
 use Prim.Native.Nat.{ℕ, zero, suc, _+_, _/_, _%_}
 use lib.Dec.{ltb, eqb}
 use lib.ListN.{length, drop}
-use Rattle.model.specs.Plan.{Plan, machines, blockCount, formatOf, recordAt}
+use Rattle.model.specs.Plan.{Plan, machines, blockCount, latestVersion, formatOf, recordAt}
 use Rattle.model.specs.Refusal.{refuseIf, maxBlocks, Verdict, refused, accepted, judge}
 use Rattle.model.specs.Placement.{bit, wordOf, countOf, shareOf, firstPlacement}
 use Rattle.model.specs.Steps.{Run, run}
@@ -106,9 +106,9 @@ printed bytes budget = printedOf (judge bytes) budget
 abbrev pub stepLimit : ℕ
 stepLimit = 100_000
 
--- The bytes that it reads at most: one more than the largest plan has, which is of version 1.
+-- The bytes that it reads at most: one more than the largest plan has, which is of the latest version.
 unfoldable pub inputRoom : ℕ
-inputRoom = recordAt (formatOf 1) maxBlocks + 1
+inputRoom = recordAt (formatOf latestVersion) maxBlocks + 1
 
 -- Bytes that every listing fits in, and the code for a shorter text, above all refusal numbers.
 abbrev pub listingRoom : ℕ

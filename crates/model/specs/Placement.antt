@@ -1,6 +1,6 @@
--- Document 01, "First placement", and what a placement's words say: replicas, racks, loads, lawfulness.
+-- Document 01, "First placement", and what a placement's words say: replicas, racks, loads, lawfulness, with document 02's pairs (U1).
 use mathlib.Core.Path.{_≡_}
-use mathlib.Core.Bool.{Bool, cond, _&&_}
+use mathlib.Core.Bool.{Bool, true, cond, _&&_}
 use mathlib.Core.List.{List}
 use Prim.Native.Nat.{ℕ, _+_, _*_, _/_, _%_, _^_, _<_, _≤_, min}
 use lib.Dec.{leb, ltb, eqb}
@@ -8,7 +8,7 @@ use lib.ListN.{getD}
 use Rattle.order.specs.Sum.{sum}
 use Rattle.order.specs.Table.{table}
 use Rattle.order.specs.Search.{allb, largest, smallest}
-use Rattle.model.specs.Plan.{Plan, machines, domain, domains, blockCount, blockOf, upper}
+use Rattle.model.specs.Plan.{Plan, machines, domain, domains, blockCount, blockOf, isPaired, partner, upper}
 use Rattle.model.specs.Replication.{limit, FeasibleCounts, share, chosen}
 
 -- A placement is one word per block; bit m is 1 where machine m holds a copy.
@@ -45,8 +45,11 @@ pub record Feasible (p : Plan) (count : ℕ → ℕ) (words : List ℕ) : Type 0
   pub counted : (i : ℕ) → i < blockCount p → countOf p words i ≡ count i
   pub spread : (i : ℕ) → i < blockCount p → blockOf p i .minRacks ≤ domainsUsed p (wordOf words i)
   pub fits : (m : ℕ) → m < machines p → used p words m ≤ p .capacity
+  -- a pair shares no machine
+  pub apart : (i : ℕ) → i < blockCount p → isPaired p i ≡ true
+      → (m : ℕ) → m < machines p → held words m i + held words m (partner p i) ≤ 1
 
--- The same as tests, a row of the table each: 13, 15 and 16, and whether the placement's own counts are lawful.
+-- The same as tests, a row of the table each: 13, 15, 16 and 18, and whether the placement's own counts are lawful.
 unfoldable pub allWithin : Plan → List ℕ → Bool
 allWithin p words = allb (blockCount p) (λ i. ltb (wordOf words i) (2 ^ machines p))
 
@@ -56,13 +59,20 @@ allSpread p words = allb (blockCount p) (λ i. leb (blockOf p i .minRacks) (doma
 unfoldable pub allFit : Plan → List ℕ → Bool
 allFit p words = allb (machines p) (λ m. leb (used p words m) (p .capacity))
 
+unfoldable pub keptApart : Plan → List ℕ → ℕ → Bool
+keptApart p words i = allb (machines p) (λ m. leb (held words m i + held words m (partner p i)) 1)
+
+unfoldable pub allApart : Plan → List ℕ → Bool
+allApart p words = allb (blockCount p) (λ i. cond (isPaired p i) (keptApart p words i) true)
+
 unfoldable pub countsFeasible : Plan → (ℕ → ℕ) → Bool
 countsFeasible p count =
     allb (blockCount p) (λ i. leb (blockOf p i .minReplicas) (count i) && leb (count i) (upper p i))
     && leb (sum (blockCount p) count) (limit p)
 
 unfoldable pub isFeasible : Plan → List ℕ → Bool
-isFeasible p words = countsFeasible p (countOf p words) && allWithin p words && allSpread p words && allFit p words
+isFeasible p words =
+    countsFeasible p (countOf p words) && allWithin p words && allSpread p words && allFit p words && allApart p words
 
 -- Position t is machine (t mod R) × S + t div R.
 unfoldable pub position : Plan → ℕ → ℕ

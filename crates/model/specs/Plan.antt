@@ -1,15 +1,19 @@
--- Document 01, "The plan file": what the bytes of a plan say.
+-- Document 01, "The plan file", and document 02, U1: what the bytes of a plan say.
+use mathlib.Core.Bool.{Bool, false, cond, _||_}
 use mathlib.Core.List.{List}
-use Prim.Native.Nat.{ℕ, zero, suc, _+_, _*_, _/_, min}
+use Prim.Native.Nat.{ℕ, zero, suc, _+_, _*_, _-_, _/_, min}
+use lib.Dec.{ltb, eqb}
 use lib.ListN.{length, getD}
 use Rattle.order.specs.Sum.{sum}
 use Rattle.order.specs.Table.{table}
 
--- One block. `popularity` is the document's P, `minReplicas` its least copies, `minRacks` its spread.
+-- One block. `popularity` is the document's P, `minReplicas` its least copies, `minRacks` its spread;
+-- `pairByte` is 1 for a block that is paired with the next one.
 pub record Block : Type 0 where
   pub popularity : ℕ
   pub minReplicas : ℕ
   pub minRacks : ℕ
+  pub pairByte : ℕ
 
 -- A plan. `version` is its file's, `racks` is R, `rackSize` the machines per rack S, `capacity` C; `blocks` are in file order.
 pub record Plan : Type 0 where
@@ -43,17 +47,35 @@ abbrev pub blockCount : Plan → ℕ
 blockCount p = length (p .blocks)
 
 abbrev pub noBlock : Block
-noBlock = record { popularity = 0; minReplicas = 0; minRacks = 0 }
+noBlock = record { popularity = 0; minReplicas = 0; minRacks = 0; pairByte = 0 }
 
 abbrev pub blockOf : Plan → ℕ → Block
 blockOf p i = getD (p .blocks) i noBlock
 
--- The upper count of block i: the smaller of 8 and M.
+-- Whether block i is paired with the next one: its byte is 1; and whether the preceding one is paired with it.
+abbrev pub marksPair : Block → Bool
+marksPair b = eqb (b .pairByte) 1
+
+unfoldable pub pairsNext : Plan → ℕ → Bool
+pairsNext p i = marksPair (blockOf p i)
+
+unfoldable pub pairsBack : Plan → ℕ → Bool
+pairsBack p zero = false
+pairsBack p (suc i) = pairsNext p i
+
+-- A block is paired if its byte is 1 or the preceding block's is. The partner of a paired block: the other one of the two.
+unfoldable pub isPaired : Plan → ℕ → Bool
+isPaired p i = pairsNext p i || pairsBack p i
+
+unfoldable pub partner : Plan → ℕ → ℕ
+partner p i = cond (pairsNext p i) (suc i) (i - 1)
+
+-- The upper count of block i: the smaller of 8 and M, of a paired one of 8 and half of M rounded down.
 abbrev pub maxReplicas : ℕ
 maxReplicas = 8
 
 unfoldable pub upper : Plan → ℕ → ℕ
-upper p i = min maxReplicas (machines p)
+upper p i = min maxReplicas (cond (isPaired p i) (machines p / 2) (machines p))
 
 -- The sum of the least copies.
 unfoldable pub minTotal : Plan → ℕ
@@ -95,11 +117,22 @@ pub record Format : Type 0 where
   pub popularityWidth : ℕ
   pub minReplicasWidth : ℕ
   pub minRacksWidth : ℕ
+  pub pairByteWidth : ℕ
 
--- Version 1: a header of 15 bytes, records of a popularity of 3, least copies of 1 and a spread of 1. No other is accepted.
+-- The versions are 1 and 2. A header of 15 bytes, records of a popularity of 3, least copies of 1 and a spread of 1; from version 2 on
+-- also the pair byte. Where it is not in the file it is 0.
+abbrev pub latestVersion : ℕ
+latestVersion = 2
+
 unfoldable pub formatOf : ℕ → Format
 formatOf version =
-    record { headerLength = commonLength; popularityWidth = 3; minReplicasWidth = 1; minRacksWidth = 1 }
+    record {
+      headerLength = commonLength;
+      popularityWidth = 3;
+      minReplicasWidth = 1;
+      minRacksWidth = 1;
+      pairByteWidth = cond (ltb version 2) 0 1;
+    }
 
 abbrev pub formatIn : List ℕ → Format
 formatIn bytes = formatOf (versionIn bytes)
@@ -111,8 +144,11 @@ minReplicasAt f = f .popularityWidth
 abbrev pub minRacksAt : Format → ℕ
 minRacksAt f = minReplicasAt f + f .minReplicasWidth
 
+abbrev pub pairByteAt : Format → ℕ
+pairByteAt f = minRacksAt f + f .minRacksWidth
+
 abbrev pub recordLength : Format → ℕ
-recordLength f = minRacksAt f + f .minRacksWidth
+recordLength f = pairByteAt f + f .pairByteWidth
 
 abbrev pub recordAt : Format → ℕ → ℕ
 recordAt f i = f .headerLength + recordLength f * i
@@ -123,6 +159,7 @@ blockIn f bytes i =
       popularity = field bytes (recordAt f i) (f .popularityWidth);
       minReplicas = field bytes (recordAt f i + minReplicasAt f) (f .minReplicasWidth);
       minRacks = field bytes (recordAt f i + minRacksAt f) (f .minRacksWidth);
+      pairByte = field bytes (recordAt f i + pairByteAt f) (f .pairByteWidth);
     }
 
 -- The plan that the bytes hold.

@@ -1,12 +1,12 @@
--- Document 01, "Why a plan or placement is turned back": rows 1 to 12 of its table.
+-- Document 01, "Why a plan or placement is turned back": rows 1 to 12 of its table, and row 17 of document 02, U1.
 -- A refusal code is the row's number, and 0 where nothing is wrong. Each check is handed the code that the later rows give.
-use mathlib.Core.Bool.{Bool, true, false, not, _||_}
+use mathlib.Core.Bool.{Bool, true, false, not, _&&_, _||_}
 use mathlib.Core.List.{List}
 use Prim.Native.Nat.{ℕ, zero, suc, _*_}
 use lib.Dec.{ltb, eqb}
 use lib.ListN.{length}
 use Rattle.order.specs.Search.{firstUp}
-use Rattle.model.specs.Plan.{Plan, machines, domains, blockCount, blockOf, upper, minTotal, commonLength, markIn, versionIn, racksIn, rackSizeIn, capacityIn, blockCountIn, Format, formatIn, recordAt, planIn}
+use Rattle.model.specs.Plan.{Block, Plan, marksPair, machines, domains, blockCount, blockOf, upper, minTotal, commonLength, latestVersion, markIn, versionIn, racksIn, rackSizeIn, capacityIn, blockCountIn, Format, formatIn, recordAt, planIn}
 
 -- The row's code where its condition holds, else the later rows' code.
 abbrev pub refuseIf : Bool → ℕ → ℕ → ℕ
@@ -42,9 +42,9 @@ check1 size = refuseIf (ltb size commonLength) 1
 unfoldable pub check2 : ℕ → ℕ → ℕ
 check2 found = refuseIf (not (eqb found mark)) 2
 
--- 3: version not 1.
+-- 3: a version never described: not 1 or 2.
 unfoldable pub check3 : ℕ → ℕ → ℕ
-check3 version = refuseIf (not (eqb version 1)) 3
+check3 version = refuseIf (eqb version 0 || ltb latestVersion version) 3
 
 -- 4: R or S is 0, or M above 64.
 unfoldable pub check4 : ℕ → ℕ → ℕ → ℕ
@@ -58,17 +58,31 @@ check5 capacity = refuseIf (eqb capacity 0 || ltb maxCapacity capacity) 5
 unfoldable pub check6 : ℕ → ℕ → ℕ
 check6 count = refuseIf (ltb maxBlocks count) 6
 
--- 7: length not 15 + 5 × B: that of the version's header and B records.
+-- 7: length not 15 + 5 × B, in version 2 15 + 6 × B: that of the version's header and B records.
 unfoldable pub check7 : Format → ℕ → ℕ → ℕ → ℕ
 check7 f size count = refuseIf (not (eqb size (recordAt f count))) 7
 
--- 8: least copies 0 or above the smaller of 8 and M.
+-- 8: least copies 0 or above the upper count.
 unfoldable pub check8 : ℕ → ℕ → ℕ → ℕ
 check8 most least = refuseIf (eqb least 0 || ltb most least) 8
 
 -- 9: spread 0, or above least copies, or above R.
 unfoldable pub check9 : ℕ → ℕ → ℕ → ℕ → ℕ
 check9 racks least spread = refuseIf (eqb spread 0 || ltb least spread || ltb racks spread) 9
+
+-- 17: a byte is neither 0 nor 1; the last block has 1; two successive blocks have 1; or a pair differs in popularity, least copies or
+-- spread. Said of one block and the next, and whether it is the last.
+unfoldable pub alike : Block → Block → Bool
+alike a b =
+    eqb (a .popularity) (b .popularity) && eqb (a .minReplicas) (b .minReplicas) && eqb (a .minRacks) (b .minRacks)
+
+unfoldable pub check17 : Block → Block → Bool → ℕ → ℕ
+check17 own next isLast later =
+    refuseIf (ltb 1 (own .pairByte)) 17
+    (refuseIf (marksPair own && isLast) 17
+    (refuseIf (marksPair own && marksPair next) 17
+    (refuseIf (marksPair own && not (alike own next)) 17
+    later)))
 
 -- 10: sum of least copies above the budget.
 unfoldable pub check10 : ℕ → ℕ → ℕ → ℕ
@@ -92,13 +106,21 @@ blockRefusal p i =
 unfoldable pub blocksRefusal : Plan → ℕ
 blocksRefusal p = firstUp isRefusal 0 (blockRefusal p) (blockCount p)
 
--- The checks go in numerical order: 1 to 7 on the header, 8 to 11 on the plan.
+-- 17 is made after 8 and 9 over all blocks.
+unfoldable pub pairRefusal : Plan → ℕ → ℕ
+pairRefusal p i = check17 (blockOf p i) (blockOf p (suc i)) (eqb (suc i) (blockCount p)) 0
+
+unfoldable pub pairsRefusal : Plan → ℕ
+pairsRefusal p = firstUp isRefusal 0 (pairRefusal p) (blockCount p)
+
+-- The checks go in numerical order, but for 17: 1 to 7 on the header, 8, 9, 17, 10 and 11 on the plan.
 unfoldable pub planRefusal : Plan → ℕ
 planRefusal p =
     orElse (blocksRefusal p)
+    (orElse (pairsRefusal p)
     (check10 (p .budget) (minTotal p)
     (check11 (machines p * p .capacity) (minTotal p)
-    0))
+    0)))
 
 unfoldable pub refusal : List ℕ → ℕ
 refusal bytes =

@@ -1,13 +1,14 @@
 -- What the rows of the table leave of a plan, and the laws of an accepted one, for everything above the reader.
 use mathlib.Core.Path.{_≡_}
+use mathlib.Core.Bool.{true, false}
 use mathlib.Core.List.{List}
 use mathlib.Core.Logic.{_⊎_}
 use lib.ListN.{length}
-use Prim.Native.Nat.{ℕ, _*_, _<_, _≤_}
-use Rattle.model.specs.Plan.{Plan, machines, domains, blockCount, blockOf, upper, minTotal, formatIn, planIn, recordAt}
+use Prim.Native.Nat.{ℕ, suc, _*_, _<_, _≤_}
+use Rattle.model.specs.Plan.{Plan, machines, domains, blockCount, blockOf, pairsNext, upper, minTotal, formatIn, planIn, recordAt}
 use Rattle.model.specs.Refusal.{maxMachines, maxCapacity, maxBlocks, judge, accepted}
 
--- What rows 8 and 9 leave of block i: 1 ≤ least ≤ the smaller of 8 and M, 1 ≤ spread ≤ least, spread ≤ R.
+-- What rows 8 and 9 leave of block i: 1 ≤ least ≤ the upper count, 1 ≤ spread ≤ least, spread ≤ R.
 pub record ValidBlock (p : Plan) (i : ℕ) : Type 0 where
   pub min-pos : 1 ≤ blockOf p i .minReplicas
   pub min-upper : blockOf p i .minReplicas ≤ upper p i
@@ -15,7 +16,16 @@ pub record ValidBlock (p : Plan) (i : ℕ) : Type 0 where
   pub racks-min : blockOf p i .minRacks ≤ blockOf p i .minReplicas
   pub racks-all : blockOf p i .minRacks ≤ domains p
 
--- What rows 4 to 9 leave of a plan.
+-- What row 17 leaves of block i: its byte is 0 or 1; and if it is 1, the next block exists, has 0 and is like it.
+pub record ValidPair (p : Plan) (i : ℕ) : Type 0 where
+  pub byte-max : blockOf p i .pairByte ≤ 1
+  pub next-below : pairsNext p i ≡ true → suc i < blockCount p
+  pub next-free : pairsNext p i ≡ true → pairsNext p (suc i) ≡ false
+  pub popularity-same : pairsNext p i ≡ true → blockOf p i .popularity ≡ blockOf p (suc i) .popularity
+  pub replicas-same : pairsNext p i ≡ true → blockOf p i .minReplicas ≡ blockOf p (suc i) .minReplicas
+  pub racks-same : pairsNext p i ≡ true → blockOf p i .minRacks ≡ blockOf p (suc i) .minRacks
+
+-- What rows 4 to 9 and 17 leave of a plan.
 pub record Shaped (p : Plan) : Type 0 where
   pub racks-pos : 1 ≤ p .racks
   pub size-pos : 1 ≤ p .rackSize
@@ -24,16 +34,17 @@ pub record Shaped (p : Plan) : Type 0 where
   pub capacity-max : p .capacity ≤ maxCapacity
   pub blocks-max : blockCount p ≤ maxBlocks
   pub block : (i : ℕ) → i < blockCount p → ValidBlock p i
+  pub pair : (i : ℕ) → i < blockCount p → ValidPair p i
 
--- What rows 4 to 11 leave: an accepted plan's least copies keep the budget and the places.
+-- What all rows of a plan leave: an accepted plan's least copies keep the budget and the places.
 pub record Valid (p : Plan) : Type 0 where
   pub shaped : Shaped p
   pub in-budget : minTotal p ≤ p .budget
   pub in-places : minTotal p ≤ machines p * p .capacity
 
--- The code is not one of 1 to 9.
-abbrev pub PastRow9 : ℕ → Type 0
-PastRow9 code = (9 < code) ⊎ (code ≡ 0)
+-- The code is not one of 1 to 9 and 17, which come before 10.
+abbrev pub PastRow17 : ℕ → Type 0
+PastRow17 code = (code ≡ 10) ⊎ (code ≡ 11) ⊎ (code ≡ 0)
 
 -- An accepted plan is the one that the bytes hold, it is valid, and the bytes are its header and B records.
 pub record Accepted (bytes : List ℕ) (p : Plan) : Type 0 where
