@@ -56,6 +56,11 @@ beq-iff true false = (λ e. sym e, λ e. sym e)
 beq-iff false true = (λ e. e, λ e. e)
 beq-iff false false = (λ e. refl, λ e. refl)
 
+-- a test that is made where another one passes
+pub if-iff {ℓ} : {P : Type ℓ} (t b : Bool) → (b ≡ true) ↔ P → (cond t b true ≡ true) ↔ (t ≡ true → P)
+if-iff true b h = (λ e s. h .0 e, λ f. h .1 (f refl))
+if-iff false b h = (λ e s. no-contradiction (sym s), λ f. refl)
+
 -- what holds of both choices holds of the one taken
 pub cond-all {ℓ κ} : {A : Type ℓ} (P : A → Type κ) (t : Bool) (a b : A) → (t ≡ true → P a) → P b → P (cond t a b)
 cond-all P true a b ha hb = ha refl

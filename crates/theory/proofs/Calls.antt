@@ -1,4 +1,4 @@
--- Laws of the calls: how a call's outcome follows from the verdict and the code of its own checks, and that rows 12 to 16 pass
+-- Laws of the calls: how a call's outcome follows from the verdict and the code of its own checks, and that rows 12 to 16 and 18 pass
 -- exactly the lawful placements with the chosen counts.
 -- Assumes nothing.
 use mathlib.Core.Path.{_≡_, ap, sym, _∙_}
@@ -16,12 +16,12 @@ use Rattle.order.proofs.Extremes.{allb-iff}
 use Rattle.model.specs.Plan.{Plan, blockCount}
 use Rattle.model.specs.Refusal.{refuseIf, check12, Verdict, refused, accepted}
 use Rattle.model.specs.Replication.{chosen}
-use Rattle.model.specs.Placement.{countOf, Feasible, allWithin, allSpread, allFit}
+use Rattle.model.specs.Placement.{countOf, Feasible, allWithin, allSpread, allFit, allApart}
 use Rattle.model.specs.Calls.{Outcome, refuse, unless, callRefusal, onPlan, allCounted, placementRefusal}
 use Rattle.theory.specs.Refusal.{Valid}
 use Rattle.theory.proofs.Refusal.{refuseIf-zero, refuseIf-all, check12-zero, check12-short, check12-enough}
 use Rattle.theory.proofs.Replication.{chosen-laws}
-use Rattle.theory.proofs.Placement.{feasible-length, allWithin-iff, allSpread-iff, allFit-iff}
+use Rattle.theory.proofs.Placement.{feasible-length, allWithin-iff, allSpread-iff, allFit-iff, allApart-iff}
 
 -- ── unless ───────────────────────────────────────────────────────────────────────────────────────
 module _ {A : Type 0} (items : List ℕ) where
@@ -76,17 +76,18 @@ unfolding allCounted
 allCounted-iff p words = allb-iff (blockCount p) _ _ (λ i. eqb-iff (countOf p words i) (chosen p i))
 
 -- ── placementRefusal ─────────────────────────────────────────────────────────────────────────────
-pub placementRefusal-le : (p : Plan) (words : List ℕ) → placementRefusal words p ≤ 16
+pub placementRefusal-le : (p : Plan) (words : List ℕ) → placementRefusal words p ≤ 18
 unfolding placementRefusal check12
 placementRefusal-le p words =
     row (ltb (length words) (blockCount p)) 12 _ (lit≤ tt)
     (row (not (allWithin p words)) 13 _ (lit≤ tt)
     (row (not (allCounted p words)) 14 _ (lit≤ tt)
     (row (not (allSpread p words)) 15 _ (lit≤ tt)
-    (row (not (allFit p words)) 16 0 (lit≤ tt) (lit≤ tt)))))
+    (row (not (allFit p words)) 16 _ (lit≤ tt)
+    (row (not (allApart p words)) 18 0 (lit≤ tt) (lit≤ tt))))))
   where
-    row : (t : Bool) (code later : ℕ) → code ≤ 16 → later ≤ 16 → refuseIf t code later ≤ 16
-    row = refuseIf-all (λ n. n ≤ 16)
+    row : (t : Bool) (code later : ℕ) → code ≤ 18 → later ≤ 18 → refuseIf t code later ≤ 18
+    row = refuseIf-all (λ n. n ≤ 18)
 
 module _ (p : Plan) (valid : Valid p) (words : List ℕ) where
   pub placementRefusal-passes : Feasible p (chosen p) words → placementRefusal words p ≡ 0
@@ -98,6 +99,7 @@ module _ (p : Plan) (valid : Valid p) (words : List ℕ) where
         allCounted-iff p words .1 (f .counted),
         allSpread-iff p words .1 (f .spread),
         allFit-iff p words .1 (f .fits),
+        allApart-iff p words .1 (f .apart),
       )
 
   pub placementRefusal-feasible : placementRefusal words p ≡ 0 → Feasible p (chosen p) words
@@ -108,10 +110,12 @@ module _ (p : Plan) (valid : Valid p) (words : List ℕ) where
       let z14 = refuseIf-zero (not (allCounted p words)) 13 _ (z13 .1) in
       let z15 = refuseIf-zero (not (allSpread p words)) 14 _ (z14 .1) in
       let z16 = refuseIf-zero (not (allFit p words)) 15 _ (z15 .1) in
+      let z18 = refuseIf-zero (not (allApart p words)) 17 _ (z16 .1) in
       record {
         counts = chosen-laws p valid .feasible;
         within = allWithin-iff p words .0 (not-false _ (z13 .0));
         counted = allCounted-iff p words .0 (not-false _ (z14 .0));
         spread = allSpread-iff p words .0 (not-false _ (z15 .0));
         fits = allFit-iff p words .0 (not-false _ (z16 .0));
+        apart = allApart-iff p words .0 (not-false _ (z18 .0));
       }

@@ -14,12 +14,12 @@ use lib.Dec.{eqb, eqb·suc-suc}
 use lib.Pow.{pow-pos, pow-mono, shr-shr}
 use lib.ListN.{length, List·getD-eq-default}
 use Rattle.order.specs.Sum.{sum, delta}
-use Rattle.order.proofs.Booleans.{and-iff, leb-iff, ltb-iff}
+use Rattle.order.proofs.Booleans.{and-iff, if-iff, leb-iff, ltb-iff}
 use Rattle.order.proofs.Sums.{sum-cong, sum-none, sum-scale, sum-exchange, sum-term, delta-same, delta-other}
 use Rattle.order.proofs.Extremes.{allb-iff, largest-cong}
-use Rattle.model.specs.Plan.{Plan, machines, domain, domains, domainSize, blockCount, blockOf, upper}
+use Rattle.model.specs.Plan.{Plan, machines, domain, domains, domainSize, blockCount, blockOf, isPaired, partner, upper}
 use Rattle.model.specs.Replication.{limit, FeasibleCounts, share, largestShare}
-use Rattle.model.specs.Placement.{bit, wordOf, held, replicas, replicasIn, domainsUsed, countOf, used, Feasible, allWithin, allSpread, allFit, countsFeasible, isFeasible, shareOf, load, maxShare}
+use Rattle.model.specs.Placement.{bit, wordOf, held, replicas, replicasIn, domainsUsed, countOf, used, Feasible, allWithin, allSpread, allFit, keptApart, allApart, countsFeasible, isFeasible, shareOf, load, maxShare}
 use Rattle.theory.specs.Refusal.{Shaped, Valid}
 use Rattle.theory.proofs.Plan.{domain-lt, member, member-sum}
 use Rattle.theory.proofs.Replication.{feasibleCounts-range, feasibleCounts-same}
@@ -158,7 +158,7 @@ domainsUsed-pos p shaped w m l on =
 
 -- ── Feasible ─────────────────────────────────────────────────────────────────────────────────────
 -- lawful at counts, lawful at those that agree on the blocks
-feasible-same : (p : Plan) (count other : ℕ → ℕ) (words : List ℕ) → ((i : ℕ) → i < blockCount p → count i ≡ other i)
+pub feasible-same : (p : Plan) (count other : ℕ → ℕ) (words : List ℕ) → ((i : ℕ) → i < blockCount p → count i ≡ other i)
     → Feasible p count words → Feasible p other words
 feasible-same p count other words same f =
     record {
@@ -167,6 +167,7 @@ feasible-same p count other words same f =
       counted = λ i l. f .counted i l ∙ same i l;
       spread = f .spread;
       fits = f .fits;
+      apart = f .apart;
     }
 
 -- a placement is feasible at its own counts, if at any
@@ -191,7 +192,7 @@ feasible-length p valid count words f = go (decLe (blockCount p) (length words))
         let range = feasibleCounts-range p count (valid .shaped) (f .counts) (length words) here in
         absurd (omega (arith, none, range .0, f .counted (length words) here))
 
--- ── allWithin, allSpread, allFit ─────────────────────────────────────────────────────────────────
+-- ── allWithin, allSpread, allFit, allApart ───────────────────────────────────────────────────────
 pub allWithin-iff : (p : Plan) (words : List ℕ) → (allWithin p words ≡ true) ↔ ((i : ℕ) → i < blockCount p → wordOf words i < 2 ^ machines p)
 unfolding allWithin
 allWithin-iff p words = allb-iff (blockCount p) _ _ (λ i. ltb-iff (wordOf words i) (2 ^ machines p))
@@ -204,6 +205,17 @@ allSpread-iff p words = allb-iff (blockCount p) _ _ (λ i. leb-iff (blockOf p i 
 pub allFit-iff : (p : Plan) (words : List ℕ) → (allFit p words ≡ true) ↔ ((m : ℕ) → m < machines p → used p words m ≤ p .capacity)
 unfolding allFit
 allFit-iff p words = allb-iff (machines p) _ _ (λ m. leb-iff (used p words m) (p .capacity))
+
+pub keptApart-iff : (p : Plan) (words : List ℕ) (i : ℕ)
+    → (keptApart p words i ≡ true) ↔ ((m : ℕ) → m < machines p → held words m i + held words m (partner p i) ≤ 1)
+unfolding keptApart
+keptApart-iff p words i = allb-iff (machines p) _ _ (λ m. leb-iff (held words m i + held words m (partner p i)) 1)
+
+pub allApart-iff : (p : Plan) (words : List ℕ)
+    → (allApart p words ≡ true)
+    ↔ ((i : ℕ) → i < blockCount p → isPaired p i ≡ true → (m : ℕ) → m < machines p → held words m i + held words m (partner p i) ≤ 1)
+unfolding allApart
+allApart-iff p words = allb-iff (blockCount p) _ _ (λ i. if-iff (isPaired p i) _ (keptApart-iff p words i))
 
 -- ── countsFeasible ───────────────────────────────────────────────────────────────────────────────
 countsFeasible-iff : (p : Plan) (count : ℕ → ℕ) → (countsFeasible p count ≡ true) ↔ FeasibleCounts p count
@@ -227,12 +239,22 @@ pub isFeasible-iff : (p : Plan) (words : List ℕ) → (isFeasible p words ≡ t
 unfolding isFeasible
 isFeasible-iff p words =
     let parts =
-    and-iff _ _ (and-iff _ _ (and-iff _ _ (countsFeasible-iff p (countOf p words)) (allWithin-iff p words)) (allSpread-iff p words)) (allFit-iff p words)
+    and-iff _ _
+    (and-iff _ _ (and-iff _ _ (and-iff _ _ (countsFeasible-iff p (countOf p words)) (allWithin-iff p words)) (allSpread-iff p words))
+    (allFit-iff p words))
+    (allApart-iff p words)
     in (
       λ e.
           let z = parts .0 e in
-          record { counts = z .0 .0 .0; within = z .0 .0 .1; counted = λ i l. refl; spread = z .0 .1; fits = z .1 },
-      λ f. parts .1 (((f .counts, f .within), f .spread), f .fits),
+          record {
+            counts = z .0 .0 .0 .0;
+            within = z .0 .0 .0 .1;
+            counted = λ i l. refl;
+            spread = z .0 .0 .1;
+            fits = z .0 .1;
+            apart = z .1;
+          },
+      λ f. parts .1 ((((f .counts, f .within), f .spread), f .fits), f .apart),
     )
 
 -- ── shareOf ──────────────────────────────────────────────────────────────────────────────────────

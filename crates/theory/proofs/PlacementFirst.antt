@@ -2,7 +2,9 @@
 -- consecutive positions make a lawful placement.
 -- Assumes nothing.
 use mathlib.Core.Path.{_≡_, refl, ap, sym, _∙_}
+use mathlib.Core.Bool.{true}
 use mathlib.Core.List.{List}
+use mathlib.Core.Logic.{inl, inr}
 use Prim.Native.Nat.{ℕ, zero, suc, _+_, _*_, _/_, _%_, _^_, _≤_, _<_, min}
 use native.Mathlib.Nat.{mul-comm, le-trans, mod-lt, div-lt-iff-lt-mul, div-add-mod', le-min, min-le-right}
 use native.Mathlib.Numerals.{add-one}
@@ -12,15 +14,15 @@ use lib.Pow.{pow-pos}
 use Rattle.order.specs.Sum.{sum, delta}
 use Rattle.order.specs.Table.{table}
 use Rattle.order.proofs.Sums.{sum-suc, sum-cong, sum-ones, delta-same, delta-iff, delta-sym}
-use Rattle.order.proofs.Ranges.{sum-pieces, sum-image}
+use Rattle.order.proofs.Ranges.{sum-append, sum-pieces, sum-image}
 use Rattle.order.proofs.Residues.{residue-bound, residue-once, residues-met}
 use Rattle.order.proofs.Tables.{getD-table}
-use Rattle.model.specs.Plan.{Plan, machines, domain, domains, blockCount, blockOf}
+use Rattle.model.specs.Plan.{Plan, machines, domain, domains, blockCount, blockOf, pairsNext, isPaired, partner, upper}
 use Rattle.model.specs.Replication.{limit, FeasibleCounts, chosen}
 use Rattle.model.specs.Placement.{bit, wordOf, held, replicas, replicasIn, domainsUsed, used, Feasible, position, laidWord, firstWord, firstPlacement}
 use Rattle.theory.specs.Refusal.{Shaped}
 use Rattle.theory.specs.Placement.{FirstFeasible}
-use Rattle.theory.proofs.Plan.{machines-pos, domains-pos, domains-mod, upper-machines}
+use Rattle.theory.proofs.Plan.{machines-pos, domains-pos, domains-mod, isPaired-first, isPaired-second, partner-pair, upper-machines, upper-pair}
 use Rattle.theory.proofs.Replication.{chosen-laws}
 use Rattle.theory.proofs.Placement.{bit-zero, bit-add, bit-add-below, replicasIn-delta}
 
@@ -207,10 +209,36 @@ module _ (p : Plan) (shaped : Shaped p) (count : ℕ → ℕ) (few : (i : ℕ) �
       in
       rw (at .2) at fits
 
+  -- a pair's copies have consecutive numbers, too: where there are at most M of them, no machine gets two
+  laidPlacement-apart : (f : ℕ) → suc f < blockCount p → count f + count (suc f) ≤ machines p → (m : ℕ) → m < machines p
+      → held (laidPlacement p count) m f + held (laidPlacement p count) m (suc f) ≤ 1
+  laidPlacement-apart f below room m l =
+      let at = position-onto p shaped m l in
+      let t = at .0 in
+      let start = sum f count in
+      let fl : f < blockCount p = omega arith in
+      let own : held (laidPlacement p count) m f ≡ sum (count f) (λ j. delta m (machineOf p (start + j))) =
+      ap (λ (w : ℕ). bit w m) (laidPlacement-word p count f fl) ∙ laidWord-bits p shaped start (count f) (few f fl) m
+      in
+      let after : sum (suc f) count ≡ start + count f = sum-suc f count in
+      let next : held (laidPlacement p count) m (suc f) ≡ sum (count (suc f)) (λ j. delta m (machineOf p (start + (count f + j)))) =
+      ap (λ (w : ℕ). bit w m) (laidPlacement-word p count (suc f) below)
+      ∙ laidWord-bits p shaped (sum (suc f) count) (count (suc f)) (few (suc f) below) m
+      ∙ sum-cong (count (suc f)) _ _ (λ j h. ap (λ (x : ℕ). delta m (machineOf p x)) (omega arith))
+      in
+      let both = sum-append (count f) (count (suc f)) (λ j. delta m (machineOf p (start + j))) in
+      let same : sum (count f + count (suc f)) (λ j. delta m (machineOf p (start + j))) ≡ sum (count f + count (suc f)) (λ j. delta t ((start + j) % machines p)) =
+      ap (λ (x : ℕ). sum (count f + count (suc f)) (λ j. delta x (machineOf p (start + j)))) (sym (at .2))
+      ∙ same-position p shaped t (at .1) (count f + count (suc f)) (λ j. start + j)
+      in
+      let once = residue-once (machines p) (machines-pos p shaped) t (at .1) start (count f + count (suc f)) room in
+      omega arith
+
 -- The copies of all blocks, in file order, are numbered 0, 1, 2 and so on, and copy q is laid on position q mod M. A block's copies
 -- have consecutive numbers, at most M of them, so they are at different positions: on different machines. Consecutive positions are
 -- in consecutive domains, so k copies lie in the smaller of k and R of them, and a spread is at most both. A position gets one in M
--- of all the copies, and there are at most M × C, so no machine holds more than C.
+-- of all the copies, and there are at most M × C, so no machine holds more than C. The two blocks of a pair follow each other and
+-- have at most half of M copies each, so their copies have at most M consecutive numbers: no machine holds both blocks.
 pub laidPlacement-feasible : (p : Plan) → Shaped p → (count : ℕ → ℕ) → FeasibleCounts p count → Feasible p count (laidPlacement p count)
 unfolding limit
 laidPlacement-feasible p shaped count counts =
@@ -220,6 +248,7 @@ laidPlacement-feasible p shaped count counts =
       counted = λ i l. rw (laidPlacement-word p count i l) (laidWord-replicas p shaped (sum i count) (count i) (few i l));
       spread = λ i l. rw (laidPlacement-word p count i l, laidWord-domainsUsed p shaped (sum i count) (count i) (few i l)) (spread i l);
       fits = laidPlacement-fits p shaped count few (le-trans (counts .in-limit) (min-le-right (p .budget) (machines p * p .capacity)));
+      apart = apart;
     }
   where
     few : (i : ℕ) → i < blockCount p → count i ≤ machines p
@@ -229,6 +258,28 @@ laidPlacement-feasible p shaped count counts =
     spread i l =
         let valid = shaped .block i l in
         le-min (le-trans (valid .racks-min) (counts .at-least i l)) (valid .racks-all)
+
+    -- half of M for each of the two
+    half : (f : ℕ) → suc f < blockCount p → pairsNext p f ≡ true → count f + count (suc f) ≤ machines p
+    half f l marked =
+        omega (
+          arith,
+          counts .at-most f (omega arith),
+          counts .at-most (suc f) l,
+          upper-pair p f (isPaired-first p f marked),
+          upper-pair p (suc f) (isPaired-second p f marked),
+        )
+
+    apart : (i : ℕ) → i < blockCount p → isPaired p i ≡ true → (m : ℕ) → m < machines p
+        → held (laidPlacement p count) m i + held (laidPlacement p count) m (partner p i) ≤ 1
+    apart i l paired m h =
+        let pair = partner-pair p shaped i l paired in
+        let f = pair .head in
+        let kept = laidPlacement-apart p shaped count few f (pair .below) (half f (pair .below) (pair .marked)) m h in
+        elim (pair .which) [
+          | inl e ↦ omega (arith, kept, ap (held (laidPlacement p count) m) (e .0), ap (held (laidPlacement p count) m) (e .1))
+          | inr e ↦ omega (arith, kept, ap (held (laidPlacement p count) m) (e .0), ap (held (laidPlacement p count) m) (e .1))
+        ]
 
 pub firstPlacement-feasible : FirstFeasible
 unfolding firstPlacement firstWord

@@ -1,19 +1,22 @@
--- Laws of the plan's definitions: its machines and failure domains, its upper counts, and the fields that bytes hold.
+-- Laws of the plan's definitions: its machines and failure domains, its pairs and upper counts, and the fields that bytes hold.
 -- What is proved of spreads goes by the laws of `domain`, `domains`, `domainSize` and `member`, and not by racks.
 -- Assumes nothing.
-use mathlib.Core.Path.{_≡_, refl, ap₂}
+use mathlib.Core.Path.{_≡_, refl, ap, ap₂, sym, _∙_}
+use mathlib.Core.Bool.{Bool, true, false, cond, _||_}
 use mathlib.Core.List.{List}
-use Prim.Native.Nat.{ℕ, zero, suc, _+_, _*_, _%_, _^_, _≤_, _<_}
-use native.Mathlib.Nat.{one-le-mul, div-lt-iff-lt-mul, mod-mod-of-dvd, dvd-mul-right, min-le-left, min-le-right, pow-suc}
+use mathlib.Core.Logic.{_⊎_, inl, inr}
+use Prim.Native.Nat.{ℕ, zero, suc, _+_, _*_, _/_, _%_, _^_, _≤_, _<_, min}
+use native.Mathlib.Nat.{one-le-mul, div-lt-iff-lt-mul, mod-mod-of-dvd, dvd-mul-right, min-le-left, min-le-right, le-trans, pow-suc}
 use native.Mathlib.Omega.{arith}
 use lib.Arith.{digits-div, digits-lt}
 use lib.ListN.{getD, take}
 use lib.Seq.{getD-take}
 use Rattle.order.specs.Sum.{sum, delta}
+use Rattle.order.proofs.Booleans.{no-contradiction, bool-cases, cond-all}
 use Rattle.order.proofs.Ranges.{sum-group}
 use Rattle.order.proofs.Tables.{length-table, getD-table}
-use Rattle.model.specs.Plan.{Plan, machines, domains, domain, domainSize, blockCount, noBlock, blockOf, maxReplicas, upper, field, formatIn, blockIn, blockCountIn, planIn}
-use Rattle.theory.specs.Refusal.{Shaped}
+use Rattle.model.specs.Plan.{Plan, machines, domains, domain, domainSize, blockCount, noBlock, blockOf, pairsNext, pairsBack, isPaired, partner, maxReplicas, upper, field, formatIn, blockIn, blockCountIn, planIn}
+use Rattle.theory.specs.Refusal.{ValidPair, Shaped}
 
 -- ── machines ─────────────────────────────────────────────────────────────────────────────────────
 pub machines-pos : (p : Plan) → Shaped p → 1 ≤ machines p
@@ -51,6 +54,107 @@ pub member-sum : (p : Plan) (d : ℕ) (f : ℕ → ℕ) → d < domains p
     → sum (machines p) (λ m. delta (domain p m) d * f m) ≡ sum (domainSize p) (λ x. f (member p d x))
 member-sum p d f l = sum-group (domains p) (domainSize p) d f l
 
+-- ── isPaired ─────────────────────────────────────────────────────────────────────────────────────
+-- both blocks of a pair are paired, and no others are
+pub isPaired-first : (p : Plan) (f : ℕ) → pairsNext p f ≡ true → isPaired p f ≡ true
+unfolding isPaired
+isPaired-first p f e = rw e
+
+pub isPaired-second : (p : Plan) (f : ℕ) → pairsNext p f ≡ true → isPaired p (suc f) ≡ true
+unfolding isPaired pairsBack
+isPaired-second p f e = rw e (or-true (pairsNext p (suc f)))
+  where
+    or-true : (a : Bool) → (a || true) ≡ true
+    or-true true = refl
+    or-true false = refl
+
+isPaired-cases : (p : Plan) (i : ℕ) → isPaired p i ≡ true
+    → (pairsNext p i ≡ true) ⊎ ((f : ℕ) × (i ≡ suc f) × (pairsNext p f ≡ true))
+unfolding isPaired pairsBack
+isPaired-cases p zero e = go (pairsNext p 0) e
+  where
+    go : (a : Bool) → (a || false) ≡ true → (a ≡ true) ⊎ ((f : ℕ) × (0 ≡ suc f) × (pairsNext p f ≡ true))
+    go true e = inl refl
+    go false e = no-contradiction (sym e)
+isPaired-cases p (suc f) e = go (pairsNext p (suc f)) e
+  where
+    go : (a : Bool) → (a || pairsNext p f) ≡ true → (a ≡ true) ⊎ ((g : ℕ) × (suc f ≡ suc g) × (pairsNext p g ≡ true))
+    go true e = inl refl
+    go false e = inr (f, refl, e)
+
+-- ── partner ──────────────────────────────────────────────────────────────────────────────────────
+-- A pair: its first block, which is paired with the next one, and which of the two block i is.
+pub record PairOf (p : Plan) (i : ℕ) : Type 0 where
+  pub head : ℕ
+  pub below : suc head < blockCount p
+  pub marked : pairsNext p head ≡ true
+  pub which : ((i ≡ head) × (partner p i ≡ suc head)) ⊎ ((i ≡ suc head) × (partner p i ≡ head))
+
+module _ (p : Plan) (shaped : Shaped p) where
+  -- the two blocks of a pair, each the other's partner
+  pub partner-first : (f : ℕ) → pairsNext p f ≡ true → partner p f ≡ suc f
+  unfolding partner
+  partner-first f e = rw e
+
+  pub partner-second : (f : ℕ) → f < blockCount p → pairsNext p f ≡ true → partner p (suc f) ≡ f
+  unfolding partner
+  partner-second f l e = rw (shaped .pair f l .next-free e) (omega arith)
+
+  pub partner-pair : (i : ℕ) → i < blockCount p → isPaired p i ≡ true → PairOf p i
+  partner-pair i l e = go (isPaired-cases p i e)
+    where
+      go : (pairsNext p i ≡ true) ⊎ ((f : ℕ) × (i ≡ suc f) × (pairsNext p f ≡ true)) → PairOf p i
+      go (inl h) =
+          record { head = i; below = shaped .pair i l .next-below h; marked = h; which = inl (refl, partner-first i h) }
+      go (inr h) =
+          let f = h .0 in
+          let fl : f < blockCount p = omega (arith, h .1) in
+          let second : partner p i ≡ f = ap (partner p) (h .1) ∙ partner-second f fl (h .2) in
+          record { head = f; below = shaped .pair f fl .next-below (h .2); marked = h .2; which = inr (h .1, second) }
+
+  module _ (i : ℕ) (l : i < blockCount p) (e : isPaired p i ≡ true) where
+    pair : PairOf p i
+    pair = partner-pair i l e
+
+    pub partner-below : partner p i < blockCount p
+    partner-below = let b = pair .below in elim (pair .which) [ inl h ↦ omega (arith, h .1) | inr h ↦ omega (arith, h .1) ]
+
+    pub partner-other : partner p i ≡ i → ⊥
+    partner-other same = elim (pair .which) [ inl h ↦ omega (arith, h .0, h .1) | inr h ↦ omega (arith, h .0, h .1) ]
+
+    pub partner-paired : isPaired p (partner p i) ≡ true
+    partner-paired = elim (pair .which) [
+      | inl h ↦ rw (h .1) (isPaired-second p (pair .head) (pair .marked))
+      | inr h ↦ rw (h .1) (isPaired-first p (pair .head) (pair .marked))
+    ]
+
+    pub partner-partner : partner p (partner p i) ≡ i
+    partner-partner =
+        let fl : pair .head < blockCount p = omega (arith, pair .below) in
+        elim (pair .which) [
+          | inl h ↦ ap (partner p) (h .1) ∙ partner-second (pair .head) fl (pair .marked) ∙ sym (h .0)
+          | inr h ↦ ap (partner p) (h .1) ∙ partner-first (pair .head) (pair .marked) ∙ sym (h .0)
+        ]
+
+    -- what the two blocks of a pair agree in, partners agree in
+    partner-same : {A : Type 0} (f : ℕ → A) → f (pair .head) ≡ f (suc (pair .head)) → f (partner p i) ≡ f i
+    partner-same f same = elim (pair .which) [
+      | inl h ↦ ap f (h .1) ∙ sym same ∙ ap f (sym (h .0))
+      | inr h ↦ ap f (h .1) ∙ same ∙ ap f (sym (h .0))
+    ]
+
+    first-pair : ValidPair p (pair .head)
+    first-pair = shaped .pair (pair .head) (omega (arith, pair .below))
+
+    pub partner-popularity : blockOf p (partner p i) .popularity ≡ blockOf p i .popularity
+    partner-popularity = partner-same (λ b. blockOf p b .popularity) (first-pair .popularity-same (pair .marked))
+
+    pub partner-minReplicas : blockOf p (partner p i) .minReplicas ≡ blockOf p i .minReplicas
+    partner-minReplicas = partner-same (λ b. blockOf p b .minReplicas) (first-pair .replicas-same (pair .marked))
+
+    pub partner-minRacks : blockOf p (partner p i) .minRacks ≡ blockOf p i .minRacks
+    partner-minRacks = partner-same (λ b. blockOf p b .minRacks) (first-pair .racks-same (pair .marked))
+
 -- ── upper ────────────────────────────────────────────────────────────────────────────────────────
 pub upper-max : (p : Plan) (i : ℕ) → upper p i ≤ maxReplicas
 unfolding upper
@@ -58,7 +162,19 @@ upper-max p i = min-le-left _ _
 
 pub upper-machines : (p : Plan) (i : ℕ) → upper p i ≤ machines p
 unfolding upper
-upper-machines p i = min-le-right _ _
+upper-machines p i =
+    le-trans (min-le-right _ _)
+    (cond-all (λ n. n ≤ machines p) (isPaired p i) (machines p / 2) (machines p) (λ e. omega arith) (omega arith))
+
+-- a pair's copies are at most as many as the machines
+pub upper-pair : (p : Plan) (i : ℕ) → isPaired p i ≡ true → upper p i + upper p i ≤ machines p
+unfolding upper
+upper-pair p i e = rw e (let half = min-le-right maxReplicas (machines p / 2) in omega arith)
+
+-- it goes by whether the block is paired
+pub upper-same : (p : Plan) (i j : ℕ) → isPaired p i ≡ isPaired p j → upper p i ≡ upper p j
+unfolding upper
+upper-same p i j e = rw e
 
 -- ── field ────────────────────────────────────────────────────────────────────────────────────────
 pub field-bound : (bytes : List ℕ) → ((i : ℕ) → getD bytes i 0 < 256) → (at width : ℕ) → field bytes at width < 256 ^ width

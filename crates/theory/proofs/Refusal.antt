@@ -1,22 +1,22 @@
 -- Laws of the checks: what a check that passes says of its numbers, how large a code gets, and what an accepted plan satisfies.
--- The rows are gone through once, for a code that is not one of rows 1 to 9: then the plan has the shape that rows 4 to 9 test,
--- and rows 10 and 11 give its code.
+-- The rows are gone through once, for a code that is not one of rows 1 to 9 and 17: then the plan has the shape that these rows
+-- test, and rows 10 and 11 give its code.
 -- Assumes nothing.
 use mathlib.Core.Path.{_≡_, refl, ap, sym, _∙_}
-use mathlib.Core.Bool.{Bool, true, false, not, _||_}
+use mathlib.Core.Bool.{Bool, true, false, not, _&&_, _||_}
 use mathlib.Core.List.{List}
-use mathlib.Core.Logic.{inr, ⊎-elim}
+use mathlib.Core.Logic.{_⊎_, inl, inr, ⊎-elim}
 use Prim.Native.Nat.{ℕ, zero, suc, _*_, _<_, _≤_}
-use native.Mathlib.Nat.{pos-of-ne-zero, le-trans}
+use native.Mathlib.Nat.{pos-of-ne-zero, le-trans, eq-or-lt-of-le}
 use native.Mathlib.Omega.{arith}
 use borrow.Author.Tests.{ltb-false, lt-ltb, le-ltb, eqb-true, eqb-false, not-false}
 use lib.Dec.{ltb, eqb, lit<, lit≤}
 use lib.ListN.{length}
-use Rattle.order.proofs.Booleans.{or3-false, in-range}
+use Rattle.order.proofs.Booleans.{no-contradiction, not-so, and-iff, eqb-iff, or3-false, in-range}
 use Rattle.order.proofs.Searches.{none-below, first-all}
-use Rattle.model.specs.Plan.{Plan, machines, domains, blockCount, blockOf, upper, minTotal, commonLength, Format, formatIn, recordAt, planIn, markIn, versionIn, racksIn, rackSizeIn, capacityIn, blockCountIn}
-use Rattle.model.specs.Refusal.{refuseIf, orElse, isRefusal, mark, maxMachines, maxCapacity, maxBlocks, check1, check2, check3, check4, check5, check6, check7, check8, check9, check10, check11, check12, blockRefusal, blocksRefusal, planRefusal, refusal, refused, accepted, verdict, judge}
-use Rattle.theory.specs.Refusal.{ValidBlock, Shaped, Valid, PastRow9, AcceptedLaws}
+use Rattle.model.specs.Plan.{Block, Plan, machines, domains, blockCount, blockOf, marksPair, pairsNext, upper, minTotal, commonLength, latestVersion, Format, formatIn, recordAt, planIn, markIn, versionIn, racksIn, rackSizeIn, capacityIn, blockCountIn}
+use Rattle.model.specs.Refusal.{refuseIf, orElse, isRefusal, mark, maxMachines, maxCapacity, maxBlocks, check1, check2, check3, check4, check5, check6, check7, check8, check9, alike, check17, check10, check11, check12, blockRefusal, blocksRefusal, pairRefusal, pairsRefusal, planRefusal, refusal, refused, accepted, verdict, judge}
+use Rattle.theory.specs.Refusal.{ValidBlock, ValidPair, Shaped, Valid, PastRow17, AcceptedLaws}
 use Rattle.theory.proofs.Plan.{planIn-blockCount}
 
 -- ── refuseIf ─────────────────────────────────────────────────────────────────────────────────────
@@ -116,6 +116,9 @@ blockRefusal-le p i =
     (refuseIf-all (λ n. n ≤ 9) (eqb (b .minRacks) 0 || ltb (b .minReplicas) (b .minRacks) || ltb (domains p) (b .minRacks)) 9 0
     (lit≤ tt) (lit≤ tt))
 
+le-zero : (n : ℕ) → n ≤ 0 → n ≡ 0
+le-zero n h = omega arith
+
 -- ── blocksRefusal ────────────────────────────────────────────────────────────────────────────────
 -- where checks 8 and 9 pass, every block is valid
 blocksRefusal-zero : (p : Plan) → blocksRefusal p ≡ 0 → (i : ℕ) → i < blockCount p → ValidBlock p i
@@ -123,29 +126,86 @@ unfolding blocksRefusal
 blocksRefusal-zero p e i l =
     let none = none-below isRefusal 0 refl (blockRefusal p) (blockCount p) (ap isRefusal e) i l in
     blockRefusal-zero p i (le-zero _ (ltb-false _ _ none))
-  where
-    le-zero : (n : ℕ) → n ≤ 0 → n ≡ 0
-    le-zero n h = omega arith
 
 pub blocksRefusal-le : (p : Plan) → blocksRefusal p ≤ 9
 unfolding blocksRefusal
 blocksRefusal-le p = first-all (λ n. n ≤ 9) isRefusal 0 (blockRefusal p) (blockCount p) (lit≤ tt) (λ i l. blockRefusal-le p i)
+
+-- ── pairRefusal ──────────────────────────────────────────────────────────────────────────────────
+-- a condition of row 17 about a block that is paired with the next one
+unless-marked : (t cond : Bool) → (t && cond) ≡ false → t ≡ true → cond ≡ false
+unless-marked true cond e m = e
+unless-marked false cond e m = no-contradiction (sym m)
+
+alike-parts : (a b : Block) → alike a b ≡ true
+    → ((a .popularity ≡ b .popularity) × (a .minReplicas ≡ b .minReplicas)) × (a .minRacks ≡ b .minRacks)
+unfolding alike
+alike-parts a b = and-iff _ _ (and-iff _ _ (eqb-iff _ _) (eqb-iff _ _)) (eqb-iff _ _) .0
+
+pairRefusal-zero : (p : Plan) (i : ℕ) → i < blockCount p → pairRefusal p i ≡ 0 → ValidPair p i
+unfolding pairRefusal check17 pairsNext
+pairRefusal-zero p i l e =
+    let own = blockOf p i in
+    let next = blockOf p (suc i) in
+    let z = refuseIf-zero (ltb 1 (own .pairByte)) 16 _ e in
+    let last = refuseIf-zero (marksPair own && eqb (suc i) (blockCount p)) 16 _ (z .1) in
+    let both = refuseIf-zero (marksPair own && marksPair next) 16 _ (last .1) in
+    let unlike = refuseIf-zero (marksPair own && not (alike own next)) 16 _ (both .1) in
+    let same : marksPair own ≡ true → ((own .popularity ≡ next .popularity) × (own .minReplicas ≡ next .minReplicas)) × (own .minRacks ≡ next .minRacks) =
+    λ m. alike-parts own next (not-false _ (unless-marked _ _ (unlike .0) m))
+    in
+    record {
+      byte-max = ltb-false _ _ (z .0);
+      next-below = λ m. let apart = eqb-false _ _ (unless-marked _ _ (last .0) m) in ⊎-elim (λ s. absurd (apart s)) (λ s. s) (eq-or-lt-of-le l);
+      next-free = λ m. unless-marked _ _ (both .0) m;
+      popularity-same = λ m. same m .0 .0;
+      replicas-same = λ m. same m .0 .1;
+      racks-same = λ m. same m .1;
+    }
+
+pairRefusal-cases : (p : Plan) (i : ℕ) → (pairRefusal p i ≡ 17) ⊎ (pairRefusal p i ≡ 0)
+unfolding pairRefusal check17
+pairRefusal-cases p i =
+    let own = blockOf p i in
+    let next = blockOf p (suc i) in
+    row (ltb 1 (own .pairByte)) _
+    (row (marksPair own && eqb (suc i) (blockCount p)) _
+    (row (marksPair own && marksPair next) _
+    (row (marksPair own && not (alike own next)) 0 (inr refl))))
+  where
+    row : (t : Bool) (later : ℕ) → (later ≡ 17) ⊎ (later ≡ 0) → (refuseIf t 17 later ≡ 17) ⊎ (refuseIf t 17 later ≡ 0)
+    row true later h = inl refl
+    row false later h = h
+
+-- ── pairsRefusal ─────────────────────────────────────────────────────────────────────────────────
+-- where check 17 passes, every pair is valid
+pairsRefusal-zero : (p : Plan) → pairsRefusal p ≡ 0 → (i : ℕ) → i < blockCount p → ValidPair p i
+unfolding pairsRefusal
+pairsRefusal-zero p e i l =
+    let none = none-below isRefusal 0 refl (pairRefusal p) (blockCount p) (ap isRefusal e) i l in
+    pairRefusal-zero p i l (le-zero _ (ltb-false _ _ none))
+
+pub pairsRefusal-cases : (p : Plan) → (pairsRefusal p ≡ 17) ⊎ (pairsRefusal p ≡ 0)
+unfolding pairsRefusal
+pairsRefusal-cases p =
+    first-all (λ n. (n ≡ 17) ⊎ (n ≡ 0)) isRefusal 0 (pairRefusal p) (blockCount p) (inr refl) (λ i l. pairRefusal-cases p i)
 
 -- ── planRefusal ──────────────────────────────────────────────────────────────────────────────────
 -- The code that rows 10 and 11 give.
 abbrev pub totalRefusal : Plan → ℕ
 totalRefusal p = check10 (p .budget) (minTotal p) (check11 (machines p * p .capacity) (minTotal p) 0)
 
-planRefusal-le : (p : Plan) → planRefusal p ≤ 11
+planRefusal-le : (p : Plan) → planRefusal p ≤ 17
 unfolding planRefusal check10 check11
 planRefusal-le p =
-    orElse-all (λ n. n ≤ 11) (blocksRefusal p) _ (le-trans (blocksRefusal-le p) (lit≤ tt))
-    (refuseIf-all (λ n. n ≤ 11) (ltb (p .budget) (minTotal p)) 10 _ (lit≤ tt)
-    (refuseIf-all (λ n. n ≤ 11) (ltb (machines p * p .capacity) (minTotal p)) 11 0 (lit≤ tt) (lit≤ tt)))
+    orElse-all (λ n. n ≤ 17) (blocksRefusal p) _ (le-trans (blocksRefusal-le p) (lit≤ tt))
+    (orElse-all (λ n. n ≤ 17) (pairsRefusal p) _ (⊎-elim (λ e. omega (arith, e)) (λ e. omega (arith, e)) (pairsRefusal-cases p))
+    (refuseIf-all (λ n. n ≤ 17) (ltb (p .budget) (minTotal p)) 10 _ (lit≤ tt)
+    (refuseIf-all (λ n. n ≤ 17) (ltb (machines p * p .capacity) (minTotal p)) 11 0 (lit≤ tt) (lit≤ tt))))
 
 -- ── refusal ──────────────────────────────────────────────────────────────────────────────────────
--- a refusal's number is at most 11
-pub refusal-le : (bytes : List ℕ) → refusal bytes ≤ 11
+-- a plan's refusal has a number up to 17
+pub refusal-le : (bytes : List ℕ) → refusal bytes ≤ 17
 unfolding refusal check1 check2 check3 check4 check5 check6 check7
 refusal-le bytes =
     let r = racksIn bytes in
@@ -154,35 +214,46 @@ refusal-le bytes =
     let b = blockCountIn bytes in
     row (ltb (length bytes) commonLength) 1 _ (lit≤ tt)
     (row (not (eqb (markIn bytes) mark)) 2 _ (lit≤ tt)
-    (row (not (eqb (versionIn bytes) 1)) 3 _ (lit≤ tt)
+    (row (eqb (versionIn bytes) 0 || ltb latestVersion (versionIn bytes)) 3 _ (lit≤ tt)
     (row (eqb r 0 || eqb s 0 || ltb maxMachines (r * s)) 4 _ (lit≤ tt)
     (row (eqb c 0 || ltb maxCapacity c) 5 _ (lit≤ tt)
     (row (ltb maxBlocks b) 6 _ (lit≤ tt)
     (row (not (eqb (length bytes) (recordAt (formatIn bytes) b))) 7 _ (lit≤ tt)
     (planRefusal-le (planIn bytes))))))))
   where
-    row : (t : Bool) (code later : ℕ) → code ≤ 11 → later ≤ 11 → refuseIf t code later ≤ 11
-    row = refuseIf-all (λ n. n ≤ 11)
+    row : (t : Bool) (code later : ℕ) → code ≤ 17 → later ≤ 17 → refuseIf t code later ≤ 17
+    row = refuseIf-all (λ n. n ≤ 17)
 
-module _ (code : ℕ) (past : PastRow9 code) where
-  not-row : (row : ℕ) → row < 9 → suc row ≡ code → ⊥
-  not-row row l e = ⊎-elim (λ (g : 9 < code). omega arith) (λ (z : code ≡ 0). omega arith) past
+-- A row that comes before 10.
+abbrev Early : ℕ → Type 0
+Early row = (row ≤ 9) ⊎ (row ≡ 17)
 
-  -- a check of rows 1 to 9 that gives such a code has a false condition, and the code is the later rows'
+module _ (code : ℕ) (past : PastRow17 code) where
+  not-row : (row : ℕ) → 1 ≤ row → Early row → row ≡ code → ⊥
+  not-row row some early e = elim past [
+    | inl ten ↦ ⊎-elim (λ (h : row ≤ 9). omega arith) (λ (h : row ≡ 17). omega arith) early
+    | inr later ↦ elim later [
+      | inl eleven ↦ ⊎-elim (λ (h : row ≤ 9). omega arith) (λ (h : row ≡ 17). omega arith) early
+      | inr none ↦ omega arith
+    ]
+  ]
+
+  -- a check of such a row that gives the code has a false condition, and the code is the later rows'
   refuseIf-past : (t : Bool) (row later : ℕ) → refuseIf t (suc row) later ≡ code → row < 9
       → (refuseIf t (suc row) 0 ≡ 0) × (later ≡ code)
-  refuseIf-past true row later e l = absurd (not-row row l e)
+  refuseIf-past true row later e l = absurd (not-row (suc row) (omega arith) (inl (omega arith)) e)
   refuseIf-past false row later e l = (refl, e)
 
-  orElse-past : (found later : ℕ) → found ≤ 9 → orElse found later ≡ code → (found ≡ 0) × (later ≡ code)
-  orElse-past zero later l e = (refl, e)
-  orElse-past (suc row) later l e = absurd (not-row row l e)
+  orElse-past : (found later : ℕ) → Early found → orElse found later ≡ code → (found ≡ 0) × (later ≡ code)
+  orElse-past zero later early e = (refl, e)
+  orElse-past (suc row) later early e = absurd (not-row (suc row) (omega arith) early e)
 
--- what rows 1 to 9 leave
-rows-past : (code : ℕ) → PastRow9 code → (bytes : List ℕ) → refusal bytes ≡ code
+-- what rows 1 to 9 and 17 leave
+rows-past : (code : ℕ) → PastRow17 code → (bytes : List ℕ) → refusal bytes ≡ code
     → (1 ≤ racksIn bytes) × (1 ≤ rackSizeIn bytes) × (racksIn bytes * rackSizeIn bytes ≤ maxMachines)
     × (1 ≤ capacityIn bytes) × (capacityIn bytes ≤ maxCapacity) × (blockCountIn bytes ≤ maxBlocks)
-    × (length bytes ≡ recordAt (formatIn bytes) (blockCountIn bytes)) × (blocksRefusal (planIn bytes) ≡ 0) × (totalRefusal (planIn bytes) ≡ code)
+    × (length bytes ≡ recordAt (formatIn bytes) (blockCountIn bytes)) × (blocksRefusal (planIn bytes) ≡ 0) × (pairsRefusal (planIn bytes) ≡ 0)
+    × (totalRefusal (planIn bytes) ≡ code)
 unfolding refusal check1 check2 check3 check4 check5 check6 check7 planRefusal
 rows-past code past bytes e =
     let r = racksIn bytes in
@@ -191,19 +262,24 @@ rows-past code past bytes e =
     let b = blockCountIn bytes in
     let z1 = refuseIf-past code past (ltb (length bytes) commonLength) 0 _ e (lit< tt) in
     let z2 = refuseIf-past code past (not (eqb (markIn bytes) mark)) 1 _ (z1 .1) (lit< tt) in
-    let z3 = refuseIf-past code past (not (eqb (versionIn bytes) 1)) 2 _ (z2 .1) (lit< tt) in
+    let z3 = refuseIf-past code past (eqb (versionIn bytes) 0 || ltb latestVersion (versionIn bytes)) 2 _ (z2 .1) (lit< tt) in
     let z4 = refuseIf-past code past (eqb r 0 || eqb s 0 || ltb maxMachines (r * s)) 3 _ (z3 .1) (lit< tt) in
     let z5 = refuseIf-past code past (eqb c 0 || ltb maxCapacity c) 4 _ (z4 .1) (lit< tt) in
     let z6 = refuseIf-past code past (ltb maxBlocks b) 5 _ (z5 .1) (lit< tt) in
     let z7 = refuseIf-past code past (not (eqb (length bytes) (recordAt (formatIn bytes) b))) 6 _ (z6 .1) (lit< tt) in
-    let blocks = orElse-past code past (blocksRefusal (planIn bytes)) _ (blocksRefusal-le (planIn bytes)) (z7 .1) in
+    let blocks = orElse-past code past (blocksRefusal (planIn bytes)) _ (inl (blocksRefusal-le (planIn bytes))) (z7 .1) in
+    let pairs = orElse-past code past (pairsRefusal (planIn bytes)) _ (pairs-early (pairsRefusal-cases (planIn bytes))) (blocks .1) in
     let h4 = check4-zero r s 0 (z4 .0) in
     let h5 = check5-zero c 0 (z5 .0) in
     let h6 = check6-zero b 0 (z6 .0) in
     let h7 = check7-zero (formatIn bytes) (length bytes) b 0 (z7 .0) in
-    (h4 .0, h4 .1, h4 .2, h5 .0, h5 .1, h6 .0, h7 .0, blocks .0, blocks .1)
+    (h4 .0, h4 .1, h4 .2, h5 .0, h5 .1, h6 .0, h7 .0, blocks .0, pairs .0, pairs .1)
+  where
+    pairs-early : (pairsRefusal (planIn bytes) ≡ 17) ⊎ (pairsRefusal (planIn bytes) ≡ 0) → Early (pairsRefusal (planIn bytes))
+    pairs-early (inl e) = inr e
+    pairs-early (inr e) = inl (omega (arith, e))
 
-module _ (bytes : List ℕ) (past : PastRow9 (refusal bytes)) where
+module _ (bytes : List ℕ) (past : PastRow17 (refusal bytes)) where
   pub refusal-shaped : Shaped (planIn bytes)
   unfolding planIn
   refusal-shaped =
@@ -216,20 +292,21 @@ module _ (bytes : List ℕ) (past : PastRow9 (refusal bytes)) where
         capacity-max = z .4;
         blocks-max = rw (planIn-blockCount bytes) (z .5);
         block = blocksRefusal-zero (planIn bytes) (z .7);
+        pair = pairsRefusal-zero (planIn bytes) (z .8);
       }
 
   pub refusal-length : length bytes ≡ recordAt (formatIn bytes) (blockCountIn bytes)
   refusal-length = rows-past (refusal bytes) past bytes refl .6
 
   pub refusal-total : refusal bytes ≡ totalRefusal (planIn bytes)
-  refusal-total = sym (rows-past (refusal bytes) past bytes refl .8)
+  refusal-total = sym (rows-past (refusal bytes) past bytes refl .9)
 
 -- a plan that no row turns back
 pub refusal-zero : (bytes : List ℕ) → refusal bytes ≡ 0 → Valid (planIn bytes)
 refusal-zero bytes e =
-    let z10 = check10-zero _ _ _ (sym (refusal-total bytes (inr e)) ∙ e) in
+    let z10 = check10-zero _ _ _ (sym (refusal-total bytes (inr (inr e))) ∙ e) in
     let z11 = check11-zero _ _ _ (z10 .1) in
-    record { shaped = refusal-shaped bytes (inr e); in-budget = z10 .0; in-places = z11 .0 }
+    record { shaped = refusal-shaped bytes (inr (inr e)); in-budget = z10 .0; in-places = z11 .0 }
 
 -- ── judge ────────────────────────────────────────────────────────────────────────────────────────
 pub judge-refused : (bytes : List ℕ) (code : ℕ) → refusal bytes ≡ code → 1 ≤ code → judge bytes ≡ refused code
@@ -262,5 +339,5 @@ accepted-laws bytes p e =
     record {
       held = sym (z .1);
       valid = rw (z .1) at (refusal-zero bytes (z .0));
-      length-is = refusal-length bytes (inr (z .0)) ∙ ap (recordAt (formatIn bytes)) (sym (planIn-blockCount bytes) ∙ ap blockCount (z .1));
+      length-is = refusal-length bytes (inr (inr (z .0))) ∙ ap (recordAt (formatIn bytes)) (sym (planIn-blockCount bytes) ∙ ap blockCount (z .1));
     }

@@ -15,12 +15,12 @@ use Rattle.order.specs.Search.{allb}
 use Rattle.order.proofs.Booleans.{no-contradiction, not-so, and-iff, leb-iff}
 use Rattle.order.proofs.Sums.{sum-cong, sum-mono, sum-mul}
 use Rattle.order.proofs.Extremes.{least-le, least-passes, least-first, allb-at, allb-iff, largest-term, largest-le}
-use Rattle.model.specs.Plan.{Plan, maxReplicas, blockCount, blockOf, upper, minTotal}
+use Rattle.model.specs.Plan.{Plan, maxReplicas, blockCount, blockOf, isPaired, partner, upper, minTotal}
 use Rattle.model.specs.Replication.{limit, FeasibleCounts, unit, share, largestShare, need, reachable, figure, chosen}
 use Rattle.theory.specs.Widths.{popularityBound, shareBound}
 use Rattle.theory.specs.Refusal.{ValidBlock, Shaped, Valid}
 use Rattle.theory.specs.Replication.{ShareLaws, ChosenLaws, ChosenUnique}
-use Rattle.theory.proofs.Plan.{upper-max}
+use Rattle.theory.proofs.Plan.{partner-paired, partner-popularity, partner-minReplicas, upper-max, upper-same}
 
 -- ── FeasibleCounts ───────────────────────────────────────────────────────────────────────────────
 -- lawful counts are from 1 to 8
@@ -165,6 +165,12 @@ module _ (p : Plan) (i : ℕ) (b : ValidBlock p i) (f : ℕ) where
         | no m ↦ let most = need-max in omega arith
       ]
 
+-- it goes by the block's popularity, its least copies and its upper count
+need-same : (p : Plan) (f i j : ℕ) → blockOf p i .popularity ≡ blockOf p j .popularity → blockOf p i .minReplicas ≡ blockOf p j .minReplicas
+    → upper p i ≡ upper p j → need p f i ≡ need p f j
+unfolding need
+need-same p f i j popular few most = rw (popular, few, most)
+
 -- ── reachable ────────────────────────────────────────────────────────────────────────────────────
 -- the two parts of the test
 pub reachable-parts : (p : Plan) (f : ℕ)
@@ -272,6 +278,14 @@ module _ (p : Plan) (v : Valid p) where
             (need-first p i b (figure p) (blockOf p i .minReplicas) (le-refl _) (b .min-upper) (rw (none, share-none) (omega arith)))
             (need-min p i b (figure p));
       }
+
+  -- the two blocks of a pair have the same count
+  pub chosen-partner : (i : ℕ) → i < blockCount p → isPaired p i ≡ true → chosen p (partner p i) ≡ chosen p i
+  unfolding chosen
+  chosen-partner i l paired =
+      need-same p (figure p) (partner p i) i (partner-popularity p (v .shaped) i l paired)
+      (partner-minReplicas p (v .shaped) i l paired)
+      (upper-same p (partner p i) i (partner-paired p (v .shaped) i l paired ∙ sym paired))
 
   -- Other counts with these laws have the same largest share, the figure, and each count is at most the other.
   pub chosen-unique : ChosenUnique p

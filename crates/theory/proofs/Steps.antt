@@ -157,6 +157,13 @@ module _ (words : List ℕ) (m n i : ℕ) (on : held words m i ≡ 1) (off : hel
           rw (here, delta-same b i e) (omega arith)
       go (no e) = rw (afterMove-other words m n i b e, delta-other b i e) (omega arith)
 
+  -- n gets i
+  pub afterMove-held-target : (b : ℕ) → held (afterMove words m n i) n b ≡ held words n b + delta b i
+  afterMove-held-target b =
+      let apart = bit-apart (wordOf words i) m n on off in
+      let e = rw (delta-same n n refl, delta-other n m (λ q. apart (sym q))) at (afterMove-held n b) in
+      omega arith
+
 module _ (p : Plan) (words : List ℕ) (m n i : ℕ) (on : held words m i ≡ 1) (off : held words n i ≡ 0) where
   module _ (ml : m < machines p) (nl : n < machines p) where
     pub afterMove-count : (b : ℕ) → countOf p (afterMove words m n i) b ≡ countOf p words b
@@ -242,6 +249,27 @@ module _ (p : Plan) (words : List ℕ) (m n i j : ℕ) (i-on : held words m i �
   unfolding afterSwap
   afterSwap-each P here there b else =
       afterMove-each P (afterMove words m n i) n m j mid-on (rw same there) b (afterMove-each P words m n i i-on here b else)
+
+  -- every bit of the placement
+  pub afterSwap-held : (k b : ℕ)
+      → held (afterSwap words m n i j) k b + (delta b i * delta k m + delta b j * delta k n)
+      ≡ held words k b + (delta b i * delta k n + delta b j * delta k m)
+  unfolding afterSwap
+  afterSwap-held k b =
+      let one = afterMove-held words m n i i-on i-off k b in
+      let two = afterMove-held (afterMove words m n i) n m j mid-on mid-off k b in
+      omega arith
+
+  -- n gets i for j, and m gets j for i
+  pub afterSwap-held-target : (b : ℕ) → held (afterSwap words m n i j) n b + delta b j ≡ held words n b + delta b i
+  afterSwap-held-target b =
+      let e = rw (delta-same n n refl, delta-other n m (bit-apart (wordOf words j) n m j-on j-off)) at (afterSwap-held n b) in
+      omega arith
+
+  pub afterSwap-held-source : (b : ℕ) → held (afterSwap words m n i j) m b + delta b i ≡ held words m b + delta b j
+  afterSwap-held-source b =
+      let e = rw (delta-same m m refl, delta-other m n (bit-apart (wordOf words i) m n i-on i-off)) at (afterSwap-held m b) in
+      omega arith
 
   pub afterSwap-count : m < machines p → n < machines p → (b : ℕ) → countOf p (afterSwap words m n i j) b ≡ countOf p words b
   unfolding afterSwap

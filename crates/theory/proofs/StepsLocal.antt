@@ -1,7 +1,7 @@
 -- Laws of the tests of a step, the second part of Steps. For a feasible placement the document's step (lawful afterwards, both loads
 -- below Lm) is a test of the loads, copies and words before it; and a step keeps the placement feasible, at its counts.
 -- Assumes nothing.
-use mathlib.Core.Path.{_≡_, _∙_}
+use mathlib.Core.Path.{_≡_, refl, ap, sym, _∙_}
 use mathlib.Core.Bool.{true, not}
 use mathlib.Core.List.{List}
 use mathlib.Core.Logic.{inl, inr, _↔_}
@@ -13,12 +13,14 @@ use lib.Dec.{eqb}
 use Rattle.order.specs.Sum.{delta}
 use Rattle.order.proofs.Sums.{delta-same, delta-other}
 use Rattle.order.proofs.Booleans.{and-iff, ltb-iff, eqb-iff}
-use Rattle.model.specs.Plan.{Plan, machines, blockCount, blockOf}
+use Rattle.model.specs.Plan.{Plan, machines, blockCount, blockOf, isPaired, partner}
 use Rattle.model.specs.Placement.{bit, wordOf, held, domainsUsed, countOf, used, Feasible, load}
 use Rattle.model.specs.Steps.{Step, none, move, swap, afterMove, afterSwap, after, improves, canMove, canSwap}
+use Rattle.theory.specs.Refusal.{Shaped}
 use Rattle.theory.specs.Steps.{LocalMove, LocalSwap, Lawful}
-use Rattle.theory.proofs.Placement.{bit-cases, feasible-own, isFeasible-iff}
-use Rattle.theory.proofs.Steps.{shifted-below, afterMove-word, afterMove-each, afterMove-count, afterMove-used, afterMove-load-source, afterMove-load-target, afterSwap-word-i, afterSwap-word-j, afterSwap-each, afterSwap-count, afterSwap-used, afterSwap-load-source, afterSwap-load-target}
+use Rattle.theory.proofs.Placement.{bit-le, bit-cases, feasible-same, feasible-own, isFeasible-iff}
+use Rattle.theory.proofs.Plan.{partner-other, partner-paired, partner-partner}
+use Rattle.theory.proofs.Steps.{shifted-below, afterMove-word, afterMove-each, afterMove-held, afterMove-held-target, afterMove-count, afterMove-used, afterMove-load-source, afterMove-load-target, afterSwap-word-i, afterSwap-word-j, afterSwap-each, afterSwap-held, afterSwap-held-source, afterSwap-held-target, afterSwap-count, afterSwap-used, afterSwap-load-source, afterSwap-load-target}
 
 -- ── improves ─────────────────────────────────────────────────────────────────────────────────────
 improves-iff : (p : Plan) (words later : List ℕ) (m n : ℕ)
@@ -37,6 +39,72 @@ clear-iff w k = (clear, λ e. rw (ne-eqb (bit w k) 1 (λ q. omega arith)))
     clear : not (eqb (bit w k) 1) ≡ true → bit w k ≡ 0
     clear e = elim (bit-cases w k) [ inl z ↦ z | inr o ↦ absurd (eqb-false (bit w k) 1 (not-true _ e) o) ]
 
+-- ── Feasible.apart ───────────────────────────────────────────────────────────────────────────────
+-- What one machine holds before and after a step that brings it block x, and takes block y if it takes one. It keeps pairs apart
+-- exactly if x's partner is not there, or is y.
+module _ (p : Plan) (shaped : Shaped p) (x : ℕ) (xl : x < blockCount p) (before later : ℕ → ℕ) where
+  -- at most x has come, and its partner is not there afterwards
+  comes : ((b : ℕ) → later b ≤ before b + delta b x) → ((b : ℕ) → later b ≤ 1) → (isPaired p x ≡ true → later (partner p x) ≡ 0)
+      → (b : ℕ) → b < blockCount p → isPaired p b ≡ true → before b + before (partner p b) ≤ 1 → later b + later (partner p b) ≤ 1
+  comes come most free b l paired apart = go (ℕ-discrete b x) (ℕ-discrete (partner p b) x)
+    where
+      go : Dec (b ≡ x) → Dec (partner p b ≡ x) → later b + later (partner p b) ≤ 1
+      go (yes e) other =
+          let none : later (partner p b) ≡ 0 = ap (λ (c : ℕ). later (partner p c)) e ∙ free (ap (isPaired p) (sym e) ∙ paired) in
+          omega (arith, most b)
+      go (no e) (yes f) =
+          let back : partner p x ≡ b = ap (partner p) (sym f) ∙ partner-partner p shaped b l paired in
+          let none : later b ≡ 0 =
+          ap later (sym back) ∙ free (ap (isPaired p) (sym f) ∙ partner-paired p shaped b l paired)
+          in
+          omega (arith, most (partner p b))
+      go (no e) (no f) = omega (arith, come b, come (partner p b), delta-other b x e, delta-other (partner p b) x f)
+
+  -- x comes
+  module _ (move : (b : ℕ) → later b ≡ before b + delta b x) where
+    arrived : isPaired p x ≡ true → later x + later (partner p x) ≤ 1 → before (partner p x) ≡ 0
+    arrived paired one =
+        omega (arith, move x, delta-same x x refl, move (partner p x), delta-other (partner p x) x (partner-other p shaped x xl paired))
+
+    arrives : ((b : ℕ) → later b ≤ 1) → (isPaired p x ≡ true → before (partner p x) ≡ 0)
+        → (b : ℕ) → b < blockCount p → isPaired p b ≡ true → before b + before (partner p b) ≤ 1 → later b + later (partner p b) ≤ 1
+    arrives most free =
+        comes (λ b. omega (arith, move b)) most
+        (λ paired. omega (arith, free paired, move (partner p x), delta-other (partner p x) x (partner-other p shaped x xl paired)))
+
+  -- x comes for y
+  module _ (y : ℕ) (off : before x ≡ 0) (on : before y ≡ 1) (swap : (b : ℕ) → later b + delta b y ≡ before b + delta b x) where
+    other : x ≡ y → ⊥
+    other e = omega (arith, ap before e)
+
+    replaced : isPaired p x ≡ true → later x + later (partner p x) ≤ 1 → (partner p x ≡ y → ⊥) → before (partner p x) ≡ 0
+    replaced paired one apart =
+        omega (
+          arith,
+          swap x,
+          delta-same x x refl,
+          delta-other x y other,
+          swap (partner p x),
+          delta-other (partner p x) x (partner-other p shaped x xl paired),
+          delta-other (partner p x) y apart,
+        )
+
+    replaces : ((b : ℕ) → later b ≤ 1) → (isPaired p x ≡ true → (partner p x ≡ y → ⊥) → before (partner p x) ≡ 0)
+        → (b : ℕ) → b < blockCount p → isPaired p b ≡ true → before b + before (partner p b) ≤ 1 → later b + later (partner p b) ≤ 1
+    replaces most free = comes (λ b. omega (arith, swap b)) most (λ paired. gone paired (ℕ-discrete (partner p x) y))
+      where
+        gone : isPaired p x ≡ true → Dec (partner p x ≡ y) → later (partner p x) ≡ 0
+        gone paired (yes e) =
+            let d = delta-other (partner p x) x (partner-other p shaped x xl paired) in
+            omega (arith, swap (partner p x), delta-same (partner p x) y e, ap before e)
+        gone paired (no e) =
+            let d = delta-other (partner p x) x (partner-other p shaped x xl paired) in
+            omega (arith, swap (partner p x), delta-other (partner p x) y e, free paired e)
+
+-- a machine that gets nothing
+leaves : (before later : ℕ → ℕ) → ((b : ℕ) → later b ≤ before b) → (b c : ℕ) → before b + before c ≤ 1 → later b + later c ≤ 1
+leaves before later fewer b c apart = omega (arith, fewer b, fewer c)
+
 -- ── canMove ──────────────────────────────────────────────────────────────────────────────────────
 canMove-iff : (p : Plan) (words : List ℕ) (m n i : ℕ)
     → (canMove p words m n i ≡ true)
@@ -46,9 +114,9 @@ unfolding canMove
 canMove-iff p words m n i =
     and-iff _ _ (and-iff _ _ (and-iff _ _ (set-iff (wordOf words i) m) (clear-iff (wordOf words i) n)) (ltb-iff _ _)) (λ e. e, λ e. e)
 
-module _ (p : Plan) (count : ℕ → ℕ) (words : List ℕ) (feasible : Feasible p count words) (m n i : ℕ)
+module _ (p : Plan) (shaped : Shaped p) (count : ℕ → ℕ) (words : List ℕ) (feasible : Feasible p count words) (m n i : ℕ)
     (ml : m < machines p) (nl : n < machines p) (il : i < blockCount p) where
-  pub afterMove-feasible : LocalMove p words m n i → Feasible p count (afterMove words m n i)
+  afterMove-feasible : LocalMove p words m n i → Feasible p count (afterMove words m n i)
   afterMove-feasible s =
       let on = s .on in
       let off = s .off in
@@ -59,8 +127,20 @@ module _ (p : Plan) (count : ℕ → ℕ) (words : List ℕ) (feasible : Feasibl
         counted = λ b l. afterMove-count p words m n i on off ml nl b ∙ feasible .counted b l;
         spread = λ b l. afterMove-each (λ c w. blockOf p c .minRacks ≤ domainsUsed p w) words m n i on (s .spread) b (feasible .spread b l);
         fits = λ k l. fits k (afterMove-used p words m n i on off il k) (feasible .fits k l) (ℕ-discrete k n);
+        apart = λ b l paired k kl. apart b l paired k (feasible .apart b l paired k kl) (ℕ-discrete k n);
       }
     where
+      apart : (b : ℕ) → b < blockCount p → isPaired p b ≡ true → (k : ℕ) → held words k b + held words k (partner p b) ≤ 1
+          → Dec (k ≡ n) → held (afterMove words m n i) k b + held (afterMove words m n i) k (partner p b) ≤ 1
+      apart b l paired k before (yes e) =
+          rw e
+          (arrives p shaped i il (held words n) (held (afterMove words m n i) n) (afterMove-held-target words m n i (s .on) (s .off))
+          (λ c. bit-le (wordOf (afterMove words m n i) c) n) (s .apart) b l paired (rw e at before))
+      apart b l paired k before (no e) =
+          leaves (held words k) (held (afterMove words m n i) k)
+          (λ c. let h = rw (delta-other k n e) at (afterMove-held words m n i (s .on) (s .off) k c) in omega arith)
+          b (partner p b) before
+
       fits : (k : ℕ) → used p (afterMove words m n i) k + delta k m ≡ used p words k + delta k n → used p words k ≤ p .capacity
           → Dec (k ≡ n) → used p (afterMove words m n i) k ≤ p .capacity
       fits k e l (yes same) =
@@ -88,6 +168,9 @@ module _ (p : Plan) (count : ℕ → ℕ) (words : List ℕ) (feasible : Feasibl
             room = z .0 .1;
             lowers = (omega arith, omega arith);
             spread = rw (afterMove-word words m n i on) at (later .0 .0 .spread i il);
+            apart = λ own.
+                arrived p shaped i il (held words n) (held (afterMove words m n i) n) (afterMove-held-target words m n i on off) own
+                (later .0 .0 .apart i il own n nl);
           }
 
       back : LocalMove p words m n i → canMove p words m n i ≡ true
@@ -111,9 +194,9 @@ canSwap-iff p words m n i j =
     and-iff _ _ (and-iff _ _ (and-iff _ _ (and-iff _ _ (set-iff (wordOf words i) m) (clear-iff (wordOf words j) m))
     (set-iff (wordOf words j) n)) (clear-iff (wordOf words i) n)) (λ e. e, λ e. e)
 
-module _ (p : Plan) (count : ℕ → ℕ) (words : List ℕ) (feasible : Feasible p count words) (m n i j : ℕ)
+module _ (p : Plan) (shaped : Shaped p) (count : ℕ → ℕ) (words : List ℕ) (feasible : Feasible p count words) (m n i j : ℕ)
     (ml : m < machines p) (nl : n < machines p) (il : i < blockCount p) (jl : j < blockCount p) where
-  pub afterSwap-feasible : LocalSwap p words m n i j → Feasible p count (afterSwap words m n i j)
+  afterSwap-feasible : LocalSwap p words m n i j → Feasible p count (afterSwap words m n i j)
   afterSwap-feasible s =
       let each = afterSwap-each p words m n i j (s .i-on) (s .i-off) (s .j-on) (s .j-off) in
       record {
@@ -125,7 +208,30 @@ module _ (p : Plan) (count : ℕ → ℕ) (words : List ℕ) (feasible : Feasibl
         counted = λ b l. afterSwap-count p words m n i j (s .i-on) (s .i-off) (s .j-on) (s .j-off) ml nl b ∙ feasible .counted b l;
         spread = λ b l. each (λ c w. blockOf p c .minRacks ≤ domainsUsed p w) (s .i-spread) (s .j-spread) b (feasible .spread b l);
         fits = λ k l. rw (afterSwap-used p words m n i j (s .i-on) (s .i-off) (s .j-on) (s .j-off) il jl k) (feasible .fits k l);
+        apart = λ b l paired k kl. apart b l paired k (feasible .apart b l paired k kl) (ℕ-discrete k n) (ℕ-discrete k m);
       }
+    where
+      later : ℕ → ℕ → ℕ
+      later = held (afterSwap words m n i j)
+
+      apart : (b : ℕ) → b < blockCount p → isPaired p b ≡ true → (k : ℕ) → held words k b + held words k (partner p b) ≤ 1
+          → Dec (k ≡ n) → Dec (k ≡ m) → later k b + later k (partner p b) ≤ 1
+      apart b l paired k before (yes e) other =
+          rw e
+          (replaces p shaped i il (held words n) (later n) j (s .i-off) (s .j-on)
+          (afterSwap-held-target p words m n i j (s .i-on) (s .i-off) (s .j-on) (s .j-off))
+          (λ c. bit-le (wordOf (afterSwap words m n i j) c) n) (s .i-apart) b l paired (rw e at before))
+      apart b l paired k before (no e) (yes f) =
+          rw f
+          (replaces p shaped j jl (held words m) (later m) i (s .j-off) (s .i-on)
+          (afterSwap-held-source p words m n i j (s .i-on) (s .i-off) (s .j-on) (s .j-off))
+          (λ c. bit-le (wordOf (afterSwap words m n i j) c) m) (s .j-apart) b l paired (rw f at before))
+      apart b l paired k before (no e) (no f) =
+          leaves (held words k) (later k)
+          (λ c.
+          let h = rw (delta-other k n e, delta-other k m f) at (afterSwap-held p words m n i j (s .i-on) (s .i-off) (s .j-on) (s .j-off) k c) in
+          omega arith)
+          b (partner p b) before
 
   pub canSwap-local : (canSwap p words m n i j ≡ true) ↔ LocalSwap p words m n i j
   canSwap-local = (there, back)
@@ -150,6 +256,12 @@ module _ (p : Plan) (count : ℕ → ℕ) (words : List ℕ) (feasible : Feasibl
             lowers = (omega arith, omega arith);
             i-spread = rw (afterSwap-word-i p words m n i j i-on i-off j-on j-off) at (later .0 .0 .spread i il);
             j-spread = rw (afterSwap-word-j p words m n i j i-on i-off j-on j-off) at (later .0 .0 .spread j jl);
+            i-apart = λ own.
+                replaced p shaped i il (held words n) (held (afterSwap words m n i j) n) j i-off j-on
+                (afterSwap-held-target p words m n i j i-on i-off j-on j-off) own (later .0 .0 .apart i il own n nl);
+            j-apart = λ own.
+                replaced p shaped j jl (held words m) (held (afterSwap words m n i j) m) i j-off i-on
+                (afterSwap-held-source p words m n i j i-on i-off j-on j-off) own (later .0 .0 .apart j jl own m ml);
           }
 
       back : LocalSwap p words m n i j → canSwap p words m n i j ≡ true
@@ -170,8 +282,13 @@ pub after-feasible : (p : Plan) (count : ℕ → ℕ) (words : List ℕ) → Fea
 unfolding after
 after-feasible p count words feasible none h = absurd h
 after-feasible p count words feasible (move racks m n i) h =
-    afterMove-feasible p count words feasible m n i (h .0) (h .1) (h .2)
-    (canMove-local p count words feasible m n i (h .0) (h .1) (h .2) .0 (h .3))
+    let z = canMove-iff p words m n i .0 (h .3) in
+    feasible-same p _ count (afterMove words m n i)
+    (λ b l. afterMove-count p words m n i (z .0 .0 .0) (z .0 .0 .1) (h .0) (h .1) b ∙ feasible .counted b l)
+    (improves-iff p words (afterMove words m n i) m n .0 (z .1) .0 .0)
 after-feasible p count words feasible (swap racks m n i j) h =
-    afterSwap-feasible p count words feasible m n i j (h .0) (h .1) (h .2) (h .3)
-    (canSwap-local p count words feasible m n i j (h .0) (h .1) (h .2) (h .3) .0 (h .4))
+    let z = canSwap-iff p words m n i j .0 (h .4) in
+    feasible-same p _ count (afterSwap words m n i j)
+    (λ b l.
+    afterSwap-count p words m n i j (z .0 .0 .0 .0) (z .0 .1) (z .0 .0 .1) (z .0 .0 .0 .1) (h .0) (h .1) b ∙ feasible .counted b l)
+    (improves-iff p words (afterSwap words m n i j) m n .0 (z .1) .0 .0)

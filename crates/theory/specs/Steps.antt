@@ -4,7 +4,7 @@ use mathlib.Core.Bool.{true, false}
 use mathlib.Core.List.{List, [], _∷_}
 use mathlib.Core.Logic.{_⊎_, _↔_}
 use Prim.Native.Nat.{ℕ, suc, _+_, _<_, _≤_}
-use Rattle.model.specs.Plan.{Plan, machines, blockCount, blockOf}
+use Rattle.model.specs.Plan.{Plan, machines, blockCount, blockOf, isPaired, partner}
 use Rattle.model.specs.Placement.{wordOf, held, domainsUsed, used, shareOf, load}
 use Rattle.model.specs.Steps.{Step, none, move, swap, shifted, after, acrossRacks, canMove, canSwap, isStep, nextStep, AtRest, Run}
 
@@ -19,6 +19,8 @@ pub record LocalMove (p : Plan) (words : List ℕ) (m n i : ℕ) : Type 0 where
   pub room : used p words n < p .capacity
   pub lowers : Lowers p words m n (shareOf p words i) 0
   pub spread : blockOf p i .minRacks ≤ domainsUsed p (shifted (wordOf words i) m n)
+  -- n does not hold its partner
+  pub apart : isPaired p i ≡ true → held words n (partner p i) ≡ 0
 
 -- Swap(m, i, n, j), likewise.
 pub record LocalSwap (p : Plan) (words : List ℕ) (m n i j : ℕ) : Type 0 where
@@ -29,6 +31,9 @@ pub record LocalSwap (p : Plan) (words : List ℕ) (m n i j : ℕ) : Type 0 wher
   pub lowers : Lowers p words m n (shareOf p words i) (shareOf p words j)
   pub i-spread : blockOf p i .minRacks ≤ domainsUsed p (shifted (wordOf words i) m n)
   pub j-spread : blockOf p j .minRacks ≤ domainsUsed p (shifted (wordOf words j) n m)
+  -- n does not hold i's partner, nor m that of j, unless the two are each other's
+  pub i-apart : isPaired p i ≡ true → (partner p i ≡ j → ⊥) → held words n (partner p i) ≡ 0
+  pub j-apart : isPaired p j ≡ true → (partner p j ≡ i → ⊥) → held words m (partner p j) ≡ 0
 
 -- A lawful step: its machines and blocks are the plan's, it passes its test, and Move and Swap are for one rack, RackMove and RackSwap
 -- for two.
