@@ -1,21 +1,24 @@
 -- The numbers of a valid plan are in range, and its blocks' words give back what was put into them.
 -- Assumes nothing.
-use mathlib.Core.Path.{_≡_, ap, _∙_}
+use mathlib.Core.Path.{_≡_, refl, ap, sym, _∙_}
+use mathlib.Core.Bool.{Bool, true, false, cond, _||_}
 use mathlib.Core.List.{List}
-use Prim.Native.Nat.{ℕ, _≤_, _<_}
+use mathlib.Core.Logic.{inl, inr}
+use Prim.Native.Nat.{ℕ, zero, suc, _+_, _-_, _≤_, _<_}
 use native.Mathlib.Nat.{le-trans}
 use native.Mathlib.Omega.{arith}
 use lib.ListN.{getD}
-use Rattle.model.specs.Plan.{Plan, machines, maxReplicas, blockCount, blockOf, upper}
+use Rattle.order.proofs.Booleans.{no-contradiction, bool-cases}
+use Rattle.model.specs.Plan.{Plan, machines, maxReplicas, blockCount, blockOf, pairsNext, pairsBack, isPaired, partner, upper}
 use Rattle.model.specs.Replication.{FeasibleCounts, share}
 use Rattle.model.specs.Placement.{shareOf}
-use Rattle.theory.specs.Refusal.{ValidBlock, Valid}
-use Rattle.theory.proofs.Plan.{upper-max}
+use Rattle.theory.specs.Refusal.{ValidBlock, Shaped, Valid}
+use Rattle.theory.proofs.Plan.{partner-below, upper-max}
 use Rattle.theory.proofs.Replication.{feasibleCounts-range}
 use Rattle.theory.proofs.Placement.{shareOf-feasible}
 use Rattle.cluster.specs.declared.Cluster.{Cluster}
 use Rattle.cluster.specs.Cluster.{machinesIn, InRange, clusterOf, ClusterOf}
-use Rattle.cluster.specs.Blocks.{popularityIn, leastIn, spreadAsked, mostIn, shareIn, countIn, spreadIn, demandOf, DemandsOf, profileOf, ProfilesOf, PlacementOf}
+use Rattle.cluster.specs.Blocks.{linkOf, linkIn, linkedTo, mate, Linked, popularityIn, leastIn, spreadAsked, mostIn, shareIn, countIn, spreadIn, demandOf, DemandsOf, profileOf, ProfilesOf, PlacementOf}
 
 -- ── ClusterOf ──────────────────────────────────────────────────────────────────────────────────────────────────────────
 
@@ -52,6 +55,56 @@ module _ (p : Plan) (c : Cluster) (of : ClusterOf p c) where
   pub cluster-block : (i : ℕ) → i < c .blocks → ValidBlock p i
   cluster-block i l = of .valid .shaped .block i (rw (cluster-blocks) at l)
 
+-- ── linkOf ─────────────────────────────────────────────────────────────────────────────────────────────────────────────
+
+-- what a link says, by the two bytes that it goes by
+linkOf-cases : (p : Plan) (i : ℕ) → (linkOf p i < 4) × (1 ≤ i + linkOf p i) × (i + linkOf p i - 1 ≡ mate p i)
+unfolding linkOf mate isPaired partner pairsBack
+linkOf-cases p zero = go (pairsNext p 0)
+  where
+    go : (a : Bool)
+        → (cond a 2 1 < 4) × (1 ≤ 0 + cond a 2 1)
+        × (0 + cond a 2 1 - 1 ≡ cond (a || false) (cond a 1 (0 - 1)) 0)
+    go true = (omega arith, omega arith, refl)
+    go false = (omega arith, omega arith, refl)
+linkOf-cases p (suc i) = go (pairsNext p (suc i)) (pairsNext p i)
+  where
+    go : (a b : Bool)
+        → (cond a 2 (cond b 0 1) < 4) × (1 ≤ suc i + cond a 2 (cond b 0 1))
+        × (suc i + cond a 2 (cond b 0 1) - 1 ≡ cond (a || b) (cond a (suc (suc i)) (suc i - 1)) (suc i))
+    go true b = (omega arith, omega arith, omega arith)
+    go false true = (omega arith, omega arith, omega arith)
+    go false false = (omega arith, omega arith, omega arith)
+
+pub linkOf-narrow : (p : Plan) (i : ℕ) → linkOf p i < 4
+linkOf-narrow p i = linkOf-cases p i .0
+
+-- ── mate ───────────────────────────────────────────────────────────────────────────────────────────────────────────────
+
+pub mate-paired : (p : Plan) (i : ℕ) → isPaired p i ≡ true → mate p i ≡ partner p i
+unfolding mate
+mate-paired p i e = rw e
+
+pub mate-single : (p : Plan) (i : ℕ) → isPaired p i ≡ false → mate p i ≡ i
+unfolding mate
+mate-single p i e = rw e
+
+pub mate-below : (p : Plan) → Shaped p → (i : ℕ) → i < blockCount p → mate p i < blockCount p
+mate-below p shaped i l = elim (bool-cases (isPaired p i)) [
+  | inl e ↦ rw (mate-paired p i e) (partner-below p shaped i l e)
+  | inr e ↦ rw (mate-single p i e) l
+]
+
+-- a word that ends in the block's link names the block's mate
+module _ (p : Plan) (word i : ℕ) (ends : linkIn word ≡ linkOf p i) where
+  pub linkedTo-mate : linkedTo word i ≡ mate p i
+  linkedTo-mate = rw ends (linkOf-cases p i .2)
+
+  pub linked-mate : Shaped p → i < blockCount p → Linked (blockCount p) word i
+  linked-mate shaped l =
+      let cases = linkOf-cases p i in
+      record { some = rw ends (cases .1); below = omega (arith, ends, cases .1, cases .2, mate-below p shaped i l) }
+
 -- ── demandOf ───────────────────────────────────────────────────────────────────────────────────────────────────────────
 
 -- the numbers of a valid block fit eight bits each
@@ -70,19 +123,25 @@ module _ (p : Plan) (i : ℕ) (b : ValidBlock p i) where
 
   pub demandOf-popularity : popularityIn (demandOf p i) ≡ blockOf p i .popularity
   unfolding demandOf
-  demandOf-popularity = let l = least-narrow in let s = spread-narrow in let m = most-narrow in omega arith
+  demandOf-popularity =
+      let l = least-narrow in let s = spread-narrow in let m = most-narrow in let k = linkOf-narrow p i in omega arith
 
   pub demandOf-least : leastIn (demandOf p i) ≡ blockOf p i .minReplicas
   unfolding demandOf
-  demandOf-least = let l = least-narrow in let s = spread-narrow in let m = most-narrow in omega arith
+  demandOf-least =
+      let l = least-narrow in let s = spread-narrow in let m = most-narrow in let k = linkOf-narrow p i in omega arith
 
   pub demandOf-spread : spreadAsked (demandOf p i) ≡ blockOf p i .minRacks
   unfolding demandOf
-  demandOf-spread = let s = spread-narrow in let m = most-narrow in omega arith
+  demandOf-spread = let s = spread-narrow in let m = most-narrow in let k = linkOf-narrow p i in omega arith
 
   pub demandOf-most : mostIn (demandOf p i) ≡ upper p i
   unfolding demandOf
-  demandOf-most = let m = most-narrow in omega arith
+  demandOf-most = let m = most-narrow in let k = linkOf-narrow p i in omega arith
+
+pub demandOf-link : (p : Plan) (i : ℕ) → linkIn (demandOf p i) ≡ linkOf p i
+unfolding demandOf
+demandOf-link p i = let k = linkOf-narrow p i in omega arith
 
 -- ── DemandsOf ──────────────────────────────────────────────────────────────────────────────────────────────────────────
 
@@ -99,20 +158,27 @@ module _ (p : Plan) (c : Cluster) (demands : List ℕ) (of : DemandsOf p c deman
   pub demands-most : mostIn (getD demands i 0) ≡ upper p i
   demands-most = rw (of .are i l) (demandOf-most p i (cluster-block p c (of .cluster) i l))
 
+  pub demands-link : linkIn (getD demands i 0) ≡ linkOf p i
+  demands-link = rw (of .are i l) (demandOf-link p i)
+
 -- ── profileOf ──────────────────────────────────────────────────────────────────────────────────────────────────────────
 
 module _ (p : Plan) (count : ℕ → ℕ) (i : ℕ) (b : ValidBlock p i) (few : count i ≤ maxReplicas) where
   pub profileOf-share : shareIn (profileOf p count i) ≡ share (blockOf p i .popularity) (count i)
   unfolding profileOf
-  profileOf-share = let s = spread-narrow p i b in omega arith
+  profileOf-share = let s = spread-narrow p i b in let k = linkOf-narrow p i in omega arith
 
   pub profileOf-count : countIn (profileOf p count i) ≡ count i
   unfolding profileOf
-  profileOf-count = let s = spread-narrow p i b in omega arith
+  profileOf-count = let s = spread-narrow p i b in let k = linkOf-narrow p i in omega arith
 
   pub profileOf-spread : spreadIn (profileOf p count i) ≡ blockOf p i .minRacks
   unfolding profileOf
-  profileOf-spread = let s = spread-narrow p i b in omega arith
+  profileOf-spread = let s = spread-narrow p i b in let k = linkOf-narrow p i in omega arith
+
+pub profileOf-link : (p : Plan) (count : ℕ → ℕ) (i : ℕ) → linkIn (profileOf p count i) ≡ linkOf p i
+unfolding profileOf
+profileOf-link p count i = let k = linkOf-narrow p i in omega arith
 
 -- ── ProfilesOf ─────────────────────────────────────────────────────────────────────────────────────────────────────────
 
@@ -132,6 +198,11 @@ module _ (p : Plan) (count : ℕ → ℕ) (c : Cluster) (profiles : List ℕ) (o
 
   pub profiles-spread : spreadIn (getD profiles i 0) ≡ blockOf p i .minRacks
   profiles-spread = rw (of .are i l) (profileOf-spread p count i (cluster-block p c (of .cluster) i l) count-few)
+
+pub profiles-mate : (p : Plan) (count : ℕ → ℕ) (c : Cluster) (profiles : List ℕ) → ProfilesOf p count c profiles
+    → (i : ℕ) → i < c .blocks → linkedTo (getD profiles i 0) i ≡ mate p i
+profiles-mate p count c profiles of i l =
+    linkedTo-mate p (getD profiles i 0) i (rw (of .are i l) (profileOf-link p count i))
 
 -- ── PlacementOf ────────────────────────────────────────────────────────────────────────────────────────────────────────
 

@@ -1,10 +1,10 @@
 // A cluster's numbers, and those of its blocks in one word each, as they travel from the reader to every inner function.
 ghost use mathlib.Core.Path.{_≡_};
-ghost use Prim.Native.Nat.{_≤_, _<_};
-ghost use Rattle.model.specs.Refusal.{maxMachines};
+ghost use Prim.Native.Nat.{_+_, _≤_, _<_};
+ghost use Rattle.model.specs.Refusal.{maxMachines, maxBlocks};
 ghost use Rattle.theory.specs.Widths.{popularityBound, shareBound};
 ghost use Rattle.cluster.specs.Cluster.{machinesIn, InRange};
-ghost use Rattle.cluster.specs.Blocks.{demandWord, popularityIn, leastIn, spreadAsked, mostIn, profileWord, shareIn, countIn, spreadIn};
+ghost use Rattle.cluster.specs.Blocks.{linkIn, linkedTo, demandWord, popularityIn, leastIn, spreadAsked, mostIn, profileWord, shareIn, countIn, spreadIn};
 
 // The most machines and the most blocks of a plan.
 pub const MAX_MACHINES: usize = 64;
@@ -30,59 +30,75 @@ impl Cluster {
 }
 
 // What the plan demands of a block, in one word.
-pub fn demand(popularity: u64, least: usize, spread: usize, most: usize) -> u64
-    requires { ⌜ (popularity < popularityBound) × (least < 256) × (spread < 256) × (most < 256) ⌝ }
-    ensures { λ r. ⌜ r ≡ demandWord popularity least spread most ⌝ }
+pub fn demand(popularity: u64, least: usize, spread: usize, most: usize, link: usize) -> u64
+    requires { ⌜ (popularity < popularityBound) × (least < 256) × (spread < 256) × (most < 256) × (link < 4) ⌝ }
+    ensures { λ r. ⌜ r ≡ demandWord popularity least spread most link ⌝ }
 {
-    ((popularity * 256 + least as u64) * 256 + spread as u64) * 256 + most as u64
+    (((popularity * 256 + least as u64) * 256 + spread as u64) * 256 + most as u64) * 4
+        + link as u64
 }
 
 pub fn popularity_of(demand: u64) -> u64
     ensures { λ r. ⌜ r ≡ popularityIn demand ⌝ }
 {
-    demand / 16777216
+    demand / 67108864
 }
 
 pub fn least_of(demand: u64) -> usize
     ensures { λ r. ⌜ r ≡ leastIn demand ⌝ }
 {
-    (demand / 65536 % 256) as usize
+    (demand / 262144 % 256) as usize
 }
 
 pub fn spread_asked(demand: u64) -> usize
     ensures { λ r. ⌜ r ≡ spreadAsked demand ⌝ }
 {
-    (demand / 256 % 256) as usize
+    (demand / 1024 % 256) as usize
 }
 
 pub fn most_of(demand: u64) -> usize
     ensures { λ r. ⌜ r ≡ mostIn demand ⌝ }
 {
-    (demand % 256) as usize
+    (demand / 4 % 256) as usize
 }
 
-// A block's share, count and spread, in one word.
-pub fn profile(share: u64, count: usize, spread: usize) -> u64
-    requires { ⌜ (share < shareBound) × (count < 256) × (spread < 256) ⌝ }
-    ensures { λ r. ⌜ r ≡ profileWord share count spread ⌝ }
+// The link to its partner, of a demand or a profile.
+pub fn link_of(word: u64) -> usize
+    ensures { λ r. ⌜ (r ≡ linkIn word) × (r < 4) ⌝ }
 {
-    (share * 256 + count as u64) * 256 + spread as u64
+    (word % 4) as usize
+}
+
+// The block that the link of block i names: its partner, or i itself where it has none.
+pub fn linked_to(word: u64, i: usize) -> usize
+    requires { ⌜ (1 ≤ i + linkIn word) × (i < maxBlocks) ⌝ }
+    ensures { λ r. ⌜ r ≡ linkedTo word i ⌝ }
+{
+    i + link_of(word) - 1
+}
+
+// A block's share, count, spread and link, in one word.
+pub fn profile(share: u64, count: usize, spread: usize, link: usize) -> u64
+    requires { ⌜ (share < shareBound) × (count < 256) × (spread < 256) × (link < 4) ⌝ }
+    ensures { λ r. ⌜ r ≡ profileWord share count spread link ⌝ }
+{
+    ((share * 256 + count as u64) * 256 + spread as u64) * 4 + link as u64
 }
 
 pub fn share_of(profile: u64) -> u64
     ensures { λ r. ⌜ r ≡ shareIn profile ⌝ }
 {
-    profile / 65536
+    profile / 262144
 }
 
 pub fn count_of(profile: u64) -> usize
     ensures { λ r. ⌜ r ≡ countIn profile ⌝ }
 {
-    (profile / 256 % 256) as usize
+    (profile / 1024 % 256) as usize
 }
 
 pub fn spread_of(profile: u64) -> usize
     ensures { λ r. ⌜ r ≡ spreadIn profile ⌝ }
 {
-    (profile % 256) as usize
+    (profile / 4 % 256) as usize
 }
