@@ -19,6 +19,7 @@ use Rattle.model.specs.Claims.{Request, askCheck, askStep, askRun, Call, Reply,
 use Rattle.theory.specs.Refusal.{Valid}
 use Rattle.theory.specs.Steps.{Taken, none-taken}
 use Rattle.theory.proofs.Refusal.{accepted-laws}
+use Rattle.theory.proofs.Replication.{chosen-partner}
 use Rattle.theory.proofs.StepsNext.{taken-past, taken-feasible, nextStep-taken, run-laws}
 use Rattle.theory.proofs.Placement.{feasible-length}
 use Rattle.theory.proofs.Calls.{placementRefusal-passes, onPlan-made}
@@ -27,14 +28,16 @@ use Rattle.theorems.proofs.Bounds.{one-spread, larger-spreads}
 use Rattle.theorems.proofs.Agreement.{Agree, agree-feasible, agree-rest}
 
 -- at rest the placement is settled with no slack
-rest-bounded : (p : Plan) → Valid p → (count : ℕ → ℕ) (words : List ℕ) → Feasible p count words → AtRest p words → Bounded p words
-rest-bounded p valid count words f rest =
-    let settled = rest-settled p count words f rest in
+rest-bounded : (p : Plan) → Valid p → (words : List ℕ) → Feasible p (chosen p) words → AtRest p words → Bounded p words
+rest-bounded p valid words f rest =
+    let count = chosen p in
+    let even = chosen-partner p valid in
+    let settled = rest-settled p (valid .shaped) count words f rest in
     record {
       one-spread = λ count' other f' one.
-          rw (add-zero (maxShare p words)) at (one-spread p words other count count' 0 valid f settled f' one);
+          rw (add-zero (maxShare p words)) at (one-spread p words other count count' 0 valid f even settled f' one);
       larger-spreads = λ count' other f' room.
-          rw (add-zero (maxShare p words)) at (larger-spreads p words other count count' 0 valid f settled f' room);
+          rw (add-zero (maxShare p words)) at (larger-spreads p words other count count' 0 valid f even settled f' room);
     }
 
 -- a refused call leaves the words
@@ -112,7 +115,7 @@ module _ (bytes : List ℕ) (p : Plan) (reads : judge bytes ≡ accepted p) (bef
     module _ (lent : ℕ) (enough : blockCount p ≤ lent) where
       lent-feasible : Feasible p (chosen p) (take lent words)
       lent-feasible =
-          agree-feasible p words (take lent words) (λ i l. sym (getD-take lent words i 0 (omega arith))) (chosen p) (held .feasible)
+          agree-feasible p (valid .shaped) words (take lent words) (λ i l. sym (getD-take lent words i 0 (omega arith))) (chosen p) (held .feasible)
 
       lent-passes : placementRefusal (take lent words) p ≡ 0
       lent-passes = placementRefusal-passes p valid (take lent words) lent-feasible
@@ -129,8 +132,8 @@ module _ (bytes : List ℕ) (p : Plan) (reads : judge bytes ≡ accepted p) (bef
                 ∙ sym (past (take lent words) lent-feasible)
                 ∙ ap (drop (blockCount p)) (take-append-drop lent words)
                 ∙ held .beyond;
-            resting = λ says. agree-rest p later joined same (chosen p) feasible (rests says);
-            bounded = rest-bounded p valid (chosen p) joined joined-feasible;
+            resting = λ says. agree-rest p (valid .shaped) later joined same (chosen p) feasible (rests says);
+            bounded = rest-bounded p valid joined joined-feasible;
           }
         where
           joined : List ℕ
@@ -145,7 +148,7 @@ module _ (bytes : List ℕ) (p : Plan) (reads : judge bytes ≡ accepted p) (bef
               sym (List·getD-append later (drop lent words) 0 i (omega arith))
 
           joined-feasible : Feasible p (chosen p) joined
-          joined-feasible = agree-feasible p later joined same (chosen p) feasible
+          joined-feasible = agree-feasible p (valid .shaped) later joined same (chosen p) feasible
 
           past : (s : List ℕ) → Feasible p (chosen p) s
               → drop (blockCount p) (s ++ drop lent words) ≡ drop (blockCount p) s ++ drop lent words
@@ -194,6 +197,6 @@ claim bytes p reads words feasible calls allowed =
       feasible = feasible;
       beyond = refl;
       resting = λ says. absurd (checked-silent says);
-      bounded = rest-bounded p (accepted-laws bytes p reads .valid) (chosen p) words feasible;
+      bounded = rest-bounded p (accepted-laws bytes p reads .valid) words feasible;
     })
     allowed

@@ -42,7 +42,7 @@ first-made bytes lent blocks = by-verdict (judge bytes) refl
 filled-feasible : (p : Plan) → Valid p → (lent : List ℕ) → Feasible p (chosen p) (filled (blockCount p) (firstWord p) lent)
 unfolding firstPlacement
 filled-feasible p valid lent =
-    agree-feasible p (firstPlacement p) (filled (blockCount p) (firstWord p) lent)
+    agree-feasible p (valid .shaped) (firstPlacement p) (filled (blockCount p) (firstWord p) lent)
     (λ i l. getD-table (blockCount p) (firstWord p) i 0 l ∙ sym (getD-filled (blockCount p) (firstWord p) lent i 0 l))
     (chosen p) (firstPlacement-feasible p valid)
 

@@ -47,7 +47,7 @@ total-cases p = go (bool-cases (ltb (p .budget) (minTotal p))) (bool-cases (ltb 
     go (inr a) (inl b) = inl (inr (rw (a, b)), (omega (arith, ltb-true)))
     go (inr a) (inr b) = inr (rw (a, b))
 
--- A code past 9 is that of rows 10 and 11. They give 10 or 11 exactly where the sum of least copies is above the budget or above
+-- A code past 17 is that of rows 10 and 11. They give 10 or 11 exactly where the sum of least copies is above the budget or above
 -- M × C, so above the smaller of the two. Lawful counts are at least the least copies and sum to at most that, so a plan that is
 -- turned back has no lawful placement. A plan that is not turned back has one: its least copies are lawful counts, and laid on
 -- consecutive positions they make a lawful placement.

@@ -4,6 +4,7 @@ pub mod Exact
 pub mod Settled
 pub mod Potential
 pub mod TwoMachines
+pub mod Items
 pub mod Bounds
 pub mod Agreement
 pub mod Claim

@@ -8,10 +8,10 @@ use lib.ListN.{length, getD}
 use Rattle.order.specs.Sum.{sum}
 use Rattle.order.specs.Table.{table}
 use Rattle.order.specs.Search.{firstUp, least, allb, largest, smallest}
-use Rattle.model.specs.Plan.{Plan, blockCount, blockOf, upper, minTotal, field, formatOf, formatIn, recordAt, blockIn, planIn}
+use Rattle.model.specs.Plan.{Plan, blockCount, blockOf, upper, minTotal, field, formatOf, formatIn, recordAt, blockIn, planIn, isPaired, pairsBack, pairsNext, partner}
 use Rattle.model.specs.Refusal.{check1, refusal, Verdict, judge}
 use Rattle.model.specs.Replication.{limit, share, need, chosen}
-use Rattle.model.specs.Placement.{bit, replicas, replicasIn, domainsUsed, used, allWithin, allSpread, allFit, countsFeasible, isFeasible, position, laidWord, firstWord, firstPlacement, shareOf, load, maxLoad, minLoad, totalLoad, maxShare}
+use Rattle.model.specs.Placement.{bit, replicas, replicasIn, domainsUsed, used, allWithin, allSpread, allFit, countsFeasible, isFeasible, position, laidWord, firstWord, firstPlacement, shareOf, load, maxLoad, minLoad, totalLoad, maxShare, allApart, keptApart}
 use Rattle.model.specs.Steps.{shifted, afterMove, afterSwap, after, improves, canMove, canSwap, pairs, nextMove, nextSwap, nextStep, Run, run}
 use Rattle.model.specs.Calls.{reportOf}
 use Rattle.model.specs.Listing.{digits, decimal, numberField, fields, line, planLine, holders, blockLine, lines, lastLine, listingOf, refusedLine, printedOf, printed, stepLimit, listingRoom}
@@ -30,11 +30,11 @@ runLines p r = planLine p ++ lines (blockCount p) (blockLine p (r .words)) ++ la
 
 -- plan H's first placement, at rest
 H-first : firstPlacement (planIn plan-H) ≡ 15 ∷ 5 ∷ 2 ∷ []
-unfolding firstPlacement planIn blockIn formatOf field upper chosen position laidWord firstWord need share sum table least plan-H
+unfolding firstPlacement planIn blockIn formatOf field upper isPaired pairsBack pairsNext chosen position laidWord firstWord need share sum table least plan-H
 H-first = rw (figures .H) refl
 
 H-lines : runLines (planIn plan-H) (run (planIn plan-H) stepLimit (15 ∷ 5 ∷ 2 ∷ [])) ≡ listing-H
-unfolding runLines lastLine planLine blockLine lines holders line fields numberField decimal digits reportOf maxLoad minLoad totalLoad maxShare planIn blockIn formatOf field upper minTotal shifted afterMove afterSwap after improves canMove canSwap pairs nextMove nextSwap nextStep run bit replicas replicasIn domainsUsed used allWithin allSpread allFit countsFeasible isFeasible shareOf load largest smallest share limit sum table allb firstUp plan-H listing-H
+unfolding runLines lastLine planLine blockLine lines holders line fields numberField decimal digits reportOf maxLoad minLoad totalLoad maxShare planIn blockIn formatOf field upper isPaired pairsBack pairsNext minTotal shifted afterMove afterSwap after improves canMove canSwap pairs nextMove nextSwap nextStep run bit replicas replicasIn domainsUsed used allWithin allSpread allFit allApart keptApart partner countsFeasible isFeasible shareOf load largest smallest share limit sum table allb firstUp plan-H listing-H
 H-lines = refl
 
 H-printed : printed plan-H stepLimit ≡ listing-H
@@ -65,7 +65,7 @@ listing-laws =
     }
   where
     go : (bytes : List ℕ) → ((i : ℕ) → getD bytes i 0 < 256) → (budget : ℕ) → budget < 2 ^ 32
-        → (code : ℕ) → refusal bytes ≡ code → code ≤ 11 → length (printed bytes budget) ≤ listingRoom
+        → (code : ℕ) → refusal bytes ≡ code → code ≤ 17 → length (printed bytes budget) ≤ listingRoom
     go bytes h budget l zero e m =
         rw (printed-accepted bytes budget (planIn bytes) (judge-accepted bytes e))
         (listingOf-fits (planIn bytes) (refusal-zero bytes e) (share-fits bytes h (chosen (planIn bytes))) budget l)

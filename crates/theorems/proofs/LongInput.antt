@@ -10,10 +10,10 @@ use borrow.Author.Tests.{lt-ltb, le-ltb, ne-eqb}
 use lib.Dec.{ltb, eqb}
 use lib.ListN.{length, take}
 use lib.Seq.{length-take-le}
-use Rattle.model.specs.Plan.{field, markIn, versionIn, racksIn, rackSizeIn, capacityIn, blockCountIn, formatOf, recordAt, planIn}
+use Rattle.model.specs.Plan.{field, markIn, versionIn, racksIn, rackSizeIn, capacityIn, blockCountIn, latestVersion, formatOf, recordAt, planIn}
 use Rattle.model.specs.Refusal.{mark, maxMachines, maxCapacity, maxBlocks, check1, check2, check3, check4, check5, check6, check7, planRefusal, refusal, Verdict}
 use Rattle.model.specs.Listing.{printed, printedOf, inputRoom}
-use Rattle.theory.proofs.Plan.{field-take}
+use Rattle.theory.proofs.Plan.{field-take, formatOf-longest}
 use Rattle.theory.proofs.Refusal.{refuseIf-all, judge-refused}
 use Rattle.theorems.specs.Listing.{LongInput}
 
@@ -26,17 +26,19 @@ long-code : (found version racks size capacity count : ℕ) → 1 ≤ longRefusa
 unfolding longRefusal check2 check3 check4 check5 check6
 long-code found version racks size capacity count =
     refuseIf-all (λ code. 1 ≤ code) (not (eqb found mark)) 2 _ (omega arith)
-    (refuseIf-all (λ code. 1 ≤ code) (not (eqb version 1)) 3 _ (omega arith)
+    (refuseIf-all (λ code. 1 ≤ code) (eqb version 0 || ltb latestVersion version) 3 _ (omega arith)
     (refuseIf-all (λ code. 1 ≤ code) (eqb racks 0 || eqb size 0 || ltb maxMachines (racks * size)) 4 _ (omega arith)
     (refuseIf-all (λ code. 1 ≤ code) (eqb capacity 0 || ltb maxCapacity capacity) 5 _ (omega arith)
     (refuseIf-all (λ code. 1 ≤ code) (ltb maxBlocks count) 6 7 (omega arith) (omega arith)))))
 
 -- past check 6, check 7 refuses
 past-six : (version size count later : ℕ) → inputRoom ≤ size → check6 count (check7 (formatOf version) size count later) ≡ check6 count 7
-unfolding check6 check7 formatOf inputRoom
+unfolding check6 check7 inputRoom
 past-six version size count later l = elim (decLt maxBlocks count) [
   | yes m ↦ rw (lt-ltb maxBlocks count m)
-  | no m ↦ rw (le-ltb maxBlocks count (omega arith), ne-eqb size (recordAt (formatOf version) count) (λ e. omega arith))
+  | no m ↦
+      let longest = formatOf-longest version count maxBlocks (omega arith) in
+      rw (le-ltb maxBlocks count (omega arith), ne-eqb size (recordAt (formatOf version) count) (λ e. omega arith))
 ]
 
 long-refusal : (bytes : List ℕ) → inputRoom ≤ length bytes

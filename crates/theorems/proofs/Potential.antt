@@ -10,35 +10,43 @@ use Rattle.order.proofs.Booleans.{bool-cases}
 use Rattle.order.proofs.SumChanges.{squares-fall}
 use Rattle.model.specs.Plan.{Plan, machines, blockCount}
 use Rattle.model.specs.Placement.{wordOf, Feasible, shareOf, load}
-use Rattle.model.specs.Steps.{none, move, swap, afterMove, afterSwap, after, isStep, nextStep, run, potential}
-use Rattle.theory.specs.Steps.{LocalMove, LocalSwap, Taken, none-taken, one-more}
+use Rattle.model.specs.Steps.{none, move, swap, afterMove, afterSwap, after, isStep, nextStep, run, potential, canMove, canSwap}
+use Rattle.theory.specs.Steps.{Taken, none-taken, one-more}
 use Rattle.theory.proofs.Placement.{bit-apart}
 use Rattle.theory.proofs.Steps.{afterMove-load-source, afterMove-load-target, afterMove-load-else, afterSwap-load-source, afterSwap-load-target, afterSwap-load-else}
-use Rattle.theory.proofs.StepsLocal.{canMove-local, canSwap-local}
+use Rattle.theory.proofs.StepsLocal.{canMove-lowers, canSwap-lowers}
 use Rattle.theory.proofs.StepsNext.{nextStep-lawful, nextStep-feasible, run-laws, run-feasible}
 use Rattle.theorems.specs.Potential.{StepLowers, RunRests}
 
 module _ (p : Plan) (words : List ℕ) (m n i : ℕ) (ml : m < machines p) (nl : n < machines p) (il : i < blockCount p) where
-  move-lowers : LocalMove p words m n i → potential p (afterMove words m n i) + 2 ≤ potential p words
+  move-lowers : canMove p words m n i ≡ true → potential p (afterMove words m n i) + 2 ≤ potential p words
   unfolding potential
-  move-lowers s =
-      let source = afterMove-load-source p words m n i (s .on) (s .off) ml nl il in
-      let target = afterMove-load-target p words m n i (s .on) (s .off) ml nl il in
-      let lowers = s .lowers in
+  move-lowers can =
+      let told = canMove-lowers p words m n i ml nl il can in
+      let on = told .0 in
+      let off = told .1 in
+      let source = afterMove-load-source p words m n i on off ml nl il in
+      let target = afterMove-load-target p words m n i on off ml nl il in
+      let lowers = told .2 in
       squares-fall (machines p) m n (shareOf p words i) (load p words) (load p (afterMove words m n i)) ml nl
-      (bit-apart (wordOf words i) m n (s .on) (s .off)) source target
-      (λ k l am an. afterMove-load-else p words m n i (s .on) (s .off) ml nl il k am an) (s .lowers .0) (omega arith)
+      (bit-apart (wordOf words i) m n on off) source target
+      (λ k l am an. afterMove-load-else p words m n i on off ml nl il k am an) (lowers .0) (omega arith)
 
-  swap-lowers : (j : ℕ) → j < blockCount p → LocalSwap p words m n i j
+  swap-lowers : (j : ℕ) → j < blockCount p → canSwap p words m n i j ≡ true
       → potential p (afterSwap words m n i j) + 2 ≤ potential p words
   unfolding potential
-  swap-lowers j jl s =
-      let source = afterSwap-load-source p words m n i j (s .i-on) (s .i-off) (s .j-on) (s .j-off) ml nl il jl in
-      let target = afterSwap-load-target p words m n i j (s .i-on) (s .i-off) (s .j-on) (s .j-off) ml nl il jl in
-      let lowers = s .lowers in
+  swap-lowers j jl can =
+      let told = canSwap-lowers p words m n i j ml nl il jl can in
+      let i-on = told .0 in
+      let i-off = told .1 in
+      let j-on = told .2 in
+      let j-off = told .3 in
+      let source = afterSwap-load-source p words m n i j i-on i-off j-on j-off ml nl il jl in
+      let target = afterSwap-load-target p words m n i j i-on i-off j-on j-off ml nl il jl in
+      let lowers = told .4 in
       squares-fall (machines p) m n (shareOf p words i - shareOf p words j) (load p words) (load p (afterSwap words m n i j)) ml nl
-      (bit-apart (wordOf words i) m n (s .i-on) (s .i-off)) (omega arith) (omega arith)
-      (λ k l am an. afterSwap-load-else p words m n i j (s .i-on) (s .i-off) (s .j-on) (s .j-off) ml nl il jl k am an)
+      (bit-apart (wordOf words i) m n i-on i-off) (omega arith) (omega arith)
+      (λ k l am an. afterSwap-load-else p words m n i j i-on i-off j-on j-off ml nl il jl k am an)
       (omega arith) (omega arith)
 
 -- A step takes d, a share or the difference of two, above 0, from m to n, and n ends below where m was: L(n) + d < L(m). The two
@@ -47,9 +55,9 @@ pub step-lowers : StepLowers
 unfolding after
 step-lowers p count words feasible none h = absurd h
 step-lowers p count words feasible (move racks m n i) (ml, nl, il, can, across) =
-    move-lowers p words m n i ml nl il (canMove-local p count words feasible m n i ml nl il .0 can)
+    move-lowers p words m n i ml nl il can
 step-lowers p count words feasible (swap racks m n i j) (ml, nl, il, jl, can, across) =
-    swap-lowers p words m n i ml nl il j jl (canSwap-local p count words feasible m n i j ml nl il jl .0 can)
+    swap-lowers p words m n i ml nl il j jl can
 
 module _ (p : Plan) (count : ℕ → ℕ) where
   next-lowers : (words : List ℕ) → Feasible p count words → isStep (nextStep p words) ≡ true

@@ -8,33 +8,34 @@ use native.Mathlib.Omega.{arith}
 use Rattle.model.specs.Plan.{Plan}
 use Rattle.model.specs.Placement.{Feasible, shareOf, load}
 use Rattle.model.specs.Steps.{Step, none, move, swap, acrossRacks, AtRest}
+use Rattle.theory.specs.Refusal.{Shaped}
 use Rattle.theory.specs.Steps.{Lawful}
 use Rattle.theory.proofs.StepsLocal.{canMove-local, canSwap-local}
 use Rattle.theory.proofs.StepsNext.{nextStep-laws}
 use Rattle.theorems.specs.Bounds.{Settled}
 
-module _ (p : Plan) (count : ℕ → ℕ) (words : List ℕ) (feasible : Feasible p count words) where
+module _ (p : Plan) (shaped : Shaped p) (count : ℕ → ℕ) (words : List ℕ) (feasible : Feasible p count words) where
   pub rest-settled : AtRest p words → Settled p words 0
   rest-settled rest =
       record {
-        no-move = λ m n i ml nl il on off room positive spread.
+        no-move = λ m n i ml nl il on off room positive spread apart.
             no-gap (load p words m) (load p words n + shareOf p words i) (λ lower.
             none-left (move (acrossRacks p m n) m n i) (
               ml,
               nl,
               il,
-              canMove-local p count words feasible m n i ml nl il .1
-                  (record { on = on; off = off; room = room; lowers = (positive, omega arith); spread = spread }),
+              canMove-local p shaped count words feasible m n i ml nl il .1
+                  (record { on = on; off = off; room = room; lowers = (positive, omega arith); spread = spread; apart = apart }),
               refl,
             ));
-        no-swap = λ m n i j ml nl il jl i-on i-off j-on j-off gain i-spread j-spread.
+        no-swap = λ m n i j ml nl il jl i-on i-off j-on j-off gain i-spread j-spread i-apart j-apart.
             no-gap (load p words m + shareOf p words j) (load p words n + shareOf p words i) (λ lower.
             none-left (swap (acrossRacks p m n) m n i j) (
               ml,
               nl,
               il,
               jl,
-              canSwap-local p count words feasible m n i j ml nl il jl .1
+              canSwap-local p shaped count words feasible m n i j ml nl il jl .1
                   (record {
                     i-on = i-on;
                     i-off = i-off;
@@ -43,6 +44,8 @@ module _ (p : Plan) (count : ℕ → ℕ) (words : List ℕ) (feasible : Feasibl
                     lowers = (gain, lower);
                     i-spread = i-spread;
                     j-spread = j-spread;
+                    i-apart = i-apart;
+                    j-apart = j-apart;
                   }),
               refl,
             ));
@@ -60,12 +63,13 @@ module _ (p : Plan) (count : ℕ → ℕ) (words : List ℕ) (feasible : Feasibl
       none-left : (s : Step) → Lawful p words s → ⊥
       none-left none h = h
       none-left (move racks m n i) (ml, nl, il, can, across) =
-          let s = canMove-local p count words feasible m n i ml nl il .0 can in
-          omega (arith, s .lowers, settled .no-move m n i ml nl il (s .on) (s .off) (s .room) (s .lowers .0) (s .spread))
+          let s = canMove-local p shaped count words feasible m n i ml nl il .0 can in
+          omega (arith, s .lowers, settled .no-move m n i ml nl il (s .on) (s .off) (s .room) (s .lowers .0) (s .spread) (s .apart))
       none-left (swap racks m n i j) (ml, nl, il, jl, can, across) =
-          let s = canSwap-local p count words feasible m n i j ml nl il jl .0 can in
+          let s = canSwap-local p shaped count words feasible m n i j ml nl il jl .0 can in
           omega (
             arith,
             s .lowers,
-            settled .no-swap m n i j ml nl il jl (s .i-on) (s .i-off) (s .j-on) (s .j-off) (s .lowers .0) (s .i-spread) (s .j-spread),
+            settled .no-swap m n i j ml nl il jl (s .i-on) (s .i-off) (s .j-on) (s .j-off) (s .lowers .0) (s .i-spread) (s .j-spread)
+                (s .i-apart) (s .j-apart),
           )

@@ -11,10 +11,10 @@ use Rattle.order.specs.Sum.{sum}
 use Rattle.order.specs.Table.{table}
 use Rattle.order.specs.Search.{firstUp, least, allb, largest}
 use Rattle.order.proofs.Extremes.{largest-term, sum-largest}
-use Rattle.model.specs.Plan.{blockCount, blockOf, upper, minTotal, field, formatOf, blockIn, planIn}
-use Rattle.model.specs.Refusal.{check1, check2, check3, check4, check5, check6, check7, check8, check9, blockRefusal, blocksRefusal, check10, check11, check12, planRefusal, refusal, judge, accepted}
+use Rattle.model.specs.Plan.{blockCount, blockOf, upper, minTotal, field, formatOf, blockIn, planIn, isPaired, pairsBack, pairsNext, partner}
+use Rattle.model.specs.Refusal.{check1, check2, check3, check4, check5, check6, check7, check8, check9, blockRefusal, blocksRefusal, check10, check11, check12, planRefusal, refusal, judge, accepted, pairsRefusal, pairRefusal, check17, alike}
 use Rattle.model.specs.Replication.{limit, unit, share, need, reachable, figure, chosen}
-use Rattle.model.specs.Placement.{bit, replicas, replicasIn, domainsUsed, used, Feasible, allWithin, allSpread, allFit, countsFeasible, isFeasible, shareOf, load, maxLoad, totalLoad}
+use Rattle.model.specs.Placement.{bit, replicas, replicasIn, domainsUsed, used, Feasible, allWithin, allSpread, allFit, countsFeasible, isFeasible, shareOf, load, maxLoad, totalLoad, allApart, keptApart}
 use Rattle.model.specs.Steps.{Step, none, move, swap, shifted, afterMove, afterSwap, after, improves, canMove, canSwap, pairs, nextMove, nextSwap, nextStep, Run, run}
 use Rattle.model.specs.Calls.{allCounted, placementRefusal, onPlacement, checkCall, stepCall, runCall}
 use Rattle.theory.specs.Refusal.{Valid}
@@ -22,14 +22,14 @@ use Rattle.theory.specs.Steps.{Lawful}
 use Rattle.theory.proofs.Refusal.{accepted-laws}
 use Rattle.theory.proofs.Replication.{figure-at}
 use Rattle.theory.proofs.Steps.{afterMove-load-else, afterSwap-load-else}
-use Rattle.theory.proofs.StepsLocal.{canMove-local, canSwap-local}
+use Rattle.theory.proofs.StepsLocal.{canMove-lowers, canSwap-lowers}
 use Rattle.theory.proofs.StepsNext.{run-none}
 use Rattle.theory.proofs.Calls.{onPlan-made, placementRefusal-feasible}
 use Rattle.theorems.specs.Ties.{plan-tied, tied, sixes, fours, Ties}
 use Rattle.theorems.proofs.TotalLoad.{loads-total}
 
 accepts : judge plan-tied ≡ accepted tied
-unfolding judge refusal check1 check2 check3 check4 check5 check6 check7 planRefusal blocksRefusal blockRefusal check8 check9 check10 check11 planIn blockIn formatOf field upper minTotal sum table firstUp plan-tied
+unfolding judge refusal check1 check2 check3 check4 check5 check6 check7 planRefusal blocksRefusal blockRefusal check8 check9 pairsRefusal pairRefusal check17 alike check10 check11 planIn blockIn formatOf field upper isPaired pairsBack pairsNext minTotal sum table firstUp plan-tied
 accepts = refl
 
 valid : Valid tied
@@ -37,11 +37,11 @@ valid = accepted-laws plan-tied tied accepts .valid
 
 -- the figure is one read, which twelve copies reach
 figure-tied : figure tied ≡ 840
-unfolding reachable need share limit upper sum least allb
+unfolding reachable need share limit upper isPaired pairsBack pairsNext sum least allb
 figure-tied = figure-at tied valid 839 refl refl
 
 passes : placementRefusal sixes tied ≡ 0
-unfolding placementRefusal allCounted check12 allWithin allSpread allFit used replicas replicasIn domainsUsed chosen need share upper bit sum least allb
+unfolding placementRefusal allCounted check12 allWithin allSpread allFit allApart keptApart partner used replicas replicasIn domainsUsed chosen need share upper isPaired pairsBack pairsNext bit sum least allb
 passes = rw figure-tied refl
 
 feasible : Feasible tied (chosen tied) sixes
@@ -86,15 +86,15 @@ none-lowers : (s : Step) → Lawful tied sixes s → maxLoad tied sixes ≤ maxL
 unfolding after
 none-lowers none h = absurd h
 none-lowers (move racks m n i) (ml, nl, il, can, across) =
-    let s = canMove-local tied (chosen tied) sixes feasible m n i ml nl il .0 can in
+    let s = canMove-lowers tied sixes m n i ml nl il can in
     still (afterMove sixes m n i)
-    (keeps m n ml (omega (arith, s .lowers)) (load tied (afterMove sixes m n i))
-    (afterMove-load-else tied sixes m n i (s .on) (s .off) ml nl il))
+    (keeps m n ml (omega (arith, s .2)) (load tied (afterMove sixes m n i))
+    (afterMove-load-else tied sixes m n i (s .0) (s .1) ml nl il))
 none-lowers (swap racks m n i j) (ml, nl, il, jl, can, across) =
-    let s = canSwap-local tied (chosen tied) sixes feasible m n i j ml nl il jl .0 can in
+    let s = canSwap-lowers tied sixes m n i j ml nl il jl can in
     still (afterSwap sixes m n i j)
-    (keeps m n ml (omega (arith, s .lowers)) (load tied (afterSwap sixes m n i j))
-    (afterSwap-load-else tied sixes m n i j (s .i-on) (s .i-off) (s .j-on) (s .j-off) ml nl il jl))
+    (keeps m n ml (omega (arith, s .4)) (load tied (afterSwap sixes m n i j))
+    (afterSwap-load-else tied sixes m n i j (s .0) (s .1) (s .2) (s .3) ml nl il jl))
 
 -- The loads of every lawful placement sum to twelve reads, on three machines.
 twelve : sum (blockCount tied) (λ i. blockOf tied i .popularity) ≡ 12
@@ -107,11 +107,11 @@ best count words f = omega (arith, loads-total tied valid count words f, twelve,
 
 -- the run, on the plan's fields: five steps, and then no step is left
 rest-tied : nextStep tied fours ≡ none
-unfolding shifted afterMove afterSwap improves canMove canSwap pairs nextMove nextSwap nextStep bit replicas replicasIn domainsUsed used allWithin allSpread allFit countsFeasible isFeasible shareOf load share limit upper sum firstUp allb
+unfolding shifted afterMove afterSwap improves canMove canSwap pairs nextMove nextSwap nextStep bit replicas replicasIn domainsUsed used allWithin allSpread allFit allApart keptApart partner countsFeasible isFeasible shareOf load share limit upper isPaired pairsBack pairsNext sum firstUp allb
 rest-tied = refl
 
 run-tied : (more : ℕ) → run tied (suc (suc (suc (suc (suc more))))) sixes ≡ record { rested = true; steps = 5; words = fours }
-unfolding shifted afterMove afterSwap after improves canMove canSwap pairs nextMove nextSwap nextStep run bit replicas replicasIn domainsUsed used allWithin allSpread allFit countsFeasible isFeasible shareOf load share limit upper sum firstUp allb
+unfolding shifted afterMove afterSwap after improves canMove canSwap pairs nextMove nextSwap nextStep run bit replicas replicasIn domainsUsed used allWithin allSpread allFit allApart keptApart partner countsFeasible isFeasible shareOf load share limit upper isPaired pairsBack pairsNext sum firstUp allb
 run-tied more =
     ap (λ (r : Run). record { rested = r .rested; steps = suc (suc (suc (suc (suc (r .steps))))); words = r .words }) (run-none tied fours more rest-tied)
 
@@ -121,7 +121,7 @@ run-enough budget l =
     rw split at (run-tied (budget - 5))
 
 pub ties : Ties
-unfolding checkCall stepCall runCall onPlacement shifted afterMove afterSwap after improves canMove canSwap pairs nextMove nextSwap nextStep bit replicas replicasIn domainsUsed used allWithin allSpread allFit countsFeasible isFeasible shareOf load maxLoad share limit upper sum table firstUp allb largest
+unfolding checkCall stepCall runCall onPlacement shifted afterMove afterSwap after improves canMove canSwap pairs nextMove nextSwap nextStep bit replicas replicasIn domainsUsed used allWithin allSpread allFit allApart keptApart partner countsFeasible isFeasible shareOf load maxLoad share limit upper isPaired pairsBack pairsNext sum table firstUp allb largest
 ties =
     record {
       accepts = accepts;

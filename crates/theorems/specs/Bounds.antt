@@ -1,32 +1,40 @@
 -- Document 01, "Steps and rest": the bound at rest, on the largest load of a settled placement against that of any feasible placement
 -- of the same plan. A placement at rest is settled with slack 0.
 use mathlib.Core.Path.{_≡_}
+use mathlib.Core.Bool.{true}
 use mathlib.Core.List.{List}
 use Prim.Native.Nat.{ℕ, _+_, _*_, _-_, _<_, _≤_}
-use Rattle.model.specs.Plan.{Plan, machines, blockCount, blockOf}
+use Rattle.model.specs.Plan.{Plan, machines, blockCount, blockOf, isPaired, partner}
 use Rattle.model.specs.Placement.{wordOf, held, domainsUsed, used, Feasible, shareOf, load, maxLoad, maxShare}
 use Rattle.model.specs.Steps.{shifted}
 use Rattle.theory.specs.Refusal.{Valid}
 
--- No transfer that the spreads allow lowers the higher load by more than the slack.
+-- No transfer that the spreads and pairs allow lowers the higher load by more than the slack.
 pub record Settled (p : Plan) (words : List ℕ) (slack : ℕ) : Type 0 where
   pub no-move : (m n i : ℕ) → m < machines p → n < machines p → i < blockCount p
       → held words m i ≡ 1 → held words n i ≡ 0
       → used p words n < p .capacity → 0 < shareOf p words i
       → blockOf p i .minRacks ≤ domainsUsed p (shifted (wordOf words i) m n)
+      → (isPaired p i ≡ true → held words n (partner p i) ≡ 0)
       → load p words m ≤ load p words n + shareOf p words i + slack
   pub no-swap : (m n i j : ℕ) → m < machines p → n < machines p → i < blockCount p → j < blockCount p
       → held words m i ≡ 1 → held words n i ≡ 0 → held words n j ≡ 1 → held words m j ≡ 0
       → shareOf p words j < shareOf p words i
       → blockOf p i .minRacks ≤ domainsUsed p (shifted (wordOf words i) m n)
       → blockOf p j .minRacks ≤ domainsUsed p (shifted (wordOf words j) n m)
+      → (isPaired p i ≡ true → (partner p i ≡ j → ⊥) → held words n (partner p i) ≡ 0)
+      → (isPaired p j ≡ true → (partner p j ≡ i → ⊥) → held words m (partner p j) ≡ 0)
       → load p words m + shareOf p words j ≤ load p words n + shareOf p words i + slack
 
--- Where every spread is one.
+-- The two blocks of a pair have as many copies, as they have at the chosen counts.
+abbrev pub EvenPairs : Plan → (ℕ → ℕ) → Type 0
+EvenPairs p count = (i : ℕ) → i < blockCount p → isPaired p i ≡ true → count (partner p i) ≡ count i
+
+-- Where every spread is one. The other placement's pairs need not be even.
 abbrev pub OneSpread : Type 0
 OneSpread =
     (p : Plan) (words other : List ℕ) (count count' : ℕ → ℕ) (slack : ℕ)
-    → Valid p → Feasible p count words → Settled p words slack → Feasible p count' other
+    → Valid p → Feasible p count words → EvenPairs p count → Settled p words slack → Feasible p count' other
     → ((i : ℕ) → i < blockCount p → blockOf p i .minRacks ≡ 1)
     → machines p * maxLoad p words ≤ machines p * maxLoad p other + (machines p - 1) * (maxShare p words + slack)
 
@@ -34,6 +42,6 @@ OneSpread =
 abbrev pub LargerSpreads : Type 0
 LargerSpreads =
     (p : Plan) (words other : List ℕ) (count count' : ℕ → ℕ) (slack : ℕ)
-    → Valid p → Feasible p count words → Settled p words slack → Feasible p count' other
+    → Valid p → Feasible p count words → EvenPairs p count → Settled p words slack → Feasible p count' other
     → ((m : ℕ) → m < machines p → used p words m < p .capacity)
     → machines p * maxLoad p words ≤ machines p * maxLoad p other + 3 * (machines p - 1) * (maxShare p words + slack)

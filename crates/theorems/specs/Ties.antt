@@ -33,7 +33,7 @@ tied =
       rackSize = 3;
       capacity = 12;
       budget = 12;
-      blocks = replicate 12 (record { popularity = 1; minReplicas = 1; minRacks = 1 });
+      blocks = replicate 12 (record { popularity = 1; minReplicas = 1; minRacks = 1; pairByte = 0 });
     }
 
 -- Six blocks on machine 0, six on machine 1; the words after one step; and those at rest.

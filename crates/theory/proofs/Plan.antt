@@ -6,8 +6,9 @@ use mathlib.Core.Bool.{Bool, true, false, cond, _||_}
 use mathlib.Core.List.{List}
 use mathlib.Core.Logic.{_⊎_, inl, inr}
 use Prim.Native.Nat.{ℕ, zero, suc, _+_, _*_, _/_, _%_, _^_, _≤_, _<_, min}
-use native.Mathlib.Nat.{one-le-mul, div-lt-iff-lt-mul, mod-mod-of-dvd, dvd-mul-right, min-le-left, min-le-right, le-trans, pow-suc}
+use native.Mathlib.Nat.{one-le-mul, div-lt-iff-lt-mul, mod-mod-of-dvd, dvd-mul-right, min-le-left, min-le-right, le-trans, mul-le-mul, pow-suc}
 use native.Mathlib.Omega.{arith}
+use lib.Dec.{ltb}
 use lib.Arith.{digits-div, digits-lt}
 use lib.ListN.{getD, take}
 use lib.Seq.{getD-take}
@@ -15,7 +16,7 @@ use Rattle.order.specs.Sum.{sum, delta}
 use Rattle.order.proofs.Booleans.{no-contradiction, bool-cases, cond-all}
 use Rattle.order.proofs.Ranges.{sum-group}
 use Rattle.order.proofs.Tables.{length-table, getD-table}
-use Rattle.model.specs.Plan.{Plan, machines, domains, domain, domainSize, blockCount, noBlock, blockOf, pairsNext, pairsBack, isPaired, partner, maxReplicas, upper, field, formatIn, blockIn, blockCountIn, planIn}
+use Rattle.model.specs.Plan.{Plan, machines, domains, domain, domainSize, blockCount, noBlock, blockOf, pairsNext, pairsBack, isPaired, partner, maxReplicas, upper, field, latestVersion, formatOf, formatIn, recordAt, blockIn, blockCountIn, planIn}
 use Rattle.theory.specs.Refusal.{ValidPair, Shaped}
 
 -- ── machines ─────────────────────────────────────────────────────────────────────────────────────
@@ -60,13 +61,17 @@ pub isPaired-first : (p : Plan) (f : ℕ) → pairsNext p f ≡ true → isPaire
 unfolding isPaired
 isPaired-first p f e = rw e
 
-pub isPaired-second : (p : Plan) (f : ℕ) → pairsNext p f ≡ true → isPaired p (suc f) ≡ true
-unfolding isPaired pairsBack
-isPaired-second p f e = rw e (or-true (pairsNext p (suc f)))
+pub isPaired-back : (p : Plan) (i : ℕ) → pairsBack p i ≡ true → isPaired p i ≡ true
+unfolding isPaired
+isPaired-back p i e = rw e (or-true (pairsNext p i))
   where
     or-true : (a : Bool) → (a || true) ≡ true
     or-true true = refl
     or-true false = refl
+
+pub isPaired-second : (p : Plan) (f : ℕ) → pairsNext p f ≡ true → isPaired p (suc f) ≡ true
+unfolding pairsBack
+isPaired-second p f e = isPaired-back p (suc f) e
 
 isPaired-cases : (p : Plan) (i : ℕ) → isPaired p i ≡ true
     → (pairsNext p i ≡ true) ⊎ ((f : ℕ) × (i ≡ suc f) × (pairsNext p f ≡ true))
@@ -191,6 +196,16 @@ unfolding field
 field-take n bytes at zero l = refl
 field-take n bytes at (suc width) l =
     ap₂ (λ (x y : ℕ). x * 256 + y) (field-take n bytes at width (omega arith)) (getD-take n bytes (at + width) 0 (omega arith))
+
+-- ── formatOf ─────────────────────────────────────────────────────────────────────────────────────
+-- no version's plan of as many blocks is longer than the latest one's
+pub formatOf-longest : (version count most : ℕ) → count ≤ most → recordAt (formatOf version) count ≤ recordAt (formatOf latestVersion) most
+unfolding formatOf
+formatOf-longest version count most l =
+    go (cond (ltb version 2) 0 1) (cond-all (λ n. n ≤ 1) (ltb version 2) 0 1 (λ e. omega arith) (omega arith))
+  where
+    go : (width : ℕ) → width ≤ 1 → 15 + (3 + 1 + 1 + width) * count ≤ 15 + (3 + 1 + 1 + 1) * most
+    go width h = let product : (3 + 1 + 1 + width) * count ≤ 6 * most = mul-le-mul (omega arith) l in omega arith
 
 -- ── planIn ───────────────────────────────────────────────────────────────────────────────────────
 pub planIn-blockCount : (bytes : List ℕ) → blockCount (planIn bytes) ≡ blockCountIn bytes

@@ -14,10 +14,10 @@ use Rattle.order.specs.Sum.{delta}
 use Rattle.order.proofs.Sums.{delta-same, delta-other}
 use Rattle.order.proofs.Booleans.{and-iff, ltb-iff, eqb-iff}
 use Rattle.model.specs.Plan.{Plan, machines, blockCount, blockOf, isPaired, partner}
-use Rattle.model.specs.Placement.{bit, wordOf, held, domainsUsed, countOf, used, Feasible, load}
+use Rattle.model.specs.Placement.{bit, wordOf, held, domainsUsed, countOf, used, Feasible, shareOf, load}
 use Rattle.model.specs.Steps.{Step, none, move, swap, afterMove, afterSwap, after, improves, canMove, canSwap}
 use Rattle.theory.specs.Refusal.{Shaped}
-use Rattle.theory.specs.Steps.{LocalMove, LocalSwap, Lawful}
+use Rattle.theory.specs.Steps.{Lowers, LocalMove, LocalSwap, Lawful}
 use Rattle.theory.proofs.Placement.{bit-le, bit-cases, feasible-same, feasible-own, isFeasible-iff}
 use Rattle.theory.proofs.Plan.{partner-other, partner-paired, partner-partner}
 use Rattle.theory.proofs.Steps.{shifted-below, afterMove-word, afterMove-each, afterMove-held, afterMove-held-target, afterMove-count, afterMove-used, afterMove-load-source, afterMove-load-target, afterSwap-word-i, afterSwap-word-j, afterSwap-each, afterSwap-held, afterSwap-held-source, afterSwap-held-target, afterSwap-count, afterSwap-used, afterSwap-load-source, afterSwap-load-target}
@@ -114,6 +114,20 @@ unfolding canMove
 canMove-iff p words m n i =
     and-iff _ _ (and-iff _ _ (and-iff _ _ (set-iff (wordOf words i) m) (clear-iff (wordOf words i) n)) (ltb-iff _ _)) (λ e. e, λ e. e)
 
+-- what a move does to the two loads
+pub canMove-lowers : (p : Plan) (words : List ℕ) (m n i : ℕ) → m < machines p → n < machines p → i < blockCount p
+    → canMove p words m n i ≡ true → (held words m i ≡ 1) × (held words n i ≡ 0) × Lowers p words m n (shareOf p words i) 0
+canMove-lowers p words m n i ml nl il e =
+    let z = canMove-iff p words m n i .0 e in
+    let on = z .0 .0 .0 in
+    let off = z .0 .0 .1 in
+    let later = improves-iff p words (afterMove words m n i) m n .0 (z .1) in
+    let source = afterMove-load-source p words m n i on off ml nl il in
+    let target = afterMove-load-target p words m n i on off ml nl il in
+    let less = later .0 .1 in
+    let most = later .1 in
+    (on, off, (omega arith, omega arith))
+
 module _ (p : Plan) (shaped : Shaped p) (count : ℕ → ℕ) (words : List ℕ) (feasible : Feasible p count words) (m n i : ℕ)
     (ml : m < machines p) (nl : n < machines p) (il : i < blockCount p) where
   afterMove-feasible : LocalMove p words m n i → Feasible p count (afterMove words m n i)
@@ -155,18 +169,15 @@ module _ (p : Plan) (shaped : Shaped p) (count : ℕ → ℕ) (words : List ℕ)
       there : canMove p words m n i ≡ true → LocalMove p words m n i
       there e =
           let z = canMove-iff p words m n i .0 e in
-          let on = z .0 .0 .0 in
-          let off = z .0 .0 .1 in
+          let told = canMove-lowers p words m n i ml nl il e in
+          let on = told .0 in
+          let off = told .1 in
           let later = improves-iff p words (afterMove words m n i) m n .0 (z .1) in
-          let source = afterMove-load-source p words m n i on off ml nl il in
-          let target = afterMove-load-target p words m n i on off ml nl il in
-          let less = later .0 .1 in
-          let most = later .1 in
           record {
             on = on;
             off = off;
             room = z .0 .1;
-            lowers = (omega arith, omega arith);
+            lowers = told .2;
             spread = rw (afterMove-word words m n i on) at (later .0 .0 .spread i il);
             apart = λ own.
                 arrived p shaped i il (held words n) (held (afterMove words m n i) n) (afterMove-held-target words m n i on off) own
@@ -193,6 +204,24 @@ unfolding canSwap
 canSwap-iff p words m n i j =
     and-iff _ _ (and-iff _ _ (and-iff _ _ (and-iff _ _ (set-iff (wordOf words i) m) (clear-iff (wordOf words j) m))
     (set-iff (wordOf words j) n)) (clear-iff (wordOf words i) n)) (λ e. e, λ e. e)
+
+-- what a swap does to them
+pub canSwap-lowers : (p : Plan) (words : List ℕ) (m n i j : ℕ) → m < machines p → n < machines p → i < blockCount p → j < blockCount p
+    → canSwap p words m n i j ≡ true
+    → (held words m i ≡ 1) × (held words n i ≡ 0) × (held words n j ≡ 1) × (held words m j ≡ 0)
+    × Lowers p words m n (shareOf p words i) (shareOf p words j)
+canSwap-lowers p words m n i j ml nl il jl e =
+    let z = canSwap-iff p words m n i j .0 e in
+    let i-on = z .0 .0 .0 .0 in
+    let j-off = z .0 .0 .0 .1 in
+    let j-on = z .0 .0 .1 in
+    let i-off = z .0 .1 in
+    let later = improves-iff p words (afterSwap words m n i j) m n .0 (z .1) in
+    let source = afterSwap-load-source p words m n i j i-on i-off j-on j-off ml nl il jl in
+    let target = afterSwap-load-target p words m n i j i-on i-off j-on j-off ml nl il jl in
+    let less = later .0 .1 in
+    let most = later .1 in
+    (i-on, i-off, j-on, j-off, (omega arith, omega arith))
 
 module _ (p : Plan) (shaped : Shaped p) (count : ℕ → ℕ) (words : List ℕ) (feasible : Feasible p count words) (m n i j : ℕ)
     (ml : m < machines p) (nl : n < machines p) (il : i < blockCount p) (jl : j < blockCount p) where
@@ -238,22 +267,18 @@ module _ (p : Plan) (shaped : Shaped p) (count : ℕ → ℕ) (words : List ℕ)
     where
       there : canSwap p words m n i j ≡ true → LocalSwap p words m n i j
       there e =
-          let z = canSwap-iff p words m n i j .0 e in
-          let i-on = z .0 .0 .0 .0 in
-          let j-off = z .0 .0 .0 .1 in
-          let j-on = z .0 .0 .1 in
-          let i-off = z .0 .1 in
-          let later = improves-iff p words (afterSwap words m n i j) m n .0 (z .1) in
-          let source = afterSwap-load-source p words m n i j i-on i-off j-on j-off ml nl il jl in
-          let target = afterSwap-load-target p words m n i j i-on i-off j-on j-off ml nl il jl in
-          let less = later .0 .1 in
-          let most = later .1 in
+          let told = canSwap-lowers p words m n i j ml nl il jl e in
+          let i-on = told .0 in
+          let i-off = told .1 in
+          let j-on = told .2 in
+          let j-off = told .3 in
+          let later = improves-iff p words (afterSwap words m n i j) m n .0 (canSwap-iff p words m n i j .0 e .1) in
           record {
             i-on = i-on;
             i-off = i-off;
             j-on = j-on;
             j-off = j-off;
-            lowers = (omega arith, omega arith);
+            lowers = told .4;
             i-spread = rw (afterSwap-word-i p words m n i j i-on i-off j-on j-off) at (later .0 .0 .spread i il);
             j-spread = rw (afterSwap-word-j p words m n i j i-on i-off j-on j-off) at (later .0 .0 .spread j jl);
             i-apart = λ own.
