@@ -59,9 +59,12 @@ marksPair b = eqb (b .pairByte) 1
 unfoldable pub pairsNext : Plan → ℕ → Bool
 pairsNext p i = marksPair (blockOf p i)
 
+abbrev pub preceding : (ℕ → Bool) → ℕ → Bool
+preceding test zero = false
+preceding test (suc i) = test i
+
 unfoldable pub pairsBack : Plan → ℕ → Bool
-pairsBack p zero = false
-pairsBack p (suc i) = pairsNext p i
+pairsBack p i = preceding (λ k. pairsNext p k) i
 
 -- A block is paired if its byte is 1 or the preceding block's is. The partner of a paired block: the other one of the two.
 unfoldable pub isPaired : Plan → ℕ → Bool

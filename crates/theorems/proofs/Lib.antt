@@ -11,6 +11,7 @@ pub mod Claim
 pub mod ClaimCases
 pub mod Trials
 pub mod RowExamples
+pub mod Versions
 pub mod Ties
 pub mod Listing
 pub mod LongInput

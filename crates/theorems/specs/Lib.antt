@@ -6,5 +6,6 @@ pub mod Bounds
 pub mod Claim
 pub mod Trials
 pub mod RowExamples
+pub mod Versions
 pub mod Ties
 pub mod Listing
