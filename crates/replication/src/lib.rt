@@ -109,7 +109,8 @@ fn fill(items: &mut [u64], cluster: Cluster, wanted: u64)
         let demand = items[i];
         let count = needed(demand, wanted);
         let share = share_at(cluster::popularity_of(demand), count);
-        items[i] = cluster::profile(share, count, cluster::spread_asked(demand));
+        let spread = cluster::spread_asked(demand);
+        items[i] = cluster::profile(share, count, spread, cluster::link_of(demand));
         i += 1;
     }
 }

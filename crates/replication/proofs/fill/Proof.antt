@@ -13,8 +13,8 @@ use Rattle.model.specs.Plan.{Plan, maxReplicas, blockCount, blockOf}
 use Rattle.model.specs.Replication.{share, figure, need, chosen}
 use Rattle.theory.proofs.Replication.{share-whole, feasibleCounts-range, chosen-laws}
 use Rattle.cluster.specs.declared.Cluster.{Cluster}
-use Rattle.cluster.specs.Blocks.{popularityIn, spreadAsked, profileOf, DemandsFit, DemandsOf, ProfilesFit}
-use Rattle.cluster.proofs.Laws.{cluster-blocks, cluster-block, demands-popularity, demands-spread, profileOf-share}
+use Rattle.cluster.specs.Blocks.{popularityIn, spreadAsked, linkIn, profileOf, DemandsFit, DemandsOf, ProfilesFit}
+use Rattle.cluster.proofs.Laws.{cluster-blocks, cluster-block, demands-popularity, demands-spread, demands-link, profileOf-share, profileOf-link, linked-mate}
 use Rattle.replication.proofs.fill.Statement.{statement}
 use Rattle.replication.proofs.fill.Tie as tie
 
@@ -70,6 +70,10 @@ profiles-fit p c demands profiles₀ profiles fit of room are =
           )
           (omega
           (arith, share-whole (blockOf p i .popularity) (chosen p i), demands-popularity p c demands of i l, fit .each i l .popularity-narrow));
+      linked = λ i l.
+          let i-in : i < blockCount p = rw (cluster-blocks p c (of .cluster)) at l in
+          rw (cluster-blocks p c (of .cluster), are, getD-filled (blockCount p) (profileOf p (chosen p)) profiles₀ i 0 i-in)
+          (linked-mate p (profileOf p (chosen p) i) i (profileOf-link p (chosen p) i) (of .cluster .valid .shaped) i-in);
     }
 
 loop-holds : tie.Need-loop-holds Inv-loop μ-loop
@@ -97,8 +101,8 @@ share-at-requires c κs =
 
 profile-requires : tie.Need-profile-requires Inv-loop μ-loop
 profile-requires c κs =
-    let few = count-here (c .before .before .before) .1 in
-    (c .before .share-at .ensures .1, omega arith, omega arith)
+    let few = count-here (c .before .before .before .before) .1 in
+    (c .before .before .share-at .ensures .1, omega arith, omega arith, omega arith)
 
 mul-items : tie.Need-mul-items Inv-loop μ-loop
 mul-items c = omega arith
@@ -115,7 +119,7 @@ loop-less c = omega arith
 loop-again : tie.Need-loop-again Inv-loop μ-loop
 unfolding profileOf
 loop-again c =
-    let at = c .before .before .before .before .before .before .before .before in
+    let at = c .before .before .before .before .before .before .before .before .before in
     let start = at .before .before in
     let i = at .loop .i in
     let inv = at .loop .inv in
@@ -124,10 +128,11 @@ loop-again c =
       simp length-set (inv .1),
       λ k l. getD-set-other (at .loop .items) i k (c .profile .result) 0 (omega arith) ∙ inv .2 k (omega arith),
       λ p of same.
-          let count-is = chosen-here (c .before .before .before .before) p of same in
+          let count-is = chosen-here (c .before .before .before .before .before) p of same in
           let spread-is = ap spreadAsked (inv .2 i (omega arith)) ∙ demands-spread p _ _ of i l in
-          let share-is = c .before .before .share-at .ensures .0
-          ∙ ap₂ share (c .before .before .before .popularity-of .ensures ∙ ap popularityIn (inv .2 i (omega arith)) ∙ demands-popularity p _ _ of i l) count-is in
+          let link-is = ap linkIn (inv .2 i (omega arith)) ∙ demands-link p _ _ of i l in
+          let share-is = c .before .before .before .share-at .ensures .0
+          ∙ ap₂ share (c .before .before .before .before .popularity-of .ensures ∙ ap popularityIn (inv .2 i (omega arith)) ∙ demands-popularity p _ _ of i l) count-is in
           filled-more i _ _ _ _ (inv .3 p of same) (omega arith) (omega arith),
     )
 
@@ -154,6 +159,7 @@ fill-spec =
     needed-requires
     (λ c κs. tt)
     share-at-requires
+    (λ c κs. tt)
     (λ c κs. tt)
     profile-requires
     mul-items
