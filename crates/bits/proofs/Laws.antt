@@ -1,22 +1,24 @@
 -- Laws of the bits of a word that the functions on words need: shifts, `&` and `!`, and bits counted or searched lowest first.
 -- Assumes nothing.
 use mathlib.Core.Path.{_≡_, refl, ap, ap₂, sym, _∙_}
-use mathlib.Core.Logic.{_⊎_, inl, inr}
-use Prim.Native.Nat.{ℕ, zero, suc, _+_, _*_, _-_, _/_, _%_, _^_, _<_, min}
+use mathlib.Core.Bool.{true}
+use mathlib.Core.Logic.{_⊎_, inl, inr, _↔_}
+use Prim.Native.Nat.{ℕ, zero, suc, _+_, _*_, _-_, _/_, _%_, _^_, _<_, _≤_, min}
 use native.Mathlib.Nat.{not-suc-le-zero, one-mul, zero-mul, mod-one, mod-eq-of-lt, mul-add-mod-self-right, two-pow-succ}
 use native.Mathlib.Numerals.{one-add}
 use native.Mathlib.Decide.{decLt}
 use native.Mathlib.Omega.{arith}
-use lib.Dec.{lit<}
+use borrow.Author.Tests.{eqb-true, eq-eqb}
+use lib.Dec.{eqb, lit<}
 use lib.Arith.{lt-one}
 use lib.Pow.{pow-pos, shl-exact, shr-shr, mod-pow-add}
-use lib.Bits.{bitAnd, bitXor, and-step, and-shr, xor-step, xor-shr, differ}
+use lib.Bits.{bitAnd, bitXor, and-step, and-shr, and-lt, xor-step, xor-shr, differ}
 use lib.Count.{ones, ones-step, trailingZeros, under}
 use Rattle.order.specs.Sum.{sum}
 use Rattle.order.proofs.Sums.{sum-zero, sum-suc, sum-cong}
 use Rattle.order.proofs.Ranges.{sum-append}
 use Rattle.model.specs.Placement.{bit}
-use Rattle.theory.proofs.Placement.{bit-low, bit-high, bit-cases, bit-above-from}
+use Rattle.theory.proofs.Placement.{bit-low, bit-high, bit-le, bit-cases, bit-zero, bit-above-from}
 
 -- `1u64 << m`
 pub one-shl : (m : ℕ) → m < 64 → 1 * 2 ^ m % 2 ^ 64 ≡ 2 ^ m
@@ -93,6 +95,22 @@ bit-and a b k =
     ap (λ (x : ℕ). x % 2) (and-shr a b k ∙ and-step u v)
     ∙ mul-add-mod-self-right (bitAnd (u / 2) (v / 2)) 2 (min (u % 2) (v % 2))
     ∙ mod-eq-of-lt (omega arith)
+
+-- `a & b == 0`: no bit is set in both
+pub and-disjoint : (n a b : ℕ) → a < 2 ^ n → b < 2 ^ n → (eqb (bitAnd a b) 0 ≡ true) ↔ ((k : ℕ) → bit a k + bit b k ≤ 1)
+and-disjoint n a b ha hb = (there, back)
+  where
+    there : eqb (bitAnd a b) 0 ≡ true → (k : ℕ) → bit a k + bit b k ≤ 1
+    there e k =
+        let none : bit (bitAnd a b) k ≡ 0 = ap (λ (w : ℕ). bit w k) (eqb-true _ _ e) ∙ bit-zero k in
+        omega (arith, bit-and a b k, bit-le a k, bit-le b k)
+
+    back : ((k : ℕ) → bit a k + bit b k ≤ 1) → eqb (bitAnd a b) 0 ≡ true
+    back apart = elim (decLt 0 (bitAnd a b)) [
+      | yes some ↦ (let low = lowest-below n (bitAnd a b) some (and-lt n a b ha hb) in
+          absurd (omega (arith, low .1, bit-and a b (trailingZeros n (bitAnd a b)), apart (trailingZeros n (bitAnd a b)))))
+      | no none ↦ eq-eqb (bitAnd a b) 0 (omega arith)
+    ]
 
 -- `!b`
 pub bit-not : (n b k : ℕ) → b < 2 ^ n → k < n → bit (2 ^ n - 1 - b) k ≡ 1 - bit b k

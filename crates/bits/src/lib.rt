@@ -1,5 +1,7 @@
 // Bits of a 64-bit word. Bit m of a placement's word says whether machine m holds the block.
 ghost use mathlib.Core.Path.{_≡_};
+ghost use mathlib.Core.Bool.{Bool};
+ghost use mathlib.Core.Logic.{_↔_};
 ghost use Prim.Native.Nat.{ℕ, _+_, _*_, _-_, _%_, _<_, _≤_, _^_, min};
 ghost use lib.Dec.{ltb};
 ghost use Rattle.order.specs.Sum.{sum};
@@ -59,6 +61,13 @@ pub fn differing(a: u64, b: u64) -> u64
     ensures { λ r. ⌜ ((k : ℕ) → bit r k ≡ (bit a k + bit b k) % 2) ⌝ }
 {
     a ^ b
+}
+
+// Whether a and b have no set bit in common.
+pub fn are_disjoint(a: u64, b: u64) -> bool
+    ensures { λ r. ⌜ (r ≡ Bool.true) ↔ ((k : ℕ) → bit a k + bit b k ≤ 1) ⌝ }
+{
+    a & b == 0
 }
 
 // The number of set bits.

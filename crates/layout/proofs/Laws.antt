@@ -3,17 +3,18 @@
 use mathlib.Core.List.{[]}
 use mathlib.Core.Path.{_≡_, refl, ap, ap₂, sym, _∙_}
 use Prim.Native.Nat.{ℕ, _+_, _*_, _/_, _%_, _^_, _<_}
-use native.Mathlib.Nat.{mul-comm, add-assoc, add-zero, le-trans, min-le-right, lt-of-lt-of-le, mod-lt, mod-eq-of-lt, mod-self, mod-add-mod, one-le-mul, div-add-mod', div-lt-iff-lt-mul, zero-mod, zero-div}
+use native.Mathlib.Nat.{mul-comm, add-assoc, add-zero, le-trans, lt-of-lt-of-le, mod-lt, mod-eq-of-lt, mod-self, mod-add-mod, one-le-mul, div-add-mod', div-lt-iff-lt-mul, zero-mod, zero-div}
 use native.Mathlib.Omega.{arith}
 use lib.Arith.{digits-lt, digits-div, digits-mod}
 use lib.Dec.{lit≤}
 use Rattle.order.specs.Sum.{sum}
 use Rattle.order.proofs.Sums.{sum-zero, sum-step, sum-cong}
-use Rattle.model.specs.Plan.{Plan, machines, upper, maxReplicas}
+use Rattle.model.specs.Plan.{Plan, machines}
 use Rattle.model.specs.Refusal.{maxMachines}
 use Rattle.model.specs.Replication.{chosen}
 use Rattle.model.specs.Placement.{bit, position, laidWord, firstWord}
 use Rattle.theory.specs.Refusal.{Shaped}
+use Rattle.theory.proofs.Plan.{upper-machines}
 use Rattle.theory.proofs.Replication.{chosen-laws}
 use Rattle.theory.proofs.PlacementFirst.{machineOf, machineOf-below, laidWord-step, laidWord-fresh}
 use Rattle.cluster.specs.declared.Cluster.{Cluster}
@@ -118,6 +119,7 @@ bare-shaped c in-range =
       capacity-max = lit≤ tt;
       blocks-max = lit≤ tt;
       block = λ i l. absurd (omega arith);
+      pair = λ i l. absurd (omega arith);
     }
 
 bare-laid : (p : Plan) (c : Cluster) → ClusterOf p c → (start k : ℕ) → laidWord (bare c) (start % machinesIn c) k ≡ laidWord p start k
@@ -200,13 +202,13 @@ module _ (p : Plan) (c : Cluster) (of : ClusterOf p c) (i : ℕ) where
   begin-below = let r = cluster-range p c of in mod-lt (sum i (chosen p)) (one-le-mul (r .racks-pos) (r .size-pos))
 
   cursorFor-asked : i < c .blocks → LayAsked (cursorFor p c i) (chosen p i)
-  unfolding cursorAt upper
+  unfolding cursorAt
   cursorFor-asked l =
       record {
         circle = cursorAt-circle c (sum i (chosen p) % machinesIn c) (cluster-range p c of) begin-below;
         count-max =
             rw (cluster-machines p c of)
-            (le-trans (chosen-laws p (of .valid) .feasible .at-most i (rw (cluster-blocks p c of) at l)) (min-le-right maxReplicas (machines p)));
+            (le-trans (chosen-laws p (of .valid) .feasible .at-most i (rw (cluster-blocks p c of) at l)) (upper-machines p i));
       }
 
   cursorFor-laid : (laid : LaidBlock) → LaidAs (cursorFor p c i) (chosen p i) laid

@@ -3,21 +3,21 @@
 use mathlib.Core.Path.{_≡_, refl, ap, sym, _∙_}
 use mathlib.Core.List.{List}
 use Prim.Native.Nat.{ℕ, _+_, _*_, _-_, _<_, _≤_, _^_}
-use native.Mathlib.Nat.{mul-le-mul-right, le-trans, lt-of-lt-of-le}
+use native.Mathlib.Nat.{mul-le-mul-right}
 use native.Mathlib.Decide.{ℕ-discrete}
 use native.Mathlib.Omega.{arith}
 use lib.ListN.{length, getD, set, length-set, replicate, length-replicate, getD-replicate}
 use lib.Seq.{getD-set-same, getD-set-other}
 use Rattle.order.specs.Sum.{delta}
 use Rattle.order.proofs.Sums.{delta-same, delta-other, sum-zero, sum-step}
-use Rattle.model.specs.Refusal.{maxMachines}
+use Rattle.model.specs.Refusal.{maxMachines, maxBlocks}
 use Rattle.model.specs.Placement.{bit, held}
 use Rattle.theory.proofs.Placement.{bit-take, bit-le, bit-zero}
 use Rattle.cluster.specs.declared.Cluster.{Cluster}
 use Rattle.cluster.specs.Blocks.{shareIn, ProfilesFit}
 use Rattle.bits.specs.Words.{Lowest}
 use Rattle.loads.specs.Loads.{AddAsked, AddedTo, LoadsOf}
-use Rattle.loads.proofs.Laws.{loads-narrow, copies-max}
+use Rattle.loads.proofs.Laws.{loadSum-narrow, copySum-max}
 
 -- ── One item ───────────────────────────────────────────────────────────────────────────────────────────────────────────
 
@@ -86,21 +86,6 @@ abbrev pub upTo : Cluster → ℕ → Cluster
 upTo c i =
     record { racks = c .racks; «rack_size» = c .«rack_size»; capacity = c .capacity; blocks = i }
 
-upTo-fit : (c : Cluster) (profiles : List ℕ) (i : ℕ) → i ≤ c .blocks → ProfilesFit c profiles → ProfilesFit (upTo c i) profiles
-upTo-fit c profiles i few fit =
-    let r = fit .in-range in
-    record {
-      in-range = record {
-        racks-pos = r .racks-pos;
-        size-pos = r .size-pos;
-        machines-max = r .machines-max;
-        capacity-max = r .capacity-max;
-        blocks-max = le-trans few (r .blocks-max);
-      };
-      room = le-trans few (fit .room);
-      narrow = λ k l. fit .narrow k (lt-of-lt-of-le l few);
-    }
-
 module _ (c : Cluster) (words profiles : List ℕ) where
   -- no word is counted
   pub upTo-none : LoadsOf (upTo c 0) words profiles (replicate {A = ℕ} maxMachines 0) (replicate {A = ℕ} maxMachines 0)
@@ -116,12 +101,12 @@ module _ (c : Cluster) (words profiles : List ℕ) where
     -- one word more may be counted
     pub upTo-asked : i < c .blocks → ProfilesFit c profiles → AddAsked loads copies (shareIn (getD profiles i 0))
     upTo-asked l fit =
-        let fit-i = upTo-fit c profiles i (omega arith) fit in
+        let few : i ≤ maxBlocks = omega (arith, fit .in-range .blocks-max) in
         record {
           loads-sized = of .loads-sized;
           copies-sized = of .copies-sized;
-          load-room = loads-narrow (upTo c i) words profiles loads copies of fit-i;
-          copies-room = copies-max (upTo c i) words profiles loads copies of (fit-i .in-range);
+          load-room = λ m h. rw (of .load-is m h) (loadSum-narrow (upTo c i) words profiles few (λ k before. fit .narrow k (omega arith)) m);
+          copies-room = λ m h. rw (of .copies-are m h) (copySum-max (upTo c i) words few m);
           share-narrow = fit .narrow i l;
         }
 

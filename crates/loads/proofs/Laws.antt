@@ -25,28 +25,29 @@ use Rattle.loads.specs.Loads.{loadSum, copySum, LoadsOf}
 term-max : (h s : ℕ) → h ≤ 1 → h * s ≤ s
 term-max h s l = let e = mul-le-mul-right s l in omega arith
 
-pub loadSum-narrow : (c : Cluster) (words profiles : List ℕ) → ProfilesFit c profiles → (m : ℕ) → loadSum c words profiles m < loadBound
-loadSum-narrow c words profiles fit m =
+pub loadSum-narrow : (c : Cluster) (words profiles : List ℕ) → c .blocks ≤ maxBlocks
+    → ((i : ℕ) → i < c .blocks → shareIn (getD profiles i 0) < shareBound) → (m : ℕ) → loadSum c words profiles m < loadBound
+loadSum-narrow c words profiles few narrow m =
     let most = sum-mono (c .blocks) (λ i. held words m i * shareIn (getD profiles i 0)) (λ i. shareBound - 1)
     (λ i l.
     let term = term-max (held words m i) (shareIn (getD profiles i 0)) (bit-le (wordOf words i) m) in
-    omega (arith, fit .narrow i l))
+    omega (arith, narrow i l))
     in
-    omega (arith, sum-const (c .blocks) (shareBound - 1), fit .in-range .blocks-max)
+    omega (arith, sum-const (c .blocks) (shareBound - 1), few)
 
-pub copySum-max : (c : Cluster) (words : List ℕ) → InRange c → (m : ℕ) → copySum c words m ≤ maxBlocks
-copySum-max c words in-range m =
+pub copySum-max : (c : Cluster) (words : List ℕ) → c .blocks ≤ maxBlocks → (m : ℕ) → copySum c words m ≤ maxBlocks
+copySum-max c words few m =
     let most = sum-mono (c .blocks) (held words m) (λ i. 1) (λ i l. bit-le (wordOf words i) m) in
-    omega (arith, sum-ones (c .blocks), in-range .blocks-max)
+    omega (arith, sum-ones (c .blocks), few)
 
 -- ── LoadsOf ────────────────────────────────────────────────────────────────────────────────────────────────────────────
 
 module _ (c : Cluster) (words profiles loads copies : List ℕ) (of : LoadsOf c words profiles loads copies) where
   pub loads-narrow : ProfilesFit c profiles → (m : ℕ) → m < maxMachines → getD loads m 0 < loadBound
-  loads-narrow fit m l = rw (of .load-is m l) (loadSum-narrow c words profiles fit m)
+  loads-narrow fit m l = rw (of .load-is m l) (loadSum-narrow c words profiles (fit .in-range .blocks-max) (fit .narrow) m)
 
   pub copies-max : InRange c → (m : ℕ) → m < maxMachines → getD copies m 0 ≤ maxBlocks
-  copies-max in-range m l = rw (of .copies-are m l) (copySum-max c words in-range m)
+  copies-max in-range m l = rw (of .copies-are m l) (copySum-max c words (in-range .blocks-max) m)
 
   -- of a plan's cluster they are its machines' copies
   pub copies-used : (p : Plan) → ClusterOf p c → (m : ℕ) → m < machinesIn c → getD copies m 0 ≡ used p words m

@@ -1,31 +1,34 @@
--- Rows 13 to 16 as the code tests them, block by block or machine by machine, are the model's tests of a placement.
+-- Rows 13 to 16 and 18 as the code tests them, block by block or machine by machine, are the model's tests of a placement.
 -- Assumes nothing.
 use mathlib.Core.Path.{_≡_, refl, ap, ap₂, sym, _∙_}
-use mathlib.Core.Bool.{Bool, true}
+use mathlib.Core.Bool.{Bool, true, false}
 use mathlib.Core.List.{List}
+use mathlib.Core.Logic.{_⊎_, inl, inr}
 use Prim.Native.Nat.{ℕ, _+_, _*_, _-_, _<_, _≤_, _^_, min}
+use native.Mathlib.Decide.{decLt}
 use native.Mathlib.Omega.{arith}
 use lib.Dec.{leb, ltb, eqb}
 use lib.ListN.{getD}
 use Rattle.order.specs.Sum.{sum}
 use Rattle.order.specs.Search.{allb}
 use Rattle.order.proofs.Sums.{sum-cong, sum-none}
+use Rattle.order.proofs.Booleans.{bool-cases, not-so}
 use Rattle.order.proofs.Ranges.{sum-append}
 use Rattle.order.proofs.Extremes.{allb-cong, allb-step}
-use Rattle.model.specs.Plan.{Plan, machines, domains, blockCount}
+use Rattle.model.specs.Plan.{Plan, machines, domains, blockCount, isPaired, partner}
 use Rattle.model.specs.Refusal.{maxMachines}
 use Rattle.model.specs.Replication.{FeasibleCounts, chosen}
-use Rattle.model.specs.Placement.{bit, wordOf, replicas, domainsUsed, allWithin, allSpread, allFit}
+use Rattle.model.specs.Placement.{bit, wordOf, replicas, domainsUsed, allWithin, allSpread, allFit, allApart}
 use Rattle.model.specs.Calls.{allCounted}
-use Rattle.theory.proofs.Placement.{bit-above-from, replicasIn-members, allWithin-iff}
-use Rattle.theory.proofs.Plan.{member}
+use Rattle.theory.proofs.Placement.{bit-above-from, replicasIn-members, allWithin-iff, allApart-iff}
+use Rattle.theory.proofs.Plan.{member, partner-below, partner-other}
 use Rattle.theory.proofs.Replication.{chosen-laws}
 use Rattle.cluster.specs.declared.Cluster.{Cluster}
 use Rattle.cluster.specs.Cluster.{machinesIn, ClusterOf}
-use Rattle.cluster.specs.Blocks.{countIn, spreadIn, ProfilesOf}
-use Rattle.cluster.proofs.Laws.{cluster-racks, cluster-size, cluster-capacity, cluster-blocks, cluster-machines, profiles-count, profiles-spread}
+use Rattle.cluster.specs.Blocks.{linkedTo, mate, countIn, spreadIn, ProfilesOf}
+use Rattle.cluster.proofs.Laws.{cluster-racks, cluster-size, cluster-capacity, cluster-blocks, cluster-machines, mate-paired, mate-single, profiles-count, profiles-spread, profiles-mate}
 use Rattle.loads.specs.declared.Loads.{Loads}
-use Rattle.validation.specs.Validation.{CopiesOf}
+use Rattle.validation.specs.Validation.{CopiesOf, Apart}
 
 -- a loop that tests: none yet, and one more that passes
 pub allb-none : (test : ℕ → Bool) → allb 0 test ≡ true
@@ -96,6 +99,38 @@ module _ (p : Plan) (words : List ℕ) (c : Cluster) where
         (allb-cong (blockCount p) _ _
         (λ i l.
         ap₂ leb (profiles-spread p (chosen p) c profiles of counts i (in-cluster i l)) (sym (domains-members p (wordOf words i)))))
+
+    -- row 18
+    module _ (within : allWithin p words ≡ true) where
+      mate-is : (i : ℕ) → i < c .blocks → linkedTo (getD profiles i 0) i ≡ mate p i
+      mate-is = profiles-mate p (chosen p) c profiles of
+
+      in-plan : (i : ℕ) → i < c .blocks → i < blockCount p
+      in-plan i l = rw (cluster-blocks p c (of .cluster)) at l
+
+      pub apart-passes : ((i : ℕ) → i < c .blocks → Apart words profiles i) → allApart p words ≡ true
+      apart-passes each =
+          allApart-iff p words .1
+          (λ i l paired m h.
+          let other : linkedTo (getD profiles i 0) i ≡ partner p i = mate-is i (in-cluster i l) ∙ mate-paired p i paired in
+          rw other at
+          (each i (in-cluster i l) (λ same. partner-other p (of .cluster .valid .shaped) i l paired (sym other ∙ same)) m))
+
+      pub apart-fails : (i : ℕ) → i < c .blocks → (Apart words profiles i → ⊥) → allApart p words ≡ false
+      apart-fails i l meets = not-so (allApart p words) (λ all. meets (λ other k. at all other k (bool-cases (isPaired p i)) (decLt k (machines p))))
+        where
+          at : allApart p words ≡ true → (linkedTo (getD profiles i 0) i ≡ i → ⊥) → (k : ℕ)
+              → (isPaired p i ≡ true) ⊎ (isPaired p i ≡ false) → Dec (k < machines p)
+              → bit (wordOf words i) k + bit (wordOf words (linkedTo (getD profiles i 0) i)) k ≤ 1
+          at all other k (inr alone) below = absurd (other (mate-is i l ∙ mate-single p i alone))
+          at all other k (inl paired) (yes below) =
+              rw (mate-is i l, mate-paired p i paired) (allApart-iff p words .0 all i (in-plan i l) paired k below)
+          at all other k (inl paired) (no above) =
+              let words-within = allWithin-iff p words .0 within in
+              let partner-in = partner-below p (of .cluster .valid .shaped) i (in-plan i l) paired in
+              let own = bit-above-from (wordOf words i) (machines p) (words-within i (in-plan i l)) k (omega arith) in
+              let its = bit-above-from (wordOf words (partner p i)) (machines p) (words-within (partner p i) partner-in) k (omega arith) in
+              rw (mate-is i l, mate-paired p i paired) (omega arith)
 
   pub fit-row : (loads : Loads) → CopiesOf p words c loads → allb (machinesIn c) (isFit (loads .copies) (c .capacity)) ≡ allFit p words
   unfolding allFit

@@ -1,18 +1,19 @@
-// A placement handed in: rows 13 to 16 of the table, each over all blocks or machines before the next.
+// A placement handed in: rows 13 to 16 and 18 of the table, each over all blocks or machines before the next.
 use cluster::Cluster;
 use loads::Loads;
 ghost use mathlib.Core.Path.{_≡_};
 ghost use mathlib.Core.Bool.{Bool};
 ghost use mathlib.Core.List.{List};
-ghost use Prim.Native.Nat.{ℕ, _≤_};
+ghost use mathlib.Core.Logic.{_↔_};
+ghost use Prim.Native.Nat.{ℕ, _<_, _≤_};
 ghost use Rattle.model.specs.Plan.{Plan};
 ghost use Rattle.model.specs.Refusal.{maxMachines};
 ghost use Rattle.model.specs.Replication.{chosen};
-ghost use Rattle.model.specs.Placement.{allWithin, allSpread, allFit};
+ghost use Rattle.model.specs.Placement.{allWithin, allSpread, allFit, allApart};
 ghost use Rattle.model.specs.Calls.{allCounted, placementRefusal};
 ghost use Rattle.cluster.specs.Cluster.{machinesIn, ClusterOf};
 ghost use Rattle.cluster.specs.Blocks.{ProfilesOf, PlacementFits};
-ghost use Rattle.validation.specs.Validation.{WordsAsked, CopiesOf, ValidateAsked};
+ghost use Rattle.validation.specs.Validation.{WordsAsked, CopiesOf, Apart, ValidateAsked};
 
 // Row 13: whether every word names only machines below M.
 fn all_within(words: &[u64], cluster: Cluster) -> bool
@@ -80,7 +81,35 @@ fn all_fit(loads: Loads, cluster: Cluster) -> bool
     true
 }
 
-// Rows 13 to 16 of a placement of enough words; 0 where all pass.
+// Whether block i shares no machine with the block that its profile links it to, where that is another: its partner.
+fn is_apart(words: &[u64], profiles: &[u64], cluster: Cluster, i: usize) -> bool
+    requires { ⌜ PlacementFits cluster (now words) (now profiles) × (i < cluster .blocks) ⌝ }
+    ensures { λ r. ⌜ (r ≡ Bool.true) ↔ Apart (now (words .entry)) (now (profiles .entry)) i ⌝ }
+{
+    let partner = cluster::linked_to(profiles[i], i);
+    if partner == i {
+        return true;
+    }
+    bits::are_disjoint(words[i], words[partner])
+}
+
+// Row 18: whether no machine holds both blocks of a pair. The words name only machines below M.
+fn all_apart(words: &[u64], profiles: &[u64], cluster: Cluster) -> bool
+    requires { ⌜ PlacementFits cluster (now words) (now profiles) ⌝ }
+    ensures { λ r. ⌜ ((p : Plan) → ProfilesOf p (chosen p) cluster (now (profiles .entry))
+        → allWithin p (now (words .entry)) ≡ Bool.true → r ≡ allApart p (now (words .entry))) ⌝ }
+{
+    let mut i: usize = 0;
+    while i < cluster.blocks {
+        if !is_apart(words, profiles, cluster, i) {
+            return false;
+        }
+        i += 1;
+    }
+    true
+}
+
+// Rows 13 to 16 and 18 of a placement of enough words; 0 where all pass.
 pub fn validate(words: &[u64], profiles: &[u64], loads: Loads, cluster: Cluster) -> u8
     requires { ⌜ ValidateAsked cluster (now words) (now profiles) loads ⌝ }
     ensures { λ r. ⌜ ((p : Plan) → ProfilesOf p (chosen p) cluster (now (profiles .entry)) → r ≡ placementRefusal (now (words .entry)) p) ⌝ }
@@ -96,6 +125,9 @@ pub fn validate(words: &[u64], profiles: &[u64], loads: Loads, cluster: Cluster)
     }
     if !all_fit(loads, cluster) {
         return 16;
+    }
+    if !all_apart(words, profiles, cluster) {
+        return 18;
     }
     0
 }

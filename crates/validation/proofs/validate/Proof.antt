@@ -10,7 +10,7 @@ use lib.ListN.{length}
 use Rattle.model.specs.Plan.{Plan, blockCount}
 use Rattle.model.specs.Refusal.{check12}
 use Rattle.model.specs.Replication.{chosen}
-use Rattle.model.specs.Placement.{allWithin, allSpread}
+use Rattle.model.specs.Placement.{allWithin, allSpread, allFit}
 use Rattle.model.specs.Calls.{allCounted, placementRefusal}
 use Rattle.cluster.specs.Blocks.{ProfilesOf}
 use Rattle.cluster.proofs.Laws.{cluster-blocks}
@@ -57,6 +57,12 @@ copies start p of =
           (start .pre .loads-of) p (of .cluster);
     }
 
+fit : (c : tie.Else4) (p : Plan) → let start = entry (c .before .before .before .before .before .before .before) in
+    HandedIn start p → allFit p (now (start .args .words)) ≡ true
+fit c p of =
+    let start = entry (c .before .before .before .before .before .before .before) in
+    sym (c .before .all-fit .ensures p _ (copies start p of)) ∙ not-false _ (c .if4 .left)
+
 all-within-requires : tie.Need-all-within-requires
 all-within-requires c κs =
     let fits = c .before .before .pre .fits in
@@ -101,14 +107,28 @@ returns-4 c p of =
     let out = sym (c .before .all-fit .ensures p _ (copies (entry (e1 .before)) p of)) ∙ not-true _ (c .if4 .taken) in
     sym (rw (enough (e1 .before) p of, within e1 p of, counted e2 p of, spread e3 p of, out))
 
+all-apart-requires : tie.Need-all-apart-requires
+all-apart-requires c κs = entry (c .before .before .before .before .before .before .before) .pre .fits
+
 returns-5 : tie.Need-returns-5
 unfolding placementRefusal check12
 returns-5 c p of =
-    let e3 = c .before .before in
+    let e4 = c .before .before in
+    let e3 = e4 .before .before in
     let e2 = e3 .before .before in
     let e1 = e2 .before .before in
-    let fit = sym (c .before .all-fit .ensures p _ (copies (entry (e1 .before)) p of)) ∙ not-false _ (c .if4 .left) in
-    sym (rw (enough (e1 .before) p of, within e1 p of, counted e2 p of, spread e3 p of, fit))
+    let out = sym (c .before .all-apart .ensures p of (within e1 p of)) ∙ not-true _ (c .if5 .taken) in
+    sym (rw (enough (e1 .before) p of, within e1 p of, counted e2 p of, spread e3 p of, fit e4 p of, out))
+
+returns-6 : tie.Need-returns-6
+unfolding placementRefusal check12
+returns-6 c p of =
+    let e4 = c .before .before in
+    let e3 = e4 .before .before in
+    let e2 = e3 .before .before in
+    let e1 = e2 .before .before in
+    let apart = sym (c .before .all-apart .ensures p of (within e1 p of)) ∙ not-false _ (c .if5 .left) in
+    sym (rw (enough (e1 .before) p of, within e1 p of, counted e2 p of, spread e3 p of, fit e4 p of, apart))
 
 pub validate-spec : {M : Type 1} → statement M
 validate-spec =
@@ -122,4 +142,6 @@ validate-spec =
     returns-3
     all-fit-requires
     returns-4
-    returns-5)
+    all-apart-requires
+    returns-5
+    returns-6)
