@@ -79,6 +79,39 @@ linkOf-cases p (suc i) = go (pairsNext p (suc i)) (pairsNext p i)
 pub linkOf-narrow : (p : Plan) (i : ℕ) → linkOf p i < 4
 linkOf-narrow p i = linkOf-cases p i .0
 
+-- it goes by the block's byte, and then by the preceding one's
+pub linkOf-next : (p : Plan) (i : ℕ) → pairsNext p i ≡ true → linkOf p i ≡ 2
+unfolding linkOf
+linkOf-next p i e = rw e
+
+pub linkOf-first : (p : Plan) → pairsNext p 0 ≡ false → linkOf p 0 ≡ 1
+unfolding linkOf pairsBack
+linkOf-first p e = rw e
+
+pub linkOf-back : (p : Plan) (i : ℕ) → 1 ≤ i → pairsNext p i ≡ false → linkOf p i ≡ cond (pairsNext p (i - 1)) 0 1
+unfolding linkOf pairsBack
+linkOf-back p zero some e = absurd (omega arith)
+linkOf-back p (suc i) some e = let same : suc i - 1 ≡ i = omega arith in rw (e, same)
+
+-- it is 1 exactly if the block is not paired
+pub linkOf-single : (p : Plan) (i : ℕ) → linkOf p i ≡ 1 → isPaired p i ≡ false
+unfolding linkOf isPaired
+linkOf-single p i = go (pairsNext p i) (pairsBack p i)
+  where
+    go : (a b : Bool) → _≡_ {A = ℕ} (cond a 2 (cond b 0 1)) 1 → (a || b) ≡ false
+    go true b e = absurd (omega arith)
+    go false true e = absurd (omega arith)
+    go false false e = refl
+
+pub linkOf-paired : (p : Plan) (i : ℕ) → (linkOf p i ≡ 1 → ⊥) → isPaired p i ≡ true
+unfolding linkOf isPaired
+linkOf-paired p i = go (pairsNext p i) (pairsBack p i)
+  where
+    go : (a b : Bool) → (_≡_ {A = ℕ} (cond a 2 (cond b 0 1)) 1 → ⊥) → (a || b) ≡ true
+    go true b d = refl
+    go false true d = refl
+    go false false d = absurd (d refl)
+
 -- ── mate ───────────────────────────────────────────────────────────────────────────────────────────────────────────────
 
 pub mate-paired : (p : Plan) (i : ℕ) → isPaired p i ≡ true → mate p i ≡ partner p i

@@ -4,7 +4,8 @@
 use Prim.Native.Nat.{ℕ, _<_, _≤_, _^_}
 use native.Mathlib.Nat.{pow-le-pow-right}
 use native.Mathlib.Omega.{arith}
-use lib.Dec.{lit<}
+use lib.Dec.{lit<, ltb}
+use Rattle.order.proofs.Booleans.{cond-all}
 use Rattle.model.specs.Plan.{formatOf}
 use Rattle.header.specs.Format.{FormatFits}
 
@@ -17,6 +18,7 @@ formatOf-fits version =
       popularity-max = omega arith;
       replicas-max = omega arith;
       racks-max = omega arith;
+      pair-max = cond-all (λ n. n ≤ 1) (ltb version 2) 0 1 (λ e. omega arith) (omega arith);
     }
 
 pub field-narrow : (value width widest : ℕ) → value < 256 ^ width → width ≤ widest → value < 256 ^ widest

@@ -12,6 +12,7 @@ asFormat f =
       popularityWidth = f .«popularity_width»;
       minReplicasWidth = f .«min_replicas_width»;
       minRacksWidth = f .«min_racks_width»;
+      pairByteWidth = f .«pair_byte_width»;
     }
 
 -- Every version's header has the common bytes, and no version's header or field is wider.
@@ -21,3 +22,4 @@ pub record FormatFits (f : ModelFormat) : Type 0 where
   pub popularity-max : f .popularityWidth ≤ widestPopularity
   pub replicas-max : f .minReplicasWidth ≤ 1
   pub racks-max : f .minRacksWidth ≤ 1
+  pub pair-max : f .pairByteWidth ≤ 1

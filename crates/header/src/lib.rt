@@ -10,10 +10,12 @@ ghost use Rattle.model.specs.Refusal.{orElse, maxBlocks, check4, check5, check6
 ghost use Rattle.header.specs.Format.{asFormat, FormatFits};
 ghost use Rattle.header.specs.Header.{headerIn, Narrow, MarkChecked, HeaderChecked};
 
-// The bytes that every version's header has, the mark, and the most copies that a machine can be said to hold.
+// The bytes that every version's header has, the mark, the latest version, and the most copies that a machine can be said to hold.
 const COMMON_LENGTH: usize = 15;
 
 const MARK: usize = 0x42504C;
+
+const LATEST_VERSION: usize = 2;
 
 const MAX_CAPACITY: usize = 1024;
 
@@ -30,6 +32,7 @@ pub struct Format {
     pub popularity_width: usize,
     pub min_replicas_width: usize,
     pub min_racks_width: usize,
+    pub pair_byte_width: usize,
 }
 
 pub enum HeaderAnswer {
@@ -42,7 +45,10 @@ pub fn record_at(format: Format, i: usize) -> usize
     requires { ⌜ FormatFits (asFormat format) × (i ≤ maxBlocks) ⌝ }
     ensures { λ r. ⌜ (r ≡ recordAt (asFormat format) i) × (r ≤ 8192) ⌝ }
 {
-    let record = format.popularity_width + format.min_replicas_width + format.min_racks_width;
+    let record = format.popularity_width
+        + format.min_replicas_width
+        + format.min_racks_width
+        + format.pair_byte_width;
     format.header_length + record * i
 }
 
@@ -66,6 +72,16 @@ pub fn field_at(bytes: &[u8], at: usize, width: usize) -> usize
     value
 }
 
+// The width of the pair byte: version 1 has none.
+fn pair_byte_width(version: usize) -> usize
+    ensures { λ r. ⌜ r ≡ formatOf version .pairByteWidth ⌝ }
+{
+    if version < 2 {
+        return 0;
+    }
+    1
+}
+
 // The format of a version's file.
 fn format_of(version: usize) -> Format
     ensures { λ r. ⌜ (asFormat r ≡ formatOf version) × FormatFits (asFormat r) ⌝ }
@@ -75,6 +91,7 @@ fn format_of(version: usize) -> Format
         popularity_width: 3,
         min_replicas_width: 1,
         min_racks_width: 1,
+        pair_byte_width: pair_byte_width(version),
     }
 }
 
@@ -96,7 +113,11 @@ fn mark_refusal(bytes: &[u8]) -> u8
     if field_at(bytes, 0, 3) != MARK {
         return 2;
     }
-    if field_at(bytes, 3, 2) != 1 {
+    let version = field_at(bytes, 3, 2);
+    if version == 0 {
+        return 3;
+    }
+    if version > LATEST_VERSION {
         return 3;
     }
     0

@@ -1,14 +1,19 @@
 -- `header::format_of` meets its contract.
 -- Assumes nothing.
-use mathlib.Core.Path.{refl}
+use borrow.Author.Needs.{needs}
 use Rattle.model.specs.Plan.{formatOf}
 use Rattle.header.proofs.Laws.{formatOf-fits}
 use Rattle.header.proofs.format_of.Statement.{statement}
 use Rattle.header.proofs.format_of.Tie as tie
 
+pair-byte-width-requires : tie.Need-pair-byte-width-requires
+pair-byte-width-requires c κs = search needs
+
 returns : tie.Need-returns
 unfolding formatOf
-returns c = (refl, formatOf-fits (c .args .version))
+returns c =
+    let width = c .pair-byte-width .ensures in
+    (rw width, rw width (formatOf-fits (c .before .args .version)))
 
 pub format-of-spec : {M : Type 1} → statement M
-format-of-spec = tie.close (tie.spec returns)
+format-of-spec = tie.close (tie.spec pair-byte-width-requires returns)

@@ -13,8 +13,8 @@ use Rattle.header.proofs.record_at.Statement.{statement}
 use Rattle.header.proofs.record_at.Tie as tie
 
 -- the records before this one are no longer than the longest format's
-records-max : (f : Format) (i : ℕ) → FormatFits f → i ≤ maxBlocks → recordLength f * i ≤ (widestPopularity + 2) * maxBlocks
-records-max f i fits l = mul-le-mul {n₂ = widestPopularity + 2} (omega arith) l
+records-max : (f : Format) (i : ℕ) → FormatFits f → i ≤ maxBlocks → recordLength f * i ≤ (widestPopularity + 3) * maxBlocks
+records-max f i fits l = mul-le-mul {n₂ = widestPopularity + 3} (omega arith) l
 
 add-record : tie.Need-add-record
 add-record c = search needs
@@ -22,20 +22,23 @@ add-record c = search needs
 add-record-2 : tie.Need-add-record-2
 add-record-2 c = search needs
 
+add-record-3 : tie.Need-add-record-3
+add-record-3 c = search needs
+
 mul-result : tie.Need-mul-result
 mul-result c =
-    let start = c .before .before in
+    let start = c .before .before .before in
     omega (arith, records-max (asFormat (start .args .format)) _ (start .pre .0) (start .pre .1))
 
 add-result : tie.Need-add-result
 add-result c =
-    let start = c .before .before .before in
+    let start = c .before .before .before .before in
     omega (arith, records-max (asFormat (start .args .format)) _ (start .pre .0) (start .pre .1))
 
 returns : tie.Need-returns
 returns c =
-    let start = c .before .before .before in
+    let start = c .before .before .before .before in
     (refl, omega (arith, records-max (asFormat (start .args .format)) _ (start .pre .0) (start .pre .1)))
 
 pub record-at-spec : {M : Type 1} → statement M
-record-at-spec = tie.close (tie.spec add-record add-record-2 mul-result add-result returns)
+record-at-spec = tie.close (tie.spec add-record add-record-2 add-record-3 mul-result add-result returns)
