@@ -13,6 +13,7 @@ use Rattle.model.specs.Plan.{Plan, machines, blockCount}
 use Rattle.model.specs.Refusal.{maxMachines}
 use Rattle.model.specs.Placement.{held, used, shareOf, load}
 use Rattle.model.specs.Steps.{none, move, swap, canMove, canSwap, Step, isStep}
+use Rattle.theory.specs.Refusal.{Shaped}
 use Rattle.theory.specs.Steps.{LocalMove, LocalSwap}
 use Rattle.theory.proofs.StepsLocal.{canMove-local, canSwap-local}
 use Rattle.cluster.specs.declared.Cluster.{Cluster}
@@ -40,6 +41,9 @@ Barren p words true m n = (i j : ℕ) → i < blockCount p → j < blockCount p 
 
 module _ (p : Plan) (count : ℕ → ℕ) (c : Cluster) (words profiles : List ℕ) (placement : PlacementOf p count c words profiles)
     (m n : ℕ) (ml : m < machinesIn c) (nl : n < machinesIn c) where
+  shaped : Shaped p
+  shaped = placement .profiles-of .cluster .valid .shaped
+
   m-in : m < machines p
   m-in = placement-machine p count c words profiles placement m ml
 
@@ -50,11 +54,11 @@ module _ (p : Plan) (count : ℕ → ℕ) (c : Cluster) (words profiles : List �
   unfolding pairStep
   pairStep-none false across barren =
       sym (test-none (blockCount p) (canMove p words m n) (move across m n) (λ i l.
-      not-so _ (λ t. barren i l (canMove-local p count words (placement .feasible) m n i m-in n-in l .0 t))))
+      not-so _ (λ t. barren i l (canMove-local p shaped count words (placement .feasible) m n i m-in n-in l .0 t))))
   pairStep-none true across barren =
       sym (none-found (blockCount p) _ (λ i l.
       ap isStep (test-none (blockCount p) (canSwap p words m n i) (swap across m n i) (λ j h.
-      not-so _ (λ t. barren i j l h (canSwap-local p count words (placement .feasible) m n i j m-in n-in l h .0 t))))))
+      not-so _ (λ t. barren i j l h (canSwap-local p shaped count words (placement .feasible) m n i j m-in n-in l h .0 t))))))
 
 -- ── what the screen rules out ──────────────────────────────────────────────────────────────────────────────────────────
 

@@ -3,7 +3,7 @@
 use mathlib.Core.Path.{_≡_, refl, ap, sym, _∙_}
 use mathlib.Core.Bool.{Bool, true, false, not}
 use mathlib.Core.List.{List}
-use mathlib.Core.Logic.{_↔_}
+use mathlib.Core.Logic.{inl, inr, _↔_}
 use Prim.Native.Nat.{ℕ, _+_, _*_, _/_, _<_, _≤_, min}
 use native.Mathlib.Decide.{ℕ-discrete, decLt}
 use native.Mathlib.Numerals.{add-one}
@@ -13,22 +13,24 @@ use lib.Dec.{eqb}
 use lib.ListN.{getD}
 use Rattle.order.specs.Sum.{sum}
 use Rattle.order.proofs.Sums.{sum-cong}
-use Rattle.order.proofs.Booleans.{not-so}
+use Rattle.order.proofs.Booleans.{bool-cases, not-so}
 use Rattle.order.proofs.Extremes.{below-suc}
-use Rattle.model.specs.Plan.{Plan, machines, blockCount, blockOf}
+use Rattle.model.specs.Plan.{Plan, machines, blockCount, blockOf, isPaired, partner}
 use Rattle.model.specs.Placement.{bit, wordOf, held, domainsUsed, used, shareOf}
 use Rattle.model.specs.Steps.{Step, none, move, swap, shifted, isStep, first, canMove, canSwap}
 use Rattle.theory.specs.Steps.{Lowers, LocalMove}
+use Rattle.theory.specs.Refusal.{Shaped}
+use Rattle.theory.proofs.Plan.{partner-paired, partner-partner}
 use Rattle.theory.proofs.Placement.{replicasIn-members}
 use Rattle.theory.proofs.Steps.{domainsUsed-shift-inside, domainsUsed-shift-pos}
 use Rattle.theory.proofs.StepsLocal.{canMove-local, canSwap-local}
 use Rattle.cluster.specs.declared.Cluster.{Cluster}
 use Rattle.cluster.specs.Cluster.{machinesIn, ClusterOf}
-use Rattle.cluster.specs.Blocks.{shareIn, spreadIn, PlacementOf}
-use Rattle.cluster.proofs.Laws.{cluster-blocks, cluster-racks, cluster-size, cluster-machines, placement-block, placement-share, placement-spread, placement-machine}
+use Rattle.cluster.specs.Blocks.{linkedTo, shareIn, spreadIn, PlacementFits, PlacementOf}
+use Rattle.cluster.proofs.Laws.{cluster-blocks, cluster-racks, cluster-size, cluster-machines, mate-paired, mate-single, profiles-mate, placement-block, placement-share, placement-spread, placement-machine}
 use Rattle.index.specs.declared.Pair.{Pair}
 use Rattle.index.specs.Index.{byNumber, spot, NextOf}
-use Rattle.transfers.specs.Pair.{blockStep, pairStep, Shift, PairIn, BlockAsked, Lies, InMargin, PassableOf, PairAsked, PairScene, Partner, CandidateAsked}
+use Rattle.transfers.specs.Pair.{blockStep, pairStep, Shift, PairIn, BlockAsked, Lies, InMargin, Passable, Free, ReturnAsked, PairAsked, PairScene, Return, FreeReturn, CandidateAsked}
 use Rattle.transfers.proofs.Searches.{step-found, none-found, test-found, test-none}
 
 -- ── BlockAsked: when a spread is kept ──────────────────────────────────────────────────────────────────────────────────
@@ -61,6 +63,12 @@ unfolding domainsUsed
 groups-are p c w of =
     rw (cluster-racks p c of, cluster-size p c of)
     (sum-cong (p .racks) _ _ (λ d l. ap (min 1) (sym (replicasIn-members p w d l))))
+
+-- ── PlacementFits: the block that a block is linked to ────────────────────────────────────────────────────────────────────
+
+pub linked-below : {c : Cluster} {words profiles : List ℕ} → PlacementFits c words profiles
+    → (i : ℕ) → i < c .blocks → linkedTo (getD profiles i 0) i < c .blocks
+linked-below fits i l = let linked = fits .profiles-fit .linked i l in omega (arith, linked .some, linked .below)
 
 -- ── PairAsked: the candidates, one after the other ─────────────────────────────────────────────────────────────────────
 
@@ -104,15 +112,30 @@ pub passed-candidate : {c : Cluster} {words profiles index : List ℕ} {pair : P
 passed-candidate asked passed l = record { asked = asked; i-below = l; holds = passed .holds l; lacks = passed .lacks l }
 
 -- a candidate's word and profile
-pub candidate-block : {c : Cluster} {words profiles index : List ℕ} {pair : Pair} {i : ℕ}
-    → CandidateAsked c words profiles index pair i → BlockAsked c pair (wordOf words i) (getD profiles i 0)
-candidate-block {i} candidate =
+pub return-block : {c : Cluster} {words profiles : List ℕ} {pair : Pair} {j : ℕ}
+    → ReturnAsked c words profiles pair j → BlockAsked c pair (wordOf words j) (getD profiles j 0)
+return-block {j} asked =
     record {
+      pair-in = asked .pair-in;
+      holds = asked .holds;
+      lacks = asked .lacks;
+      share-narrow = asked .fits .profiles-fit .narrow j (asked .j-below);
+    }
+
+pub candidate-return : {c : Cluster} {words profiles index : List ℕ} {pair : Pair} {i : ℕ}
+    → CandidateAsked c words profiles index pair i → ReturnAsked c words profiles pair i
+candidate-return candidate =
+    record {
+      fits = candidate .asked .fits;
       pair-in = candidate .asked .pair-in;
+      j-below = candidate .i-below;
       holds = candidate .holds;
       lacks = candidate .lacks;
-      share-narrow = candidate .asked .fits .profiles-fit .narrow i (candidate .i-below);
     }
+
+pub candidate-block : {c : Cluster} {words profiles index : List ℕ} {pair : Pair} {i : ℕ}
+    → CandidateAsked c words profiles index pair i → BlockAsked c pair (wordOf words i) (getD profiles i 0)
+candidate-block candidate = return-block (candidate-return candidate)
 
 pub candidate-shift : {c : Cluster} {words profiles index : List ℕ} {pair : Pair} {i : ℕ}
     → CandidateAsked c words profiles index pair i → Shift c words (pair .m) (pair .n) i
@@ -207,12 +230,64 @@ lies-at p count c words profiles of i l =
       enough = rw (placement-spread p count c words profiles of i l) (of .feasible .spread i (placement-block p count c words profiles of i l));
     }
 
--- what the definition's exchange of i for j comes to: block i's own part, and block j's, seen from the pair the other way round
+-- the block that block i is linked to
+module _ (p : Plan) (count : ℕ → ℕ) (c : Cluster) (words profiles : List ℕ) (of : PlacementOf p count c words profiles) where
+  shaped : Shaped p
+  shaped = of .profiles-of .cluster .valid .shaped
+
+  module _ (i : ℕ) (l : i < c .blocks) where
+    linked-paired : isPaired p i ≡ true → linkedTo (getD profiles i 0) i ≡ partner p i
+    linked-paired e = profiles-mate p count c profiles (of .profiles-of) i l ∙ mate-paired p i e
+
+    linked-single : isPaired p i ≡ false → linkedTo (getD profiles i 0) i ≡ i
+    linked-single e = profiles-mate p count c profiles (of .profiles-of) i l ∙ mate-single p i e
+
+    -- what holds of its partner, and of itself where it has none
+    linked-all : (P : ℕ → Type 0) → (isPaired p i ≡ true → P (partner p i)) → P i → P (linkedTo (getD profiles i 0) i)
+    linked-all P paired single = elim (bool-cases (isPaired p i)) [
+      | inl e ↦ rw (linked-paired e) (paired e)
+      | inr e ↦ rw (linked-single e) single
+    ]
+
+  -- a link leads back
+  pub linked-back : (i k : ℕ) → i < c .blocks → k < c .blocks → linkedTo (getD profiles i 0) i ≡ k → linkedTo (getD profiles k 0) k ≡ i
+  linked-back i k l h e = elim (bool-cases (isPaired p i)) [
+    | inl own ↦
+        let below = placement-block p count c words profiles of i l in
+        let other : partner p i ≡ k = sym (linked-paired i l own) ∙ e in
+        linked-paired k h (rw other at (partner-paired p shaped i below own)) ∙ rw other at (partner-partner p shaped i below own)
+    | inr single ↦ let same : i ≡ k = sym (linked-single i l single) ∙ e in rw (sym same) (linked-single i l single)
+  ]
+
+-- what the definition's exchange of i for j comes to: block i's own part, and block j's, seen from the pair the other way round; the
+-- partner of either is not where it goes, unless it is the other one
 pub record Exchange (p : Plan) (words profiles : List ℕ) (pair : Pair) (i j : ℕ) : Type 0 where
   pub holds : held words (pair .m) i ≡ 1
   pub lacks : held words (pair .n) i ≡ 0
   pub kept : spreadIn (getD profiles i 0) ≤ domainsUsed p (shifted (wordOf words i) (pair .m) (pair .n))
-  pub partner : Partner p words profiles (reversed pair) (shareIn (getD profiles i 0)) j
+  pub back : Return p words profiles (reversed pair) (shareIn (getD profiles i 0)) j
+  pub i-free : (linkedTo (getD profiles i 0) i ≡ j → ⊥) → Free words profiles i (pair .n)
+  pub j-free : (linkedTo (getD profiles j 0) j ≡ i → ⊥) → Free words profiles j (pair .m)
+
+module _ (p : Plan) (count : ℕ → ℕ) (c : Cluster) (words profiles : List ℕ) (of : PlacementOf p count c words profiles)
+    (pair : Pair) (i j : ℕ) (x : Exchange p words profiles pair i j) where
+  -- where i's partner is not on n, j's is not on m
+  pub exchange-free : i < c .blocks → j < c .blocks → Free words profiles i (pair .n)
+      → FreeReturn p words profiles (reversed pair) (shareIn (getD profiles i 0)) j
+  exchange-free il jl free =
+      record {
+        back = x .back;
+        free = x .j-free (λ e.
+            let back = ap (λ (k : ℕ). held words (pair .n) k) (linked-back p count c words profiles of j i jl il e) in
+            omega (arith, back, free, x .back .holds));
+      }
+
+  -- where it is, it is j
+  pub exchange-own : (Free words profiles i (pair .n) → ⊥) → linkedTo (getD profiles i 0) i ≡ j
+  exchange-own bound = elim (ℕ-discrete (linkedTo (getD profiles i 0) i) j) [
+    | yes e ↦ e
+    | no other ↦ absurd (bound (x .i-free other))
+  ]
 
 module _ (p : Plan) (count : ℕ → ℕ) (c : Cluster) (words profiles : List ℕ) (pair : Pair)
     (scene : PairScene p count c words profiles pair) (pair-in : PairIn c pair) where
@@ -231,34 +306,53 @@ module _ (p : Plan) (count : ℕ → ℕ) (c : Cluster) (words profiles : List �
   n-in : pair .n < machines p
   n-in = placement-machine p count c words profiles (scene .placement) (pair .n) (pair-in .n-below)
 
+  abbrev of : PlacementOf p count c words profiles
+  of = scene .placement
+
   module _ (i : ℕ) (il : i < c .blocks) where
     local-move : (canMove p words (pair .m) (pair .n) i ≡ true) ↔ LocalMove p words (pair .m) (pair .n) i
-    local-move = canMove-local p count words (scene .placement .feasible) (pair .m) (pair .n) i m-in n-in (in-plan i il)
+    local-move =
+        canMove-local p (shaped p count c words profiles of) count words (of .feasible) (pair .m) (pair .n) i m-in n-in (in-plan i il)
 
-    -- the definition's move of a candidate, where n has room, told by the local test
-    pub move-told : {r : Bool} → held words (pair .m) i ≡ 1 → held words (pair .n) i ≡ 0 → used p words (pair .n) < p .capacity
-        → PassableOf c pair (wordOf words i) (spreadIn (getD profiles i 0)) (shareIn (getD profiles i 0)) 0 r
-        → (r ≡ true) ↔ (canMove p words (pair .m) (pair .n) i ≡ true)
-    move-told holds lacks room test =
-        let told = rw (share-is i il, spread-is i il) at (test p (lies-at p count c words profiles (scene .placement) i il)) in (
+    linked-is : isPaired p i ≡ true → linkedTo (getD profiles i 0) i ≡ partner p i
+    linked-is = linked-paired p count c words profiles of i il
+
+    -- a block that is not on a machine is free to go there, as far as its partner is not
+    free-paired : (n : ℕ) → held words n i ≡ 0 → (isPaired p i ≡ true → held words n (partner p i) ≡ 0) → Free words profiles i n
+    free-paired n off apart = linked-all p count c words profiles of i il (λ k. held words n k ≡ 0) apart off
+
+    -- the definition's move of a candidate, where n has room, told by the local tests
+    pub move-told : held words (pair .m) i ≡ 1 → held words (pair .n) i ≡ 0 → used p words (pair .n) < p .capacity
+        → (canMove p words (pair .m) (pair .n) i ≡ true)
+        ↔ (Passable p pair (wordOf words i) (spreadIn (getD profiles i 0)) (shareIn (getD profiles i 0)) 0 × Free words profiles i (pair .n))
+    move-told holds lacks room =
+        let share = share-is i il in
+        let spread = spread-is i il in (
           λ e.
-              let t = told .0 e in
+              let s = local-move .0 e in (
+                rw (share, spread) (record { in-margin = scene .margin-is _ _ .0 (s .lowers); spread-kept = s .spread }),
+                free-paired (pair .n) lacks (s .apart),
+              ),
+          λ t.
+              let test = rw (share, spread) at (t .0) in
               local-move .1
               (record {
                 on = holds;
                 off = lacks;
                 room = room;
-                lowers = scene .margin-is _ _ .1 (t .in-margin);
-                spread = t .spread-kept;
+                lowers = scene .margin-is _ _ .1 (test .in-margin);
+                spread = test .spread-kept;
+                apart = λ own. rw (linked-is own) at (t .1);
               }),
-          λ e. let s = local-move .0 e in told .1 (record { in-margin = scene .margin-is _ _ .0 (s .lowers); spread-kept = s .spread }),
         )
 
     -- its exchange for j
     pub swap-exchange : (j : ℕ) → j < c .blocks
         → (canSwap p words (pair .m) (pair .n) i j ≡ true) ↔ Exchange p words profiles pair i j
     swap-exchange j jl =
-        let local = canSwap-local p count words (scene .placement .feasible) (pair .m) (pair .n) i j m-in n-in (in-plan i il) (in-plan j jl) in
+        let local =
+        canSwap-local p (shaped p count c words profiles of) count words (of .feasible) (pair .m) (pair .n) i j m-in n-in (in-plan i il) (in-plan j jl)
+        in
         let margin : Lowers p words (pair .m) (pair .n) (shareOf p words i) (shareOf p words j)
         ↔ InMargin (pair .margin) (shareIn (getD profiles i 0)) (shareIn (getD profiles j 0)) =
         rw (share-is i il, share-is j jl) (scene .margin-is _ _)
@@ -269,22 +363,28 @@ module _ (p : Plan) (count : ℕ → ℕ) (c : Cluster) (words profiles : List �
                 holds = s .i-on;
                 lacks = s .i-off;
                 kept = rw (spread-is i il) (s .i-spread);
-                partner =
+                back =
                     record {
                       holds = s .j-on;
                       lacks = s .j-off;
                       test = record { in-margin = margin .0 (s .lowers); spread-kept = rw (spread-is j jl) (s .j-spread) };
                     };
+                i-free = λ other. free-paired (pair .n) (s .i-off) (λ own. s .i-apart own (λ q. other (linked-is own ∙ q)));
+                j-free = λ other. linked-all p count c words profiles of j jl (λ k. held words (pair .m) k ≡ 0)
+                    (λ own. s .j-apart own (λ q. other (linked-paired p count c words profiles of j jl own ∙ q))) (s .j-off);
               },
           λ t. local .1
               (record {
                 i-on = t .holds;
                 i-off = t .lacks;
-                j-on = t .partner .holds;
-                j-off = t .partner .lacks;
-                lowers = margin .1 (t .partner .test .in-margin);
+                j-on = t .back .holds;
+                j-off = t .back .lacks;
+                lowers = margin .1 (t .back .test .in-margin);
                 i-spread = rw (spread-is i il) at (t .kept);
-                j-spread = rw (spread-is j jl) at (t .partner .test .spread-kept);
+                j-spread = rw (spread-is j jl) at (t .back .test .spread-kept);
+                i-apart = λ own other. rw (linked-is own) at (t .i-free (λ q. other (sym (linked-is own) ∙ q)));
+                j-apart = λ own other.
+                    let is = linked-paired p count c words profiles of j jl own in rw is at (t .j-free (λ q. other (sym is ∙ q)));
               }),
         )
 

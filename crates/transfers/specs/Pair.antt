@@ -13,7 +13,7 @@ use Rattle.theory.specs.Widths.{shareBound, loadBound}
 use Rattle.theory.specs.Steps.{Lowers}
 use Rattle.cluster.specs.declared.Cluster.{Cluster}
 use Rattle.cluster.specs.Cluster.{machinesIn, InRange, ClusterOf}
-use Rattle.cluster.specs.Blocks.{shareIn, spreadIn, PlacementFits, PlacementOf}
+use Rattle.cluster.specs.Blocks.{linkedTo, shareIn, spreadIn, PlacementFits, PlacementOf}
 use Rattle.index.specs.declared.Pair.{Pair}
 use Rattle.index.specs.Index.{Indexed}
 use Rattle.transfers.specs.declared.Hit.{Hit}
@@ -89,6 +89,18 @@ abbrev pub PassableOf : Cluster → Pair → ℕ → ℕ → ℕ → ℕ → Boo
 PassableOf c pair word spread given back r =
     (p : Plan) → Lies p c word spread → (r ≡ true) ↔ Passable p pair word spread given back
 
+-- The block that block i is linked to, its partner or i itself where it has none, is not on n.
+abbrev pub Free : List ℕ → List ℕ → ℕ → ℕ → Type 0
+Free words profiles i n = held words n (linkedTo (getD profiles i 0) i) ≡ 0
+
+pub record FreeAsked (c : Cluster) (words profiles : List ℕ) (i n : ℕ) : Type 0 where
+  pub fits : PlacementFits c words profiles
+  pub i-below : i < c .blocks
+  pub n-below : n < machinesIn c
+
+abbrev pub FreeOf : List ℕ → List ℕ → ℕ → ℕ → Bool → Type 0
+FreeOf words profiles i n r = (r ≡ true) ↔ Free words profiles i n
+
 -- What a search at a pair is asked with.
 pub record PairAsked (c : Cluster) (words profiles index : List ℕ) (pair : Pair) : Type 0 where
   pub fits : PlacementFits c words profiles
@@ -105,20 +117,53 @@ pub record PairScene (p : Plan) (count : ℕ → ℕ) (c : Cluster) (words profi
   pub placement : PlacementOf p count c words profiles
   pub margin-is : MarginOf p words pair
 
--- The block j that comes back for one of the share `given`.
-pub record Partner (p : Plan) (words profiles : List ℕ) (pair : Pair) (given j : ℕ) : Type 0 where
+-- What is asked about a block j that may come back: it is on m and not on n.
+pub record ReturnAsked (c : Cluster) (words profiles : List ℕ) (pair : Pair) (j : ℕ) : Type 0 where
+  pub fits : PlacementFits c words profiles
+  pub pair-in : PairIn c pair
+  pub j-below : j < c .blocks
+  pub holds : held words (pair .m) j ≡ 1
+  pub lacks : held words (pair .n) j ≡ 0
+
+-- It comes back for one of the share `given`, wherever its partner is.
+pub record Return (p : Plan) (words profiles : List ℕ) (pair : Pair) (given j : ℕ) : Type 0 where
   pub holds : held words (pair .m) j ≡ 1
   pub lacks : held words (pair .n) j ≡ 0
   pub test : Passable p pair (wordOf words j) (spreadIn (getD profiles j 0)) given (shareIn (getD profiles j 0))
 
+-- The same where its partner is not on n.
+pub record FreeReturn (p : Plan) (words profiles : List ℕ) (pair : Pair) (given j : ℕ) : Type 0 where
+  pub back : Return p words profiles pair given j
+  pub free : Free words profiles j (pair .n)
+
+abbrev pub ReturnOf : Cluster → List ℕ → List ℕ → Pair → ℕ → ℕ → Bool → Type 0
+ReturnOf c words profiles pair given j r =
+    (p : Plan) (count : ℕ → ℕ) → PlacementOf p count c words profiles → (r ≡ true) ↔ FreeReturn p words profiles pair given j
+
 -- The first such block, seen from the pair the other way round; past the last where there is none.
-pub record PartnerFound (c : Cluster) (words profiles : List ℕ) (pair : Pair) (given r : ℕ) : Type 0 where
+pub record ReturnFound (c : Cluster) (words profiles : List ℕ) (pair : Pair) (given r : ℕ) : Type 0 where
   pub holds : r < c .blocks → held words (pair .m) r ≡ 1
   pub lacks : r < c .blocks → held words (pair .n) r ≡ 0
   pub passed : (k : ℕ) → k < r → k < c .blocks
-      → (p : Plan) (count : ℕ → ℕ) → PlacementOf p count c words profiles → Partner p words profiles pair given k → ⊥
+      → (p : Plan) (count : ℕ → ℕ) → PlacementOf p count c words profiles → FreeReturn p words profiles pair given k → ⊥
   pub found : r < c .blocks
-      → (p : Plan) (count : ℕ → ℕ) → PlacementOf p count c words profiles → Partner p words profiles pair given r
+      → (p : Plan) (count : ℕ → ℕ) → PlacementOf p count c words profiles → FreeReturn p words profiles pair given r
+
+-- A block i whose partner is on m.
+pub record OwnAsked (c : Cluster) (words profiles : List ℕ) (pair : Pair) (i : ℕ) : Type 0 where
+  pub fits : PlacementFits c words profiles
+  pub pair-in : PairIn c pair
+  pub i-below : i < c .blocks
+  pub holds : held words (pair .m) (linkedTo (getD profiles i 0) i) ≡ 1
+
+-- Its partner where that can come back, seen from the pair the other way round; past the last where it cannot.
+pub record OwnFound (c : Cluster) (words profiles : List ℕ) (pair : Pair) (given i r : ℕ) : Type 0 where
+  pub is : r < c .blocks → r ≡ linkedTo (getD profiles i 0) i
+  pub lacks : r < c .blocks → held words (pair .n) r ≡ 0
+  pub passed : c .blocks ≤ r → (p : Plan) (count : ℕ → ℕ) → PlacementOf p count c words profiles
+      → Return p words profiles pair given (linkedTo (getD profiles i 0) i) → ⊥
+  pub found : r < c .blocks
+      → (p : Plan) (count : ℕ → ℕ) → PlacementOf p count c words profiles → Return p words profiles pair given r
 
 -- A block that is on m and not on n.
 pub record CandidateAsked (c : Cluster) (words profiles index : List ℕ) (pair : Pair) (i : ℕ) : Type 0 where

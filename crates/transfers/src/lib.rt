@@ -1,4 +1,5 @@
-// The first move or exchange between two machines that the definition allows, by local tests on the candidates in file order.
+// The first move or exchange between two machines that the definition allows, by local tests on the candidates in file order. The two
+// blocks of a pair are each other's partners; they share no machine.
 use cluster::Cluster;
 use index::BY_NUMBER;
 use index::Pair;
@@ -6,7 +7,7 @@ ghost use mathlib.Core.Path.{_≡_};
 ghost use mathlib.Core.Bool.{Bool};
 ghost use Rattle.model.specs.Steps.{isStep};
 ghost use Rattle.cluster.specs.Blocks.{shareIn, spreadIn};
-ghost use Rattle.transfers.specs.Pair.{hitOf, pairStep, blockStep, BlockAsked, KeepsOf, PassableOf, PairAsked, PartnerFound, CandidateAsked, ExchangeFound, HitOf};
+ghost use Rattle.transfers.specs.Pair.{hitOf, pairStep, blockStep, BlockAsked, KeepsOf, PassableOf, FreeAsked, FreeOf, ReturnAsked, ReturnOf, PairAsked, ReturnFound, OwnAsked, OwnFound, CandidateAsked, ExchangeFound, HitOf};
 
 // Block i from m to n, or that and block j from n to m.
 pub enum Hit {
@@ -86,6 +87,33 @@ fn returnable(word: u64, profile: u64, cluster: Cluster, pair: Pair, given: u64)
     keeps(word, profile, cluster, pair)
 }
 
+// Whether n does not hold the block that block i is linked to: its partner, or i itself where it has none.
+fn is_free(words: &[u64], profiles: &[u64], cluster: Cluster, i: usize, n: usize) -> bool
+    requires { ⌜ FreeAsked cluster (now words) (now profiles) i n ⌝ }
+    ensures { λ r. ⌜ FreeOf (now (words .entry)) (now (profiles .entry)) i n r ⌝ }
+{
+    let k = cluster::linked_to(profiles[i], i);
+    bits::bit_at(words[k], n) == 0
+}
+
+// Whether block j can go from m to n in return for one of the share `given`, and its partner is not on n.
+fn can_return(
+    words: &[u64],
+    profiles: &[u64],
+    cluster: Cluster,
+    pair: Pair,
+    given: u64,
+    j: usize,
+) -> bool
+    requires { ⌜ ReturnAsked cluster (now words) (now profiles) pair j ⌝ }
+    ensures { λ r. ⌜ ReturnOf cluster (now (words .entry)) (now (profiles .entry)) pair given j r ⌝ }
+{
+    if !returnable(words[j], profiles[j], cluster, pair, given) {
+        return false;
+    }
+    is_free(words, profiles, cluster, j, pair.n)
+}
+
 // The first block of m's that can go to n in return for one of the share `given`; past the last block where there is none.
 fn first_return(
     words: &[u64],
@@ -96,11 +124,11 @@ fn first_return(
     given: u64,
 ) -> usize
     requires { ⌜ PairAsked cluster (now words) (now profiles) (now index) pair ⌝ }
-    ensures { λ r. ⌜ PartnerFound cluster (now (words .entry)) (now (profiles .entry)) pair given r ⌝ }
+    ensures { λ r. ⌜ ReturnFound cluster (now (words .entry)) (now (profiles .entry)) pair given r ⌝ }
 {
     let mut j = index::next(index, BY_NUMBER, pair.m, pair.n, 0, cluster);
     while j < cluster.blocks {
-        if returnable(words[j], profiles[j], cluster, pair, given) {
+        if can_return(words, profiles, cluster, pair, given, j) {
             return j;
         }
         j = index::next(index, BY_NUMBER, pair.m, pair.n, j + 1, cluster);
@@ -108,7 +136,29 @@ fn first_return(
     j
 }
 
-// The first block that block i can be exchanged for; past the last block where there is none.
+// The partner of block i, which is on m, where it can go to n in return for i, of the share `given`; else past the last block.
+fn own_return(
+    words: &[u64],
+    profiles: &[u64],
+    cluster: Cluster,
+    pair: Pair,
+    given: u64,
+    i: usize,
+) -> usize
+    requires { ⌜ OwnAsked cluster (now words) (now profiles) pair i ⌝ }
+    ensures { λ r. ⌜ OwnFound cluster (now (words .entry)) (now (profiles .entry)) pair given i r ⌝ }
+{
+    let k = cluster::linked_to(profiles[i], i);
+    if bits::bit_at(words[k], pair.n) == 1 {
+        return cluster.blocks;
+    }
+    if returnable(words[k], profiles[k], cluster, pair, given) {
+        return k;
+    }
+    cluster.blocks
+}
+
+// The first block that block i can be exchanged for, which is its partner where that is on n; past the last block where there is none.
 fn first_exchange(
     words: &[u64],
     profiles: &[u64],
@@ -133,7 +183,10 @@ fn first_exchange(
         n: pair.m,
         margin: pair.margin,
     };
-    first_return(words, profiles, index, cluster, back, given)
+    if is_free(words, profiles, cluster, i, pair.n) {
+        return first_return(words, profiles, index, cluster, back, given);
+    }
+    own_return(words, profiles, cluster, back, given, i)
 }
 
 // The first step of the kind with block i from m to n.
@@ -159,10 +212,13 @@ fn find_at(
         }
         return Hit::Nothing;
     }
-    if movable(words[i], profiles[i], cluster, pair) {
-        return Hit::Move { m, n, i };
+    if !movable(words[i], profiles[i], cluster, pair) {
+        return Hit::Nothing;
     }
-    Hit::Nothing
+    if !is_free(words, profiles, cluster, i, n) {
+        return Hit::Nothing;
+    }
+    Hit::Move { m, n, i }
 }
 
 // The first move from m to n, which has room, or the first exchange between them.

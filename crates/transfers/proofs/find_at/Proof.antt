@@ -1,11 +1,12 @@
--- `transfers::find_at` meets its contract: the definition's tests at block i are those of `movable` and `first_exchange`.
+-- `transfers::find_at` meets its contract: the definition's tests at block i are those of `movable`, `is_free` and `first_exchange`.
 -- Assumes nothing.
 use mathlib.Core.Path.{sym, _∙_}
 use native.Mathlib.Omega.{arith}
+use borrow.Author.Tests.{not-true, not-false}
 use Rattle.order.proofs.Booleans.{no-contradiction, not-so}
 use Rattle.cluster.proofs.Laws.{cluster-blocks, placement-block}
 use Rattle.transfers.specs.Pair.{hitOf}
-use Rattle.transfers.proofs.Laws.{candidate-block, candidate-shift, blockStep-none, blockStep-move, blockStep-swap, move-told}
+use Rattle.transfers.proofs.Laws.{candidate-block, candidate-shift, blockStep-none, blockStep-move, blockStep-swap, lies-at, move-told}
 use borrow.Author.Needs.{needs}
 use Rattle.transfers.proofs.find_at.Statement.{statement}
 use Rattle.transfers.proofs.find_at.Tie as tie
@@ -71,31 +72,53 @@ unfolding hitOf
 returns-3 c =
     let start = c .before .before .before .before .before .before .before .before in
     let asked = start .pre in
-    let moves = c .before .before .before .before .if1 .left in
-    record {
-      sound = candidate-shift asked;
-      is = λ p count scene room.
-          let told =
-          move-told p count _ _ _ _ scene (asked .asked .pair-in) _ (asked .i-below) (asked .holds) (asked .lacks) (room moves) (c .before .movable .ensures)
-          in
-          sym (blockStep-move p _ _ _ _ _ _ moves (told .0 (c .if3 .taken)));
-    }
-
-returns-4 : tie.Need-returns-4
-unfolding hitOf
-returns-4 c =
-    let start = c .before .before .before .before .before .before .before .before in
-    let asked = start .pre in
+    let i = start .args .i in
     let moves = c .before .before .before .before .if1 .left in
     record {
       sound = tt;
       is = λ p count scene room.
-          let told =
-          move-told p count _ _ _ _ scene (asked .asked .pair-in) _ (asked .i-below) (asked .holds) (asked .lacks) (room moves) (c .before .movable .ensures)
-          in
+          let told = move-told p count _ _ _ _ scene (asked .asked .pair-in) i (asked .i-below) (asked .holds) (asked .lacks) (room moves) in
+          let test = c .before .movable .ensures p (lies-at p count _ _ _ (scene .placement) i (asked .i-below)) in
           sym (blockStep-none p _ _ _ _ _ _
-          (λ e. not-so _ (λ t. no-contradiction (sym (told .1 t) ∙ c .if3 .left)))
+          (λ e. not-so _ (λ t. no-contradiction (sym (test .1 (told .0 t .0)) ∙ not-true _ (c .if3 .taken))))
           (λ e. no-contradiction (sym e ∙ moves)));
+    }
+
+is-free-requires : tie.Need-is-free-requires
+is-free-requires c κs = search needs
+
+returns-4 : tie.Need-returns-4
+unfolding hitOf
+returns-4 c =
+    let start = c .before .before .before .before .before .before .before .before .before .before in
+    let asked = start .pre in
+    let i = start .args .i in
+    let moves = c .before .before .before .before .before .before .if1 .left in
+    record {
+      sound = tt;
+      is = λ p count scene room.
+          let told = move-told p count _ _ _ _ scene (asked .asked .pair-in) i (asked .i-below) (asked .holds) (asked .lacks) (room moves) in
+          sym (blockStep-none p _ _ _ _ _ _
+          (λ e. not-so _ (λ t. no-contradiction (sym (c .before .is-free .ensures .1 (told .0 t .1)) ∙ not-true _ (c .if4 .taken))))
+          (λ e. no-contradiction (sym e ∙ moves)));
+    }
+
+returns-5 : tie.Need-returns-5
+unfolding hitOf
+returns-5 c =
+    let start = c .before .before .before .before .before .before .before .before .before .before in
+    let asked = start .pre in
+    let i = start .args .i in
+    let moves = c .before .before .before .before .before .before .if1 .left in
+    record {
+      sound = candidate-shift asked;
+      is = λ p count scene room.
+          let told = move-told p count _ _ _ _ scene (asked .asked .pair-in) i (asked .i-below) (asked .holds) (asked .lacks) (room moves) in
+          let test = c .before .before .before .movable .ensures p (lies-at p count _ _ _ (scene .placement) i (asked .i-below)) in
+          sym (blockStep-move p _ _ _ _ _ _ moves (told .1 (
+            test .0 (not-false _ (c .before .before .if3 .left)),
+            c .before .is-free .ensures .0 (not-false _ (c .if4 .left)),
+          )));
     }
 
 pub find-at-spec : {M : Type 1} → statement M
@@ -111,4 +134,6 @@ find-at-spec =
     shared-slice-read-movable-2
     movable-requires
     returns-3
-    returns-4)
+    is-free-requires
+    returns-4
+    returns-5)

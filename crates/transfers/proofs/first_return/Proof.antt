@@ -10,21 +10,21 @@ use Rattle.model.specs.Placement.{held}
 use Rattle.cluster.specs.declared.Cluster.{Cluster}
 use Rattle.cluster.specs.Blocks.{PlacementOf}
 use Rattle.index.specs.declared.Pair.{Pair}
-use Rattle.transfers.specs.Pair.{Partner}
-use Rattle.transfers.proofs.Laws.{Passed, passed-first, passed-next, passed-candidate, candidate-block, lies-at}
+use Rattle.transfers.specs.Pair.{FreeReturn}
+use Rattle.transfers.proofs.Laws.{Passed, passed-first, passed-next, passed-candidate, candidate-return}
 use borrow.Author.Needs.{needs}
 use Rattle.transfers.proofs.first_return.Statement.{statement}
 use Rattle.transfers.proofs.first_return.Tie as tie
 
--- block k is no partner
+-- block k does not come back
 abbrev Fails : Cluster → List ℕ → List ℕ → Pair → ℕ → ℕ → Type 0
 Fails cluster words profiles pair given k =
-    (p : Plan) (count : ℕ → ℕ) → PlacementOf p count cluster words profiles → Partner p words profiles pair given k → ⊥
+    (p : Plan) (count : ℕ → ℕ) → PlacementOf p count cluster words profiles → FreeReturn p words profiles pair given k → ⊥
 
--- a block that is no candidate is none
+-- nor does a block that is no candidate
 others : {cluster : Cluster} {words profiles : List ℕ} {pair : Pair} {given : ℕ} (k : ℕ) → k < cluster .blocks
     → (held words (pair .m) k ≡ 1 → held words (pair .n) k ≡ 0 → ⊥) → Fails cluster words profiles pair given k
-others k l other p count of t = other (t .holds) (t .lacks)
+others k l other p count of t = other (t .back .holds) (t .back .lacks)
 
 abbrev Inv-loop : tie.InvT-loop
 Inv-loop words profiles index cluster pair given j₀ j = Passed cluster words pair (Fails cluster words profiles pair given) j
@@ -40,39 +40,20 @@ loop-holds c =
     let start = c .before .before .before .before in
     passed-first (start .pre) others (c .next .ensures)
 
-mul-returnable : tie.Need-mul-returnable Inv-loop μ-loop
-mul-returnable c = search needs
-
-shared-slice-read-returnable : tie.Need-shared-slice-read-returnable Inv-loop μ-loop
-shared-slice-read-returnable c = search needs
-
-mul-returnable-2 : tie.Need-mul-returnable-2 Inv-loop μ-loop
-mul-returnable-2 c = search needs
-
-shared-slice-read-returnable-2 : tie.Need-shared-slice-read-returnable-2 Inv-loop μ-loop
-shared-slice-read-returnable-2 c = search needs
-
-returnable-requires : tie.Need-returnable-requires Inv-loop μ-loop
-returnable-requires c κs =
-    let at = c .before .before .before .before in
+can-return-requires : tie.Need-can-return-requires Inv-loop μ-loop
+can-return-requires c κs =
+    let at = c .before .before in
     let start = at .before .before .before .before .before in
-    candidate-block (passed-candidate (start .pre) (at .loop .inv) (c .before .before .if1 .taken))
+    candidate-return (passed-candidate (start .pre) (at .loop .inv) (c .if1 .taken))
 
 returns : tie.Need-returns Inv-loop μ-loop
 returns c =
-    let at = c .before .before .before .before .before .before in
-    let below = c .before .before .before .before .if1 .taken in
-    let inv = at .loop .inv in
+    let inv = c .before .before .before .before .loop .inv in
     record {
       holds = inv .holds;
       lacks = inv .lacks;
       passed = inv .before;
-      found = λ b p count of.
-          record {
-            holds = inv .holds below;
-            lacks = inv .lacks below;
-            test = c .before .returnable .ensures p (lies-at p count _ _ _ of (at .loop .j) below) .0 (c .if2 .taken);
-          };
+      found = λ b p count of. c .before .can-return .ensures p count of .0 (c .if2 .taken);
     }
 
 add-next : tie.Need-add-next Inv-loop μ-loop
@@ -86,13 +67,10 @@ loop-less c = omega (arith, c .next2 .ensures .at-least)
 
 loop-again : tie.Need-loop-again Inv-loop μ-loop
 loop-again c =
-    let at = c .before .before .before .before .before .before .before in
-    let below = c .before .before .before .before .before .if1 .taken in
+    let at = c .before .before .before .before .before in
     let start = at .before .before .before .before .before in
     passed-next (start .pre) others (at .loop .inv)
-    (λ p count of t.
-    let passes = c .before .before .returnable .ensures p (lies-at p count _ _ _ of (at .loop .j) below) .1 (t .test) in
-    no-contradiction (sym passes ∙ c .before .if2 .left))
+    (λ p count of t. no-contradiction (sym (c .before .before .can-return .ensures p count of .1 t) ∙ c .before .if2 .left))
     (c .next2 .ensures)
 
 returns-2 : tie.Need-returns-2 Inv-loop μ-loop
@@ -113,11 +91,7 @@ first-return-spec =
     μ-loop
     next-requires
     loop-holds
-    mul-returnable
-    shared-slice-read-returnable
-    mul-returnable-2
-    shared-slice-read-returnable-2
-    returnable-requires
+    can-return-requires
     returns
     add-next
     next-requires-2
