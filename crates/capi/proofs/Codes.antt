@@ -36,7 +36,7 @@ module _ {A : Type 0} (items : List ℕ) where
   unless-told zero call row told = told
   unless-told (suc code) call row told = record { some = omega arith; row = row }
 
-  verdict-told : (code : ℕ) (p : Plan) (rows : Plan → ℕ) (call : Plan → Outcome A) → code ≤ 11
+  verdict-told : (code : ℕ) (p : Plan) (rows : Plan → ℕ) (call : Plan → Outcome A) → code ≤ 17
       → (rows p ≤ lastRow) ⊎ (rows p ≡ shortOut) → Told (call p .answer) → Told (onPlan (verdict code p) items rows call .answer)
   unfolding onPlan
   verdict-told zero p rows call l row told = unless-told (rows p) (call p) row told
@@ -81,7 +81,7 @@ effect-tells need numbers items out call told =
     ]
 
 -- the verdict's code
-verdict-known : (code : ℕ) (p : Plan) → code ≤ 11 → (verdictCode (verdict code p) ≡ 0) ⊎ RefusalCode (verdictCode (verdict code p))
+verdict-known : (code : ℕ) (p : Plan) → code ≤ 17 → (verdictCode (verdict code p) ≡ 0) ⊎ RefusalCode (verdictCode (verdict code p))
 unfolding verdictCode
 verdict-known zero p l = inl refl
 verdict-known (suc code) p l = inr (record { some = omega arith; row = inl (omega arith) })

@@ -12,7 +12,7 @@ use Rattle.capi.specs.Interface.{shortOut, effect, noNumbers, reportNumb
 
 -- The last row of the table of refusals.
 abbrev pub lastRow : ℕ
-lastRow = 16
+lastRow = 18
 
 -- The code of a refusal.
 pub record RefusalCode (code : ℕ) : Type 0 where

@@ -12,7 +12,7 @@ ghost use Rattle.place.specs.Input.{inputOf, SourceIs};
 ghost use Rattle.place.specs.Output.{outputOf};
 
 // One byte more than the largest plan has. Of a longer input no more is read: it is refused as it would be in full.
-const INPUT_ROOM: usize = 5136;
+const INPUT_ROOM: usize = 6160;
 
 const STEP_LIMIT: u32 = 100000;
 
