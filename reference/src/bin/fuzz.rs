@@ -69,7 +69,7 @@ fn input(rng: &mut Rng) -> Vec<u8> {
     match rng.below(200) {
         0 => coarse(rng).bytes(),
         1..=3 => too_long(rng),
-        4..=13 => noise(rng),
+        4..=13 => noise(rng, 1),
         14..=49 => damaged(rng),
         50..=69 => draft(rng, MEDIUM).bytes(),
         70..=89 => filled(rng, SMALL).bytes(),
