@@ -4,8 +4,15 @@ use crate::gen::{draft, filled, placement, Draft, Record, Rng, Size};
 use crate::placement::{broken_rows, copies_of, held_by, holds};
 use crate::plan::Plan;
 
-/// The rows for a plan of version 2, in the order of the checks; those of one version 1 are without 17.
+/// The rows for a plan of version 2, in the order of the checks. Row 17 refuses none of version 1.
 pub const PLAN_ROWS: [u8; 12] = [1, 2, 3, 4, 5, 6, 7, 8, 9, 17, 10, 11];
+
+/// A row that may refuse a plan of this version.
+pub fn any_row(rng: &mut Rng, version: u16) -> u8 {
+    let rows = PLAN_ROWS.into_iter();
+    let rows: Vec<u8> = rows.filter(|row| *row != 17 || version == 2).collect();
+    rng.one_of(&rows)
+}
 
 /// The plan file with one more flaw, that of the given row (1 to 11, and 17 in version 2). Rows that need a record are
 /// left out of a file that has none.
