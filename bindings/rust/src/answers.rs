@@ -24,7 +24,9 @@ impl Refusal {
             5 => "the capacity is 0 or above 1,024",
             6 => "more than 1,024 blocks",
             7 => "the plan's length does not fit its version and number of blocks",
-            8 => "least copies 0 or above the smaller of 8 and the machines, of a pair half of them",
+            8 => {
+                "least copies 0 or above the smaller of 8 and the machines, of a pair half of them"
+            }
             9 => "a spread of 0, above the least copies, or above the racks",
             10 => "the sum of least copies is above the budget",
             11 => "the sum of least copies is above what the machines hold",
