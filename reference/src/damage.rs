@@ -194,7 +194,6 @@ fn couple(draft: &mut Draft, i: usize, number: usize) {
 fn differ(rng: &mut Rng, draft: &mut Draft, i: usize, how: Mispairing) -> bool {
     let half = (draft.machines() / 2).min(8);
     let (racks, other) = (draft.racks, i + rng.below(2) as usize);
-    let pair = &mut draft.records[i..i + 2];
     if how == Mispairing::Popularity {
         draft.records[other].popularity ^= 1 << rng.below(24);
         return true;
@@ -203,7 +202,7 @@ fn differ(rng: &mut Rng, draft: &mut Draft, i: usize, how: Mispairing) -> bool {
         return false;
     }
     let least = rng.from_to(2, half) as u8;
-    for record in pair {
+    for record in &mut draft.records[i..i + 2] {
         (record.least, record.spread) = (least, 1);
     }
     match how {

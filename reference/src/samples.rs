@@ -142,7 +142,7 @@ pub fn paired_plan(
     draft
 }
 
-/// Plan K, of a pair that fills the circle of positions and two blocks more: counts 2, 2, 1, 1; first words 5, 10, 1, 4.
+/// Plan K: a pair that fills the circle of positions, and two blocks more. Counts 2, 2, 1, 1; first words 5, 10, 1, 4.
 pub fn k() -> Draft {
     let pair = [(12, 2, 2, 1), (12, 2, 2, 0)];
     paired_plan(

@@ -162,6 +162,8 @@ fn maximum(plan: &Plan, words: &[u64]) -> u64 {
 #[test]
 fn bound_at_rest_by_brute_force() {
     let some = [plans(6, 300, QUARTER), plans(6, 300, PAIRED_QUARTER)].concat();
+    let with_pairs = some.iter().filter(|plan| plan.pairs().next().is_some());
+    assert!(with_pairs.count() > 60);
     for plan in some {
         let all = all_placements(&plan);
         let best = all.iter().map(|w| maximum(&plan, w)).min().unwrap();
