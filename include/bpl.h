@@ -5,23 +5,29 @@
  *
  * Results
  *   0         done: what is written below is written.
- *   1 to 16   refused, by the table below: nothing is written to any buffer.
+ *   1 to 18   refused, by the table below: nothing is written to any buffer.
  *   255       a lent buffer for results is too short (`out`, or the text of bpl_listing): nothing is written. A short
  *             `out` is judged first of all, before the plan is looked at.
  *   No other value is returned (proved: crates/capi/specs/Codes.antt, and for bpl_play by its contract).
  *
- *    1  the plan is shorter than 15 bytes            9  a spread is 0, above the least copies, or above R
- *    2  its mark differs from 42 50 4C              10  the sum of least copies is above the budget
- *    3  its version is not 1                        11  the sum of least copies is above M * C
- *    4  R or S is 0, or M is above 64               12  fewer than B counts or words are lent
- *    5  C is 0 or above 1,024                       13  a bit at or above M is set
- *    6  B is above 1,024                            14  a block's copies are not its chosen count
- *    7  its length is not 15 + 5 * B                15  a block lies in fewer racks than its spread
- *    8  least copies 0 or above min(8, M)           16  a machine holds more than C copies
+ *    1  the plan is shorter than 15 bytes           10  the sum of least copies is above the budget
+ *    2  its mark differs from 42 50 4C              11  the sum of least copies is above M * C
+ *    3  its version is neither 1 nor 2              12  fewer than B counts or words are lent
+ *    4  R or S is 0, or M is above 64               13  a bit at or above M is set
+ *    5  C is 0 or above 1,024                       14  a block's copies are not its chosen count
+ *    6  B is above 1,024                            15  a block lies in fewer racks than its spread
+ *    7  its length is not 15 + 5 * B in version 1   16  a machine holds more than C copies
+ *       or 15 + 6 * B in version 2                  17  a pair byte is neither 0 nor 1, or the last block has
+ *    8  least copies 0 or above min(8, M), of a         1, or two successive blocks have, or a pair differs
+ *       paired block above min(8, M / 2)                in popularity, least copies or spread
+ *    9  a spread is 0, above the least copies, or   18  a machine holds both blocks of a pair
+ *       above R
  *
- *   The checks go in numerical order, but 8 and 9 are made block by block, 8 first. 13 to 16 are made on a placement
- *   handed in (bpl_check, bpl_report, bpl_step, bpl_run, the calls of bpl_play), each over all blocks or machines
- *   before the next.
+ *   The checks go in numerical order, but 8 and 9 are made block by block, 8 first, and 17 directly after them. 13 to
+ *   16 and 18 are made on a placement handed in (bpl_check, bpl_report, bpl_step, bpl_run, the calls of bpl_play), each
+ *   over all blocks or machines before the next.
+ *   In version 2 a record has a sixth byte: 1 pairs the block with the next one, and no machine holds copies of both.
+ *   M / 2 is rounded down. Both of a pair are paired for 8, and so is every block behind a byte of 1.
  *
  * Buffers
  *   A buffer is a pointer and then the number of its items (bytes for uint8_t, words for uint64_t; not the size in
@@ -50,9 +56,9 @@
 extern "C" {
 #endif
 
-/* The largest plan: 1,024 blocks. */
+/* The largest plan of any version: 1,024 blocks in version 2. */
 #define BPL_MAX_BLOCKS 1024
-#define BPL_MAX_PLAN_BYTES (15 + 5 * BPL_MAX_BLOCKS)
+#define BPL_MAX_PLAN_BYTES (15 + 6 * BPL_MAX_BLOCKS)
 
 /* Items of `out` that a call writes, and has to be lent. */
 #define BPL_REPORT_NUMBERS 4
@@ -94,20 +100,20 @@ extern "C" {
 #define BPL_LEND(number) ((uint64_t)(number) << 35)
 #define BPL_LEND_ALL BPL_LEND(0x1FFFFFFF)
 
-/* Judges a plan: refusals 1 to 11. Writes nothing. */
+/* Judges a plan: refusals 1 to 11 and 17. Writes nothing. */
 uint32_t bpl_plan(const uint8_t *plan, size_t plan_len);
 
-/* The chosen counts: refusals 1 to 12. Writes the B counts to the first B items of `counts`; its later items stay. */
+/* The chosen counts: refusals 1 to 12 and 17. Writes the B counts to the first B items of `counts`; the others stay. */
 uint32_t bpl_counts(const uint8_t *plan, size_t plan_len, uint8_t *counts, size_t counts_len);
 
-/* The first placement: refusals 1 to 12. Writes the first B words. */
+/* The first placement: refusals 1 to 12 and 17. Writes the first B words. */
 uint32_t bpl_first(const uint8_t *plan, size_t plan_len, uint64_t *words, size_t words_len);
 
-/* Checks a placement: refusals 1 to 16. Writes nothing. */
+/* Checks a placement: refusals 1 to 18. Writes nothing. */
 uint32_t bpl_check(const uint8_t *plan, size_t plan_len, const uint64_t *words, size_t words_len);
 
 /*
- * Reports on a placement: refusals 1 to 16, and 255 where out_len is below 4.
+ * Reports on a placement: refusals 1 to 18, and 255 where out_len is below 4.
  * Writes out[0] the largest load of a machine, out[1] the smallest, out[2] the sum of all loads, out[3] the largest
  * share of a copy (0 if B is 0), in 840ths of a read.
  */
@@ -115,7 +121,7 @@ uint32_t bpl_report(const uint8_t *plan, size_t plan_len, const uint64_t *words,
                     uint64_t *out, size_t out_len);
 
 /*
- * Takes the next step of a placement: refusals 1 to 16, and 255 where out_len is below 6.
+ * Takes the next step of a placement: refusals 1 to 18, and 255 where out_len is below 6.
  * Writes the placement after the step to the first B words, and out[0] 1, out[1] the kind, out[2] m, out[3] n,
  * out[4] i, out[5] j: the copy of block i passes from machine m to n and, for a swap, that of block j from n to m
  * (j is 0 for a move). At rest there is no step: the words stay as they were and out[0] to out[5] are 0.
@@ -124,7 +130,7 @@ uint32_t bpl_step(const uint8_t *plan, size_t plan_len, uint64_t *words, size_t 
                   uint64_t *out, size_t out_len);
 
 /*
- * Takes next steps of a placement until rest or until `budget` steps are taken: refusals 1 to 16, and 255 where
+ * Takes next steps of a placement until rest or until `budget` steps are taken: refusals 1 to 18, and 255 where
  * out_len is below 2.
  * Writes the placement after the last step to the first B words, out[0] 1 for rest and 0 where the budget is spent
  * and a step is still left, and out[1] the number of steps taken.
@@ -133,8 +139,8 @@ uint32_t bpl_run(const uint8_t *plan, size_t plan_len, uint64_t *words, size_t w
                  uint32_t budget, uint64_t *out, size_t out_len);
 
 /*
- * The listing of a plan, of a run from its first placement with step budget `budget`: refusals 1 to 11, and 255 where
- * out_len is below 1 or text_len below BPL_LISTING_ROOM.
+ * The listing of a plan, of a run from its first placement with step budget `budget`: refusals 1 to 11 and 17, and 255
+ * where out_len is below 1 or text_len below BPL_LISTING_ROOM.
  * Writes the listing's bytes (ASCII, no 0 at the end) to the start of `text`, and their number to out[0]; the text
  * behind them stays.
  */
@@ -151,7 +157,7 @@ uint32_t bpl_listing(const uint8_t *plan, size_t plan_len, uint32_t budget, uint
  * so many of the words as it is lent, as the calls before it left them. A refused call writes nothing, and the next
  * one is made all the same. `other` may be empty: a call that gets it is refused with 1.
  * The words are as the last call left them. Writes that call's reply to out[0] to out[6]: out[0] its kind, and then
- *   BPL_REFUSED   out[1] the refusal, 1 to 16;
+ *   BPL_REFUSED   out[1] the refusal, 1 to 18;
  *   BPL_CHECKED   nothing: the check passed, or the script is empty;
  *   BPL_STEPPED   out[1] to out[6] as bpl_step writes out[0] to out[5];
  *   BPL_RAN       out[1] and out[2] as bpl_run writes out[0] and out[1];

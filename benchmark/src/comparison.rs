@@ -1,7 +1,7 @@
 //! The three sides on the largest plans and on the smallest.
 
 use crate::optimised::State;
-use crate::plans::{Size, LARGEST};
+use crate::plans::{Pairs, Size, LARGEST};
 use crate::sides::{compared, first_words, run_timed, step_timed, Side, LIBRARY};
 use crate::table::Table;
 use crate::timing::{ratio, shown, timed};
@@ -112,6 +112,58 @@ pub fn windows(after: &[u32]) {
     table.print();
 }
 
+/// A row of the table of pairs: the plan's own cells, then the times of one step.
+fn pairs_row(table: &mut Table, call: &str, size: Size, steps: u32, times: [f64; 3]) {
+    let own = [call, size.pairing(), &steps.to_string()].map(str::to_string);
+    row(table, &own, times);
+}
+
+/// Steps of a run from the first placement without pairs and with them.
+fn pairs_run(table: &mut Table, sizes: [Size; 2], steps: u32) {
+    let mut library = Vec::new();
+    for size in sizes {
+        let bytes = size.fine();
+        let start = first_words(&bytes, size.blocks);
+        let (times, (_, taken, _)) =
+            compared("pairs", |side| run_timed(side, &bytes, &start, steps));
+        let per_step = times.map(|time| time / f64::from(taken.max(1)));
+        pairs_row(table, "run", size, taken, per_step);
+        library.push(per_step[2]);
+    }
+    let more = ratio(library[1], library[0]);
+    println!("The library's mean step with pairs lasts {more} times as long as without.\n");
+}
+
+/// The mean step and the search at rest with pairs, beside the same plan without them.
+pub fn pairs(steps: u32) {
+    println!("## Pairs\n");
+    println!("64 machines, 1,024 blocks, spreads mixed, in version 2; half of the blocks are alike by twos. With all pair bytes");
+    println!("0, and with these twos as pairs. Time per step of a run from the first placement, popularities random in 24 bits,");
+    println!("and of one step call at rest, popularities from 0 to 9.\n");
+    let sizes = [Pairs::None, Pairs::Half].map(|pairs| Size {
+        mixed: true,
+        pairs,
+        ..LARGEST
+    });
+    let mut table = table(&["call", "pairs", "steps"]);
+    pairs_run(&mut table, sizes, steps);
+    for size in sizes {
+        let (bytes, words, taken) = rested(size);
+        let (times, _) = compared("pairs at rest", |side| step_timed(side, &bytes, &words));
+        pairs_row(&mut table, "step at rest", size, taken, times);
+    }
+    table.print();
+}
+
+/// A coarse plan, its placement at rest and the steps to it, which the library takes.
+fn rested(size: Size) -> (Vec<u8>, Vec<u64>, u32) {
+    let bytes = size.coarse();
+    let mut words = first_words(&bytes, size.blocks);
+    let (end, steps) = (LIBRARY.run)(&bytes, &mut words, 2_000_000).expect("words of this plan");
+    assert_eq!(end, End::Rest, "a coarse plan comes to rest");
+    (bytes, words, steps)
+}
+
 /// The search that finds no step.
 pub fn at_rest() {
     println!("## A full search at rest\n");
@@ -119,11 +171,7 @@ pub fn at_rest() {
     println!("reading the plan and judging the placement; the optimised version's search alone stands in the third column.\n");
     let mut table = table(&["spreads", "steps to rest", "search alone (optimised)"]);
     for size in BOTH {
-        let bytes = size.coarse();
-        let mut words = first_words(&bytes, size.blocks);
-        let (end, steps) =
-            (LIBRARY.run)(&bytes, &mut words, 2_000_000).expect("words of this plan");
-        assert_eq!(end, End::Rest, "a coarse plan comes to rest");
+        let (bytes, words, steps) = rested(size);
         let (times, (step, _)) = compared("rest", |side| step_timed(side, &bytes, &words));
         assert_eq!(step, None, "no step is left at rest");
         let plan = read(&bytes).expect("an accepted plan");

@@ -51,6 +51,7 @@ fn all(mode: &Mode) {
     comparison::long_runs(mode.steps);
     comparison::windows(mode.after);
     comparison::at_rest();
+    comparison::pairs(mode.steps.min(3000));
     growth::growth();
     comparison::smallest();
     memory::memory(mode.program);

@@ -1,8 +1,9 @@
 //! A straightforward optimised version, without proofs: what one writes in an hour from the specification.
 //!
 //! Loads and lists of blocks per machine are carried from step to step, pairs of machines with Lm <= Ln are passed
-//! over, and the racks of a block are counted only where it changes racks and its spread is above one. Reading a plan,
-//! counts and the first placement are the reference's, which are quick already.
+//! over, and the racks of a block are counted only where it changes racks and its spread is above one. The other block of
+//! a pair is looked up in a table. Reading a plan, counts and the first placement are the reference's, which are quick
+//! already.
 
 use placement_reference::calls::Report;
 use placement_reference::counts::{chosen, share};
@@ -21,6 +22,8 @@ pub struct State<'a> {
     blocks_on: Vec<Vec<usize>>,
     rack_of: Vec<usize>,
     rack_masks: Vec<u64>,
+    /// The other block of each block's pair.
+    partners: Vec<Option<usize>>,
 }
 
 /// The machines of each rack as bits.
@@ -64,6 +67,7 @@ impl<'a> State<'a> {
             blocks_on: vec![Vec::new(); plan.machines()],
             rack_of: (0..plan.machines()).map(|m| plan.rack_of(m)).collect(),
             rack_masks: rack_masks(plan),
+            partners: (0..words.len()).map(|i| plan.partner(i)).collect(),
         };
         for (i, word) in words.iter().enumerate() {
             for m in machines_of(*word) {
@@ -90,6 +94,12 @@ impl<'a> State<'a> {
             || racks_used(&self.rack_masks, passed(self.words[i], from, to)) >= spread
     }
 
+    /// Block i may come to machine n: the other one of its pair is not there, or is `leaving`.
+    fn stays_apart(&self, i: usize, n: usize, leaving: Option<usize>) -> bool {
+        let meets = |other: usize| Some(other) != leaving && holds(self.words[other], n);
+        !self.partners[i].is_some_and(meets)
+    }
+
     /// The first block that may move from m to n, where Lm is above Ln by `gap`.
     fn first_move(&self, m: usize, n: usize, gap: u64) -> Option<(usize, Option<usize>)> {
         if self.blocks_on[n].len() >= self.plan.capacity {
@@ -97,7 +107,11 @@ impl<'a> State<'a> {
         }
         let suits = |i: usize| {
             let share = self.shares[i];
-            0 < share && share < gap && !holds(self.words[i], n) && self.stays_spread(i, m, n)
+            0 < share
+                && share < gap
+                && !holds(self.words[i], n)
+                && self.stays_apart(i, n, None)
+                && self.stays_spread(i, m, n)
         };
         let found = self.blocks_on[m].iter().find(|i| suits(**i))?;
         Some((*found, None))
@@ -108,7 +122,12 @@ impl<'a> State<'a> {
         let out = self.shares[i];
         let suits = |j: usize| {
             let back = self.shares[j];
-            back < out && out - back < gap && !holds(self.words[j], m) && self.stays_spread(j, n, m)
+            back < out
+                && out - back < gap
+                && !holds(self.words[j], m)
+                && self.stays_apart(i, n, Some(j))
+                && self.stays_apart(j, m, Some(i))
+                && self.stays_spread(j, n, m)
         };
         self.blocks_on[n].iter().copied().find(|j| suits(*j))
     }
@@ -203,7 +222,7 @@ impl<'a> State<'a> {
     }
 }
 
-/// The check of a placement handed in (rows 12 to 16).
+/// The check of a placement handed in (rows 12 to 16, and 18).
 pub fn check(plan: &Plan, lent: &[u64]) -> Result<(), Refusal> {
     let number = plan.blocks.len();
     if lent.len() < number {
@@ -232,6 +251,9 @@ pub fn check(plan: &Plan, lent: &[u64]) -> Result<(), Refusal> {
         .for_each(|w| machines_of(*w).for_each(|m| copies[m] += 1));
     if copies.iter().any(|c| *c > plan.capacity) {
         return Err(16);
+    }
+    if plan.pairs().any(|(i, k)| words[i] & words[k] != 0) {
+        return Err(18);
     }
     Ok(())
 }

@@ -10,6 +10,17 @@ pub struct Size {
     pub blocks: u16,
     /// Spreads from one to the block's least copies; else all spreads are one.
     pub mixed: bool,
+    /// Which blocks are paired.
+    pub pairs: Pairs,
+}
+
+/// The pairs of a plan. The last two are the same plan in version 2, of which the first half of the blocks are alike by
+/// twos: with all pair bytes 0, or with these twos as pairs.
+#[derive(Clone, Copy, PartialEq, Eq)]
+pub enum Pairs {
+    Version1,
+    None,
+    Half,
 }
 
 /// 64 machines and 1,024 blocks.
@@ -18,6 +29,7 @@ pub const LARGEST: Size = Size {
     per_rack: 8,
     blocks: 1024,
     mixed: false,
+    pairs: Pairs::Version1,
 };
 
 impl Size {
@@ -34,6 +46,24 @@ impl Size {
         }
     }
 
+    /// What the tables call the pairs.
+    pub fn pairing(&self) -> &'static str {
+        match self.pairs {
+            Pairs::Half => "half of the blocks",
+            _ => "none",
+        }
+    }
+
+    /// The plan with the pairs of this size.
+    fn paired(&self, draft: Draft) -> Draft {
+        let half = draft.coupled(draft.records.len() / 2);
+        match self.pairs {
+            Pairs::Version1 => draft,
+            Pairs::None => half.unpaired(),
+            Pairs::Half => half,
+        }
+    }
+
     /// A record with least copies from 1 to 3.
     fn record(&self, rng: &mut Rng, popularity: u32) -> Record {
         let least = rng.from_to(1, 3) as u8;
@@ -42,6 +72,7 @@ impl Size {
             popularity,
             least,
             spread: rng.from_to(1, u64::from(most)) as u8,
+            pair: 0,
         }
     }
 
@@ -55,12 +86,14 @@ impl Size {
             self.record(&mut rng, popularity)
         });
         let draft = Draft {
+            version: 1,
             racks: self.racks,
             per_rack: self.per_rack,
             capacity: (5 * blocks).div_ceil(self.machines() as u32) as u16,
             records: records.collect(),
             budget: blocks * 4000 / 1024,
         };
+        let draft = self.paired(draft);
         assert!(draft.plan().is_some(), "a plan that is timed is accepted");
         draft.bytes()
     }

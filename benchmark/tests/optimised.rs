@@ -2,11 +2,11 @@
 
 use placement_benchmark::optimised::{check, enter_report, enter_run, enter_step, listing, State};
 use placement_reference::calls;
-use placement_reference::damage::{broken, flawed};
+use placement_reference::damage::{any_row, broken, flawed, mispaired, MISPAIRINGS};
 use placement_reference::gen::*;
 use placement_reference::listing::text;
 use placement_reference::placement::{first, loads};
-use placement_reference::samples::{empty, h, one_machine, y, z, Z_WORDS};
+use placement_reference::samples::*;
 use placement_reference::steps::{step_plain, End};
 use placement_reference::{placement, plan::Plan};
 
@@ -33,11 +33,16 @@ fn same_run(bytes: &[u8], words: &[u64], budget: u32) {
     assert_eq!(ours, theirs);
 }
 
+/// A size in both versions.
+fn both_versions(size: Size) -> [Size; 2] {
+    [size, size.paired()]
+}
+
 #[test]
 fn steps_of_random_plans() {
     let mut rng = Rng::new(1);
     let mut taken = 0;
-    for size in [TINY, SMALL, MEDIUM] {
+    for size in [TINY, SMALL, MEDIUM].into_iter().flat_map(both_versions) {
         for _ in 0..150 {
             let plan = draft(&mut rng, size).plan().expect("accepted");
             taken += same_steps(&plan, &first(&plan), 60);
@@ -45,24 +50,44 @@ fn steps_of_random_plans() {
             taken += same_steps(&plan, &words, 60);
         }
     }
-    assert!(taken > 5000, "only {taken} steps were compared");
+    assert!(taken > 10_000, "only {taken} steps were compared");
+}
+
+/// Pairs of which one block cannot follow the other: in one rack and in two, by moves and by exchanges.
+#[test]
+fn steps_that_a_pair_forbids() {
+    for shape in [(1, 2), (2, 1)] {
+        for draft in [no_move_for_pair(shape), no_swap_for_pair(shape)] {
+            let plan = draft.plan().expect("accepted");
+            let without = draft.unpaired().plan().expect("accepted");
+            assert_eq!(same_steps(&plan, &PAIR_WORDS, 9), 0);
+            assert!(same_steps(&without, &PAIR_WORDS, 9) > 0);
+        }
+    }
 }
 
 #[test]
 fn steps_with_full_machines() {
     let mut rng = Rng::new(2);
-    for _ in 0..150 {
-        let plan = filled(&mut rng, SMALL).plan().expect("accepted");
-        let words = leaning(&mut rng, &plan);
-        same_steps(&plan, &words, 60);
+    for size in both_versions(SMALL) {
+        for _ in 0..150 {
+            let plan = filled(&mut rng, size).plan().expect("accepted");
+            let words = leaning(&mut rng, &plan);
+            same_steps(&plan, &words, 60);
+        }
     }
 }
 
 #[test]
 fn steps_of_the_largest_plans() {
     let mut rng = Rng::new(3);
-    for (racks, per_rack) in [(8, 8), (1, 64), (64, 1)] {
-        let plan = sized(&mut rng, LARGE, racks, per_rack, 1024)
+    for (racks, per_rack, size) in [
+        (8, 8, LARGE),
+        (1, 64, LARGE),
+        (64, 1, LARGE),
+        (8, 8, LARGE.paired()),
+    ] {
+        let plan = sized(&mut rng, size, racks, per_rack, 1024)
             .plan()
             .expect("accepted");
         same_steps(&plan, &first(&plan), 12);
@@ -81,7 +106,10 @@ fn whole_runs() {
             coarse: true,
             ..MEDIUM
         },
-    ] {
+    ]
+    .into_iter()
+    .flat_map(both_versions)
+    {
         for _ in 0..100 {
             let draft = draft(&mut rng, size);
             let plan = draft.plan().expect("accepted");
@@ -108,10 +136,11 @@ fn rest_is_answered_at_rest() {
 #[test]
 fn checks_and_single_steps() {
     let mut rng = Rng::new(5);
-    for k in 0..600 {
-        let draft = draft(&mut rng, SMALL);
+    for k in 0..1200 {
+        let size = both_versions(SMALL)[k / 600];
+        let draft = draft(&mut rng, size);
         let plan = draft.plan().expect("accepted");
-        let rows = [0, 1, 2, 3].map(|r| k >> r & 1 == 1);
+        let rows = [0, 1, 2, 3, 4].map(|r| k >> r & 1 == 1);
         let Some(words) = broken(&mut rng, &plan, rows) else {
             continue;
         };
@@ -135,15 +164,21 @@ fn checks_and_single_steps() {
 #[test]
 fn listings() {
     let mut rng = Rng::new(6);
-    for draft in [h(), y(), z(), empty(), one_machine()] {
+    for draft in [h(), y(), z(), k(), empty(), one_machine()] {
         assert_eq!(listing(&draft.bytes(), 100), text(&draft.bytes(), 100));
     }
-    for _ in 0..200 {
-        let bytes = draft(&mut rng, SMALL).bytes();
-        let row = rng.from_to(1, 11) as u8;
+    for k in 0..400 {
+        let size = both_versions(SMALL)[k / 200];
+        let bytes = draft(&mut rng, size).bytes();
+        let row = any_row(&mut rng, size.version);
         let damaged = flawed(&mut rng, bytes.clone(), row);
         for bytes in [bytes, damaged] {
             assert_eq!(listing(&bytes, 20), text(&bytes, 20));
+        }
+    }
+    for how in MISPAIRINGS {
+        if let Some(draft) = mispaired(&mut rng, SMALL.paired(), how) {
+            assert_eq!(listing(&draft.bytes(), 20), "refused 17\n");
         }
     }
 }

@@ -12,7 +12,7 @@
  * How every call is used here:
  * - All memory is the caller's. A buffer is passed as a pointer and its number of items, not its size in bytes.
  * - The code that a call answers is looked at before anything else. Only with code 0 has the call written something;
- *   with a refusal, 1 to 16, every buffer is as it was.
+ *   with a refusal, 1 to 18, every buffer is as it was.
  * - BPL_SHORT_BUFFER is no property of the plan but a mistake of the caller: a buffer for results is too short.
  */
 #include "bpl.h"
@@ -30,11 +30,11 @@
 #define UNITS_PER_READ 840
 
 /* Where the fields of a plan file begin, and how many bytes each has. */
+#define VERSION_AT 3
 #define RACKS_AT 5
 #define RACK_SIZE_AT 6
 #define BLOCKS_AT 13
 #define RECORDS_AT 15
-#define RECORD_BYTES 5
 #define POPULARITY_BYTES 3
 
 enum { LISTED = 0, REFUSED = 1, FAILED = 2 };
@@ -48,12 +48,12 @@ static const char *reason(uint32_t code)
         [0] = "done",
         [1] = "the plan is shorter than 15 bytes",
         [2] = "the mark differs",
-        [3] = "the version is not 1",
+        [3] = "the version is neither 1 nor 2",
         [4] = "R or S is 0, or there are more than 64 machines",
         [5] = "C is 0 or above 1,024",
         [6] = "there are more than 1,024 blocks",
-        [7] = "the length is not 15 + 5 * B",
-        [8] = "a block's least copies are 0 or above the smaller of 8 and M",
+        [7] = "the length is not 15 + 5 * B in version 1, or 15 + 6 * B in version 2",
+        [8] = "a block's least copies are 0 or above the smaller of 8 and M, in a pair of 8 and half of M",
         [9] = "a block's spread is 0, above its least copies, or above R",
         [10] = "the sum of least copies is above the budget",
         [11] = "the sum of least copies is above M * C",
@@ -62,6 +62,8 @@ static const char *reason(uint32_t code)
         [14] = "a block's copies are not its chosen count",
         [15] = "a block lies in fewer racks than its spread",
         [16] = "a machine holds more than C copies",
+        [17] = "a pair byte is neither 0 nor 1, marks no pair, or marks two blocks that differ",
+        [18] = "a machine holds both blocks of a pair",
     };
     if (code < sizeof reasons / sizeof reasons[0])
         return reasons[code];
@@ -91,6 +93,12 @@ static uint32_t field(const uint8_t *plan, size_t at, size_t bytes)
     for (size_t k = 0; k < bytes; k++)
         number = number << 8 | plan[at + k];
     return number;
+}
+
+/* The bytes of a record: version 2 has a pair byte behind the spread. */
+static size_t record_bytes(const uint8_t *plan)
+{
+    return field(plan, VERSION_AT, 2) == 1 ? 5 : 6;
 }
 
 /* Makes plan H with a budget of copies: 2 racks of 2 machines, 3 copies on each, three blocks. Answers its length. */
@@ -210,7 +218,7 @@ static uint32_t list(struct store *store, struct text *text)
     text->size = 0;
     add(text, "plan %" PRIu32 " %" PRIu32 " %" PRIu32 "\n", racks, rack_size, blocks);
     for (uint32_t i = 0; i < blocks; i++) {
-        const uint64_t popularity = field(plan, RECORDS_AT + RECORD_BYTES * (size_t)i, POPULARITY_BYTES);
+        const uint64_t popularity = field(plan, RECORDS_AT + record_bytes(plan) * i, POPULARITY_BYTES);
         const uint64_t share = popularity * UNITS_PER_READ / store->counts[i];
         add(text, "block %" PRIu32 " %u %" PRIu64, i, (unsigned)store->counts[i], share);
         for (uint32_t m = 0; m < racks * rack_size; m++)

@@ -1,22 +1,22 @@
 //! Counts and shares.
 
-use crate::plan::{Block, Plan};
+use crate::plan::Plan;
 
 /// The share of a copy: P × 840 / count, in 840ths of a read.
 pub fn share(popularity: u64, count: usize) -> u64 {
     popularity * 840 / count as u64
 }
 
-/// The smallest count from least copies to the upper count whose share is within `figure`.
-fn smallest_within(plan: &Plan, block: &Block, figure: u64) -> Option<usize> {
-    (block.least..=plan.upper()).find(|c| share(block.popularity, *c) <= figure)
+/// The smallest count of block i, from its least copies to its upper count, whose share is within `figure`.
+fn smallest_within(plan: &Plan, i: usize, figure: u64) -> Option<usize> {
+    let block = &plan.blocks[i];
+    (block.least..=plan.upper(i)).find(|c| share(block.popularity, *c) <= figure)
 }
 
 /// Every block's smallest count within `figure`; nothing if some block has none.
 fn all_within(plan: &Plan, figure: u64) -> Option<Vec<usize>> {
-    plan.blocks
-        .iter()
-        .map(|b| smallest_within(plan, b, figure))
+    (0..plan.blocks.len())
+        .map(|i| smallest_within(plan, i, figure))
         .collect()
 }
 
@@ -30,8 +30,8 @@ fn fitting(plan: &Plan, figure: u64) -> Option<Vec<usize>> {
 /// All shares that any block can have, and 0, rising.
 fn figures(plan: &Plan) -> Vec<u64> {
     let mut all = vec![0];
-    for block in &plan.blocks {
-        all.extend((block.least..=plan.upper()).map(|c| share(block.popularity, c)));
+    for (i, block) in plan.blocks.iter().enumerate() {
+        all.extend((block.least..=plan.upper(i)).map(|c| share(block.popularity, c)));
     }
     all.sort_unstable();
     all.dedup();

@@ -1,16 +1,26 @@
-//! Damaged plans (rows 1 to 11) and damaged placements (rows 12 to 16).
+//! Damaged plans (rows 1 to 11, and 17) and damaged placements (rows 13 to 16, and 18).
 
 use crate::gen::{draft, filled, placement, Draft, Record, Rng, Size};
-use crate::placement::{broken_rows, copies_of, holds};
+use crate::placement::{broken_rows, copies_of, held_by, holds};
 use crate::plan::Plan;
 
-/// The plan file with one more flaw, that of the given row (1 to 11). Rows that need a record are left
-/// out of a file that has none.
+/// The rows for a plan of version 2, in the order of the checks. Row 17 refuses none of version 1.
+pub const PLAN_ROWS: [u8; 12] = [1, 2, 3, 4, 5, 6, 7, 8, 9, 17, 10, 11];
+
+/// A row that may refuse a plan of this version.
+pub fn any_row(rng: &mut Rng, version: u16) -> u8 {
+    let rows = PLAN_ROWS.into_iter();
+    let rows: Vec<u8> = rows.filter(|row| *row != 17 || version == 2).collect();
+    rng.one_of(&rows)
+}
+
+/// The plan file with one more flaw, that of the given row (1 to 11, and 17 in version 2). Rows that need a record are
+/// left out of a file that has none.
 pub fn flawed(rng: &mut Rng, mut bytes: Vec<u8>, row: u8) -> Vec<u8> {
     match row {
         1 => bytes.truncate(rng.below(15) as usize),
         2 => bytes[rng.below(3) as usize] ^= rng.from_to(1, 255) as u8,
-        3 => bytes[rng.from_to(3, 4) as usize] ^= rng.from_to(1, 255) as u8,
+        3 => strange_version(rng, &mut bytes),
         4 => set(&mut bytes, 5, &machines_refused(rng)),
         5 => set(
             &mut bytes,
@@ -22,6 +32,7 @@ pub fn flawed(rng: &mut Rng, mut bytes: Vec<u8>, row: u8) -> Vec<u8> {
         8 => flaw_record(rng, &mut bytes, 3, &[0, 9, 255]),
         9 => flaw_record(rng, &mut bytes, 4, &[0, 9, 65, 255]),
         10 => set(&mut bytes, 9, &rng.one_of(&[[0; 4], [0, 0, 0, 1]])),
+        17 => flaw_record(rng, &mut bytes, 5, &[2, 3, 128, 255]),
         _ => set(&mut bytes, 5, &[1, 1, 0, 1]),
     }
     bytes
@@ -33,6 +44,14 @@ fn set(bytes: &mut [u8], at: usize, what: &[u8]) {
         if at + k < bytes.len() {
             bytes[at + k] = *byte;
         }
+    }
+}
+
+/// Another version: 0, or one above 4, so that no request describes it.
+fn strange_version(rng: &mut Rng, bytes: &mut [u8]) {
+    bytes[rng.from_to(3, 4) as usize] ^= rng.from_to(1, 255) as u8;
+    if bytes[3] == 0 && (1..=4).contains(&bytes[4]) {
+        bytes[4] += 4;
     }
 }
 
@@ -53,21 +72,32 @@ fn machines_refused(rng: &mut Rng) -> [u8; 2] {
     ])
 }
 
+/// The bytes of a record in this file.
+fn record_length(bytes: &[u8]) -> usize {
+    if bytes.get(3..5) == Some(&[0, 2]) {
+        6
+    } else {
+        5
+    }
+}
+
 /// One byte too few, one too many, or one record too many.
 fn lengthened(rng: &mut Rng, bytes: &mut Vec<u8>) {
+    let record = [0, 0, 1, 1, 1, 0];
     match rng.below(3) {
         0 if bytes.len() > 15 => bytes.truncate(bytes.len() - 1),
-        1 => bytes.extend([0, 0, 1, 1, 1]),
+        1 => bytes.extend(&record[..record_length(bytes)]),
         _ => bytes.push(0),
     }
 }
 
 /// Puts one of the numbers into byte `at` of a record.
 fn flaw_record(rng: &mut Rng, bytes: &mut [u8], at: usize, numbers: &[u8]) {
-    let number = (bytes.len().max(15) - 15) / 5;
+    let length = record_length(bytes);
+    let number = (bytes.len().max(15) - 15) / length;
     if number > 0 {
         let i = rng.below(number as u64) as usize;
-        bytes[15 + 5 * i + at] = rng.one_of(numbers);
+        bytes[15 + length * i + at] = rng.one_of(numbers);
     }
 }
 
@@ -85,6 +115,7 @@ pub fn over_capacity(rng: &mut Rng, size: Size) -> Draft {
         popularity: rng.below(9) as u32,
         least: 1,
         spread: 1,
+        pair: 0,
     });
     draft.budget = draft.least_sum() as u32 + rng.below(3) as u32;
     draft
@@ -109,14 +140,132 @@ pub fn two_records(rng: &mut Rng, size: Size, least_first: bool) -> Option<Draft
 /// An accepted plan with a spread above R that is not above the block's least copies: row 9.
 pub fn over_racks(rng: &mut Rng, size: Size) -> Option<Draft> {
     let mut draft = draft(rng, size);
-    let most = draft.machines().min(8) as u8;
-    if draft.records.is_empty() || most <= draft.racks {
+    if draft.records.is_empty() || draft.machines().min(8) <= u64::from(draft.racks) {
         return None;
     }
     let i = rng.below(draft.records.len() as u64) as usize;
+    let most = draft.upper(i);
+    if most <= draft.racks {
+        return None;
+    }
     draft.records[i].least = rng.from_to(u64::from(draft.racks) + 1, u64::from(most)) as u8;
     draft.records[i].spread = draft.racks + 1;
     Some(draft)
+}
+
+/// The ways in which row 17 refuses a plan: a byte that is neither 0 nor 1, the last block with 1, two successive
+/// blocks with 1, a pair that differs in popularity, least copies or spread.
+#[derive(Clone, Copy, Debug, PartialEq, Eq)]
+pub enum Mispairing {
+    Neither,
+    Last,
+    Successive,
+    Popularity,
+    Least,
+    Spread,
+}
+
+pub const MISPAIRINGS: [Mispairing; 6] = [
+    Mispairing::Neither,
+    Mispairing::Last,
+    Mispairing::Successive,
+    Mispairing::Popularity,
+    Mispairing::Least,
+    Mispairing::Spread,
+];
+
+/// Makes so many blocks from i on alike and gives all but the last of them the byte 1, so that two are a pair; no pair
+/// ends at i. Least copies and spread are within the limits of a paired block.
+fn couple(draft: &mut Draft, i: usize, number: usize) {
+    let half = (draft.machines() / 2).min(8) as u8;
+    let mut record = draft.records[i];
+    record.least = record.least.min(half);
+    record.spread = record.spread.min(record.least);
+    if i > 0 {
+        draft.records[i - 1].pair = 0;
+    }
+    for k in 0..number {
+        record.pair = u8::from(k + 1 < number);
+        draft.records[i + k] = record;
+    }
+}
+
+/// Makes the pair at i differ in its popularity, least copies or spread. False where the machines are too few.
+fn differ(rng: &mut Rng, draft: &mut Draft, i: usize, how: Mispairing) -> bool {
+    let half = (draft.machines() / 2).min(8);
+    let (racks, other) = (draft.racks, i + rng.below(2) as usize);
+    if how == Mispairing::Popularity {
+        draft.records[other].popularity ^= 1 << rng.below(24);
+        return true;
+    }
+    if half < 2 || how == Mispairing::Spread && racks < 2 {
+        return false;
+    }
+    let least = rng.from_to(2, half) as u8;
+    for record in &mut draft.records[i..i + 2] {
+        (record.least, record.spread) = (least, 1);
+    }
+    match how {
+        Mispairing::Least => draft.records[other].least -= 1,
+        _ => draft.records[other].spread = 2,
+    }
+    true
+}
+
+/// A plan with room for all least copies that row 17 refuses in this way alone, for a size of version 2.
+pub fn mispaired(rng: &mut Rng, size: Size, how: Mispairing) -> Option<Draft> {
+    let mut draft = draft(rng, size);
+    let number = draft.records.len();
+    if number < 3 || draft.machines() < 2 {
+        return None;
+    }
+    (draft.capacity, draft.budget) = (1024, u32::MAX);
+    let i = rng.below(number as u64 - 2) as usize;
+    match how {
+        Mispairing::Neither => draft.records[i].pair = rng.from_to(2, 255) as u8,
+        Mispairing::Last => {
+            couple(&mut draft, number - 1, 1);
+            draft.records[number - 1].pair = 1;
+        }
+        Mispairing::Successive => couple(&mut draft, i, 3),
+        _ => {
+            let i = i + rng.below(2) as usize;
+            couple(&mut draft, i, 2);
+            if !differ(rng, &mut draft, i, how) {
+                return None;
+            }
+        }
+    }
+    Some(draft)
+}
+
+/// The plan with one more flaw of row 8 or 9, at any block.
+pub fn with_block_flaw(rng: &mut Rng, mut draft: Draft, row: u8) -> Draft {
+    let i = rng.below(draft.records.len() as u64) as usize;
+    match row {
+        8 => draft.records[i].least = rng.one_of(&[0, draft.upper(i) + 1, 255]),
+        _ => draft.records[i].spread = rng.one_of(&[0, draft.records[i].least + 1, 255]),
+    }
+    draft
+}
+
+/// The plan with one more flaw of row 10 or 11; for the latter blocks come before the first.
+pub fn with_sum_flaw(rng: &mut Rng, mut draft: Draft, row: u8) -> Draft {
+    if row == 10 {
+        draft.budget = rng.below(draft.least_sum()) as u32;
+        return draft;
+    }
+    draft.capacity = 1;
+    while draft.least_sum() <= draft.machines() {
+        let record = Record {
+            popularity: 1,
+            least: 1,
+            spread: 1,
+            pair: 0,
+        };
+        draft.records.insert(0, record);
+    }
+    draft
 }
 
 /// Sets a bit at or above M, in place of a copy or beside it.
@@ -163,34 +312,63 @@ fn crowd(rng: &mut Rng, plan: &Plan, words: &mut [u64]) {
     words[i] = (0..copies_of(words[i])).fold(0, |w, k| w | 1 << (start + k));
 }
 
-/// Lays a copy of every other block on one machine, in place of another copy of the same rack or of any.
+/// Lays a copy of every other block on one machine, in place of another copy of the same rack or of any; of a pair one
+/// block only.
 fn overload(rng: &mut Rng, plan: &Plan, words: &mut [u64]) {
     let to = rng.below(plan.machines() as u64) as usize;
     let same_rack = rng.once_in(2);
-    for word in words.iter_mut() {
+    for i in 0..words.len() {
         let suits = |m: &usize| !same_rack || plan.rack_of(*m) == plan.rack_of(to);
         let from = (0..plan.machines())
             .filter(suits)
-            .find(|m| holds(*word, *m));
-        if let Some(m) = from.filter(|_| !holds(*word, to)) {
-            *word = *word & !(1 << m) | 1 << to;
+            .find(|m| holds(words[i], *m));
+        let there = |k: usize| holds(words[k], to);
+        if let Some(m) = from.filter(|_| !there(i) && !plan.partner(i).is_some_and(there)) {
+            words[i] = words[i] & !(1 << m) | 1 << to;
         }
     }
 }
 
-/// Words that break exactly the rows marked (13 to 16), if some are found soon.
-pub fn broken(rng: &mut Rng, plan: &Plan, rows: [bool; 4]) -> Option<Vec<u64>> {
+/// Lays a copy of one block of some pair on a machine that holds the other one; where that is then too full, a third
+/// block leaves it for the machine that the copy came from.
+fn collide(rng: &mut Rng, plan: &Plan, words: &mut [u64]) {
+    let pairs: Vec<(usize, usize)> = plan.pairs().flat_map(|(i, k)| [(i, k), (k, i)]).collect();
+    if pairs.is_empty() {
+        return;
+    }
+    let (i, k) = rng.one_of(&pairs);
+    let only = |a: usize, b: usize| -> Vec<usize> {
+        let on_a = |m: &usize| holds(words[a], *m) && !holds(words[b], *m);
+        (0..plan.machines()).filter(on_a).collect()
+    };
+    let (to, from) = (only(i, k), only(k, i));
+    if to.is_empty() || from.is_empty() {
+        return;
+    }
+    let (m, n) = (rng.one_of(&to), rng.one_of(&from));
+    words[k] = words[k] & !(1 << n) | 1 << m;
+    let passes = |j: &usize| *j != i && *j != k && holds(words[*j], m) && !holds(words[*j], n);
+    let third: Vec<usize> = (0..words.len()).filter(passes).collect();
+    if held_by(words, m) > plan.capacity && !third.is_empty() {
+        let j = rng.one_of(&third);
+        words[j] = words[j] & !(1 << m) | 1 << n;
+    }
+}
+
+/// Words that break exactly the rows marked (13 to 16, and 18), if some are found soon.
+pub fn broken(rng: &mut Rng, plan: &Plan, rows: [bool; 5]) -> Option<Vec<u64>> {
     if plan.blocks.is_empty() {
         return None;
     }
     for _ in 0..12 {
         let mut words = placement(rng, plan);
-        for row in (0..4).rev().filter(|r| rows[*r]) {
+        for row in (0..5).rev().filter(|r| rows[*r]) {
             match row {
                 0 => set_outside(rng, plan, &mut words),
                 1 => miscount(rng, plan, &mut words),
                 2 => crowd(rng, plan, &mut words),
-                _ => overload(rng, plan, &mut words),
+                3 => overload(rng, plan, &mut words),
+                _ => collide(rng, plan, &mut words),
             }
         }
         if broken_rows(plan, &words) == rows {

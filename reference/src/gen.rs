@@ -40,17 +40,19 @@ impl Rng {
     }
 }
 
-/// A record of a plan file before it is judged.
+/// A record of a plan file before it is judged. The pair byte is written in version 2 only.
 #[derive(Clone, Copy, Debug)]
 pub struct Record {
     pub popularity: u32,
     pub least: u8,
     pub spread: u8,
+    pub pair: u8,
 }
 
 /// The fields of a plan file before it is judged.
 #[derive(Clone, Debug)]
 pub struct Draft {
+    pub version: u16,
     pub racks: u8,
     pub per_rack: u8,
     pub capacity: u16,
@@ -69,17 +71,58 @@ impl Draft {
         self.records.iter().map(|r| u64::from(r.least)).sum()
     }
 
+    /// The upper count of block i: the smaller of 8 and M, for a paired block of 8 and half of M.
+    pub fn upper(&self, i: usize) -> u8 {
+        let paired = self.records[i.saturating_sub(1)..=i]
+            .iter()
+            .any(|r| r.pair == 1);
+        let most = self.machines() / if paired { 2 } else { 1 };
+        most.min(8) as u8
+    }
+
     /// The plan file.
     pub fn bytes(&self) -> Vec<u8> {
-        let mut bytes = vec![0x42, 0x50, 0x4C, 0, 1, self.racks, self.per_rack];
+        let mut bytes = vec![0x42, 0x50, 0x4C];
+        bytes.extend(self.version.to_be_bytes());
+        bytes.extend([self.racks, self.per_rack]);
         bytes.extend(self.capacity.to_be_bytes());
         bytes.extend(self.budget.to_be_bytes());
         bytes.extend((self.records.len() as u16).to_be_bytes());
         for r in &self.records {
             bytes.extend(&r.popularity.to_be_bytes()[1..]);
             bytes.extend([r.least, r.spread]);
+            if self.version == 2 {
+                bytes.push(r.pair);
+            }
         }
         bytes
+    }
+
+    /// The same plan in version 2, with all pair bytes 0.
+    pub fn unpaired(&self) -> Draft {
+        let records = self.records.iter().map(|r| Record { pair: 0, ..*r });
+        Draft {
+            version: 2,
+            records: records.collect(),
+            ..self.clone()
+        }
+    }
+
+    /// The plan in version 2, the first blocks up to `number` in pairs back to back: of every two the second is made
+    /// like the first, with least copies of at most half of M.
+    pub fn coupled(&self, number: usize) -> Draft {
+        let half = (self.machines() / 2) as u8;
+        let mut draft = self.unpaired();
+        for two in draft.records[..number].chunks_exact_mut(2) {
+            let least = two[0].least.min(half);
+            two[1] = Record {
+                least,
+                spread: two[0].spread.min(least),
+                ..two[0]
+            };
+            two[0] = Record { pair: 1, ..two[1] };
+        }
+        draft
     }
 
     /// The plan, if it is accepted.
@@ -88,33 +131,45 @@ impl Draft {
     }
 }
 
-/// How large a generated plan may be, and how fine its popularities.
+/// How large a generated plan may be, how fine its popularities, and its version.
 #[derive(Clone, Copy, Debug)]
 pub struct Size {
     pub machines: u64,
     pub blocks: u64,
     pub coarse: bool,
+    pub version: u16,
+}
+
+impl Size {
+    /// The same in version 2, mostly with pairs.
+    pub const fn paired(self) -> Size {
+        Size { version: 2, ..self }
+    }
 }
 
 pub const TINY: Size = Size {
     machines: 6,
     blocks: 7,
     coarse: false,
+    version: 1,
 };
 pub const SMALL: Size = Size {
     machines: 12,
     blocks: 20,
     coarse: false,
+    version: 1,
 };
 pub const MEDIUM: Size = Size {
     machines: 64,
     blocks: 40,
     coarse: false,
+    version: 1,
 };
 pub const LARGE: Size = Size {
     machines: 64,
     blocks: 1024,
     coarse: true,
+    version: 1,
 };
 
 /// Racks and machines per rack, with at most `most` machines; in two thirds there are two of both at least.
@@ -166,20 +221,67 @@ fn spread(rng: &mut Rng, racks: u8, least: u8, mixed: bool) -> u8 {
     }
 }
 
+/// Where a plan has its pairs: nowhere, back to back, here and there, or at both ends.
+#[derive(Clone, Copy)]
+enum Pairing {
+    Nowhere,
+    Everywhere,
+    Somewhere,
+    Ends,
+}
+
+impl Pairing {
+    /// A pairing for a plan of this version; with one machine there is none.
+    fn of(rng: &mut Rng, version: u16, machines: u64) -> Pairing {
+        use Pairing::*;
+        if version == 1 || machines == 1 {
+            return Nowhere;
+        }
+        rng.one_of(&[
+            Nowhere, Everywhere, Everywhere, Somewhere, Somewhere, Somewhere, Ends,
+        ])
+    }
+
+    /// The next two blocks are a pair, where so many blocks stand before them and `room` more may come.
+    fn here(self, rng: &mut Rng, before: usize, room: u64) -> bool {
+        let wanted = match self {
+            Pairing::Nowhere => false,
+            Pairing::Everywhere => true,
+            Pairing::Somewhere => rng.once_in(2),
+            Pairing::Ends => before == 0 || room == 2,
+        };
+        wanted && room >= 2
+    }
+}
+
 /// Records until `left` copies are used up exactly, or until there are `number`.
 fn records(rng: &mut Rng, draft: &Draft, size: Size, number: u64, mut left: u64) -> Vec<Record> {
     let manner = manner(rng, size);
     let mixed = rng.once_in(2);
-    let most = rng.from_to(1, draft.machines().min(8));
+    let machines = draft.machines();
+    let most = rng.from_to(1, machines.min(8));
+    let pairing = Pairing::of(rng, size.version, machines);
     let mut records = Vec::new();
     while (records.len() as u64) < number && left > 0 {
-        let least = rng.from_to(1, most.min(left)) as u8;
-        left -= u64::from(least);
-        records.push(Record {
-            popularity: popularity(rng, manner, records.len() as u64),
+        let before = records.len();
+        let pair = pairing.here(rng, before, number - before as u64) && left >= 2;
+        let (blocks, upper) = if pair {
+            (2, machines / 2)
+        } else {
+            (1, machines)
+        };
+        let least = rng.from_to(1, most.min(upper).min(left / blocks)) as u8;
+        left -= blocks * u64::from(least);
+        let record = Record {
+            popularity: popularity(rng, manner, before as u64),
             least,
             spread: spread(rng, draft.racks, least, mixed),
-        });
+            pair: 0,
+        };
+        if pair {
+            records.push(Record { pair: 1, ..record });
+        }
+        records.push(record);
     }
     records
 }
@@ -225,6 +327,7 @@ pub fn draft(rng: &mut Rng, size: Size) -> Draft {
 /// An accepted plan with the given racks, machines per rack and number of blocks.
 pub fn sized(rng: &mut Rng, size: Size, racks: u8, per_rack: u8, number: u64) -> Draft {
     let mut draft = Draft {
+        version: size.version,
         racks,
         per_rack,
         capacity: 1,
@@ -243,6 +346,7 @@ pub fn filled(rng: &mut Rng, size: Size) -> Draft {
     let machines = u64::from(racks) * u64::from(per_rack);
     let capacity = rng.from_to(1, (size.blocks / machines).max(1));
     let mut draft = Draft {
+        version: size.version,
         racks,
         per_rack,
         capacity: capacity as u16,
@@ -263,8 +367,10 @@ pub fn coarse(rng: &mut Rng) -> Draft {
         popularity: rng.one_of(&[0, 6, 12]),
         least,
         spread: rng.from_to(1, u64::from(least.min(racks))) as u8,
+        pair: 0,
     };
     let mut draft = Draft {
+        version: 1,
         racks,
         per_rack,
         capacity: 1,
@@ -283,8 +389,10 @@ pub fn patient(rng: &mut Rng) -> Draft {
         popularity: (1 << rng.below(24)) + rng.below(100) as u32,
         least: 4,
         spread: 1,
+        pair: 0,
     };
     Draft {
+        version: 1,
         racks: 1,
         per_rack: 16,
         capacity: 19,
@@ -301,9 +409,11 @@ pub fn largest(rng: &mut Rng) -> Draft {
             popularity: rng.one_of(&[0, 6, 12]),
             least,
             spread: rng.from_to(1, u64::from(least)) as u8,
+            pair: 0,
         }
     };
     Draft {
+        version: 1,
         racks: 8,
         per_rack: 8,
         capacity: 80,
@@ -312,23 +422,24 @@ pub fn largest(rng: &mut Rng) -> Draft {
     }
 }
 
-/// An input longer than the largest plan, with a header that is refused or not.
+/// An input of a wrong length, longer than the largest plan of version 1, with a header that is refused or not.
 pub fn too_long(rng: &mut Rng) -> Vec<u8> {
     let number = rng.one_of(&[0, 3, 1024]);
-    let mut bytes = sized(rng, SMALL, 2, 2, number).bytes();
+    let size = rng.one_of(&[SMALL, SMALL.paired()]);
+    let mut bytes = sized(rng, size, 2, 2, number).bytes();
     if rng.once_in(3) {
         let at = rng.below(15) as usize;
         bytes[at] = rng.below(256) as u8;
     }
-    let more = rng.one_of(&[5121, 6000, 20_000, 70_000]);
+    let more = rng.one_of(&[5121, 6145, 6000, 20_000, 70_000]);
     bytes.resize(15 + more, rng.below(2) as u8);
     bytes
 }
 
-/// Random bytes, some of them behind a true mark and version.
-pub fn noise(rng: &mut Rng) -> Vec<u8> {
+/// Random bytes, some of them behind a true mark and the version.
+pub fn noise(rng: &mut Rng, version: u8) -> Vec<u8> {
     let mut bytes: Vec<u8> = if rng.once_in(2) {
-        vec![0x42, 0x50, 0x4C, 0, 1]
+        vec![0x42, 0x50, 0x4C, 0, version]
     } else {
         Vec::new()
     };

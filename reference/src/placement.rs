@@ -47,10 +47,17 @@ pub fn outside(plan: &Plan, word: u64) -> bool {
 /// Every block's count is lawful, and so is their sum.
 fn counts_feasible(plan: &Plan, words: &[u64]) -> bool {
     let each = |(i, b): (usize, &crate::plan::Block)| {
-        b.least <= copies_of(words[i]) && copies_of(words[i]) <= plan.upper()
+        b.least <= copies_of(words[i]) && copies_of(words[i]) <= plan.upper(i)
     };
     let sum: u64 = words.iter().map(|w| copies_of(*w) as u64).sum();
     plan.blocks.iter().enumerate().all(each) && sum <= plan.most_copies()
+}
+
+/// No machine holds both blocks of a pair.
+pub fn pairs_apart(plan: &Plan, words: &[u64]) -> bool {
+    let holds_both = |i: usize, k: usize, m: usize| holds(words[i], m) && holds(words[k], m);
+    let apart = |(i, k): (usize, usize)| !(0..plan.machines()).any(|m| holds_both(i, k, m));
+    plan.pairs().all(apart)
 }
 
 /// The placement is lawful (at any lawful counts).
@@ -60,6 +67,7 @@ pub fn feasible(plan: &Plan, words: &[u64]) -> bool {
         && words.iter().all(|w| !outside(plan, *w))
         && (0..words.len()).all(spread_met)
         && (0..plan.machines()).all(|m| held_by(words, m) <= plan.capacity)
+        && pairs_apart(plan, words)
 }
 
 /// Position t is machine (t mod R) × S + t div R.
@@ -82,8 +90,11 @@ pub fn first(plan: &Plan) -> Vec<u64> {
     words
 }
 
-/// Which of the rows 13 to 16 the words break, each for itself, in order.
-pub fn broken_rows(plan: &Plan, words: &[u64]) -> [bool; 4] {
+/// The rows for a placement handed in, in order, each over all blocks or machines before the next.
+pub const ROWS: [Refusal; 5] = [13, 14, 15, 16, 18];
+
+/// Which of these rows the words break, each for itself.
+pub fn broken_rows(plan: &Plan, words: &[u64]) -> [bool; 5] {
     let counts = chosen(plan);
     let blocks = 0..plan.blocks.len();
     [
@@ -93,10 +104,11 @@ pub fn broken_rows(plan: &Plan, words: &[u64]) -> [bool; 4] {
             .clone()
             .any(|i| racks_of(plan, words[i]) < plan.blocks[i].spread),
         (0..plan.machines()).any(|m| held_by(words, m) > plan.capacity),
+        !pairs_apart(plan, words),
     ]
 }
 
-/// The check of a placement handed in (rows 12 to 16): the number of blocks, or the first row broken.
+/// The check of a placement handed in (rows 12 to 16 and 18): the number of blocks, or the first row broken.
 pub fn check(plan: &Plan, lent: &[u64]) -> Result<usize, Refusal> {
     let number = plan.blocks.len();
     if lent.len() < number {
@@ -104,7 +116,7 @@ pub fn check(plan: &Plan, lent: &[u64]) -> Result<usize, Refusal> {
     }
     let broken = broken_rows(plan, &lent[..number]);
     match broken.iter().position(|b| *b) {
-        Some(at) => Err(13 + at as Refusal),
+        Some(at) => Err(ROWS[at]),
         None => Ok(number),
     }
 }

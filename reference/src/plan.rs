@@ -1,14 +1,15 @@
-//! The plan file, and why a plan is turned back (refusals 1 to 11).
+//! The plan file, and why a plan is turned back (refusals 1 to 11, and 17).
 
 /// The number of a row in the table of refusals.
 pub type Refusal = u8;
 
-/// One record: popularity P, least copies, spread.
+/// One record: popularity P, least copies, spread, and the pair byte, which is 0 in version 1.
 #[derive(Clone, Debug, PartialEq, Eq)]
 pub struct Block {
     pub popularity: u64,
     pub least: usize,
     pub spread: usize,
+    pub pair: u8,
 }
 
 /// An accepted plan file.
@@ -32,9 +33,45 @@ impl Plan {
         machine / self.per_rack
     }
 
-    /// The largest count of a block: the smaller of 8 and M.
-    pub fn upper(&self) -> usize {
-        self.machines().min(8)
+    /// The byte of block i is 1: it is paired with the next one.
+    fn begins_pair(&self, i: usize) -> bool {
+        self.blocks[i].pair == 1
+    }
+
+    /// The byte of the preceding block is 1.
+    fn ends_pair(&self, i: usize) -> bool {
+        i > 0 && self.begins_pair(i - 1)
+    }
+
+    /// A block is paired if its byte is 1 or the preceding block's is.
+    pub fn paired(&self, i: usize) -> bool {
+        self.begins_pair(i) || self.ends_pair(i)
+    }
+
+    /// The other block of block i's pair, if it has one. For plans past row 17.
+    pub fn partner(&self, i: usize) -> Option<usize> {
+        if self.begins_pair(i) {
+            Some(i + 1)
+        } else {
+            self.ends_pair(i).then(|| i - 1)
+        }
+    }
+
+    /// The pairs, each block whose byte is 1 with the next one. For plans past row 17.
+    pub fn pairs(&self) -> impl Iterator<Item = (usize, usize)> + '_ {
+        let first = (0..self.blocks.len()).filter(|i| self.begins_pair(*i));
+        first.map(|i| (i, i + 1))
+    }
+
+    /// The upper count of a block: the smaller of 8 and M, for a paired one of 8 and half of M rounded down.
+    pub fn upper(&self, i: usize) -> usize {
+        let machines = self.machines();
+        let most = if self.paired(i) {
+            machines / 2
+        } else {
+            machines
+        };
+        most.min(8)
     }
 
     /// The most copies in all: the smaller of budget and M × C.
@@ -56,13 +93,23 @@ fn field(bytes: &[u8], first: usize, last: usize) -> u64 {
         .fold(0, |value, byte| value * 256 + u64::from(*byte))
 }
 
+/// The bytes of a record: in version 2 there is a sixth.
+fn record_length(version: u64) -> usize {
+    if version == 1 {
+        5
+    } else {
+        6
+    }
+}
+
 /// The record of block `i`.
-fn record(bytes: &[u8], i: usize) -> Block {
-    let at = 15 + 5 * i;
+fn record(bytes: &[u8], version: u64, i: usize) -> Block {
+    let at = 15 + record_length(version) * i;
     Block {
         popularity: field(bytes, at, at + 2),
         least: field(bytes, at + 3, at + 3) as usize,
         spread: field(bytes, at + 4, at + 4) as usize,
+        pair: if version == 1 { 0 } else { bytes[at + 5] },
     }
 }
 
@@ -79,7 +126,8 @@ fn refuse_if(condition: bool, row: Refusal) -> Result<(), Refusal> {
 fn read_header(bytes: &[u8]) -> Result<Plan, Refusal> {
     refuse_if(bytes.len() < 15, 1)?;
     refuse_if(bytes[0..3] != [0x42, 0x50, 0x4C], 2)?;
-    refuse_if(field(bytes, 3, 4) != 1, 3)?;
+    let version = field(bytes, 3, 4);
+    refuse_if(version != 1 && version != 2, 3)?;
     let racks = field(bytes, 5, 5) as usize;
     let per_rack = field(bytes, 6, 6) as usize;
     refuse_if(racks == 0 || per_rack == 0 || racks * per_rack > 64, 4)?;
@@ -87,19 +135,20 @@ fn read_header(bytes: &[u8]) -> Result<Plan, Refusal> {
     refuse_if(capacity == 0 || capacity > 1024, 5)?;
     let number = field(bytes, 13, 14) as usize;
     refuse_if(number > 1024, 6)?;
-    refuse_if(bytes.len() != 15 + 5 * number, 7)?;
+    refuse_if(bytes.len() != 15 + record_length(version) * number, 7)?;
     Ok(Plan {
         racks,
         per_rack,
         capacity,
         budget: field(bytes, 9, 12),
-        blocks: (0..number).map(|i| record(bytes, i)).collect(),
+        blocks: (0..number).map(|i| record(bytes, version, i)).collect(),
     })
 }
 
 /// Rows 8 and 9 of one block, 8 first.
-fn judge_block(plan: &Plan, block: &Block) -> Result<(), Refusal> {
-    refuse_if(block.least == 0 || block.least > plan.upper(), 8)?;
+fn judge_block(plan: &Plan, i: usize) -> Result<(), Refusal> {
+    let block = &plan.blocks[i];
+    refuse_if(block.least == 0 || block.least > plan.upper(i), 8)?;
     let spread = block.spread;
     refuse_if(
         spread == 0 || spread > block.least || spread > plan.racks,
@@ -107,12 +156,28 @@ fn judge_block(plan: &Plan, block: &Block) -> Result<(), Refusal> {
     )
 }
 
+/// Two blocks have the same popularity, least copies and spread.
+fn alike(a: &Block, b: &Block) -> bool {
+    a.popularity == b.popularity && a.least == b.least && a.spread == b.spread
+}
+
+/// Row 17: a byte is neither 0 nor 1, or the last block has 1, or two successive blocks have 1, or a pair differs.
+fn mispaired(plan: &Plan) -> bool {
+    let blocks = &plan.blocks;
+    let neither = blocks.iter().any(|b| b.pair > 1);
+    let last = blocks.last().is_some_and(|b| b.pair == 1);
+    let mut marked = blocks.windows(2).filter(|two| two[0].pair == 1);
+    let second_wrong = |two: &[Block]| two[1].pair == 1 || !alike(&two[0], &two[1]);
+    neither || last || marked.any(second_wrong)
+}
+
 /// Reads a plan: the first row that turns it back, or the plan.
 pub fn read(bytes: &[u8]) -> Result<Plan, Refusal> {
     let plan = read_header(bytes)?;
-    for block in &plan.blocks {
-        judge_block(&plan, block)?;
+    for i in 0..plan.blocks.len() {
+        judge_block(&plan, i)?;
     }
+    refuse_if(mispaired(&plan), 17)?;
     refuse_if(plan.least_sum() > plan.budget, 10)?;
     let places = plan.machines() as u64 * plan.capacity as u64;
     refuse_if(plan.least_sum() > places, 11)?;

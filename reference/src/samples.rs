@@ -8,8 +8,10 @@ pub fn plan_of(shape: (u8, u8), capacity: u16, budget: u32, records: &[(u32, u8,
         popularity: r.0,
         least: r.1,
         spread: r.2,
+        pair: 0,
     };
     Draft {
+        version: 1,
         racks: shape.0,
         per_rack: shape.1,
         capacity,
@@ -124,3 +126,70 @@ pub fn full_machines() -> (Draft, Vec<u64>, Vec<u64>) {
     }
     (plan_of((2, 3), 36, 216, &records), rest, even)
 }
+
+/// A plan in version 2 of records (popularity, least copies, spread, pair byte).
+pub fn paired_plan(
+    shape: (u8, u8),
+    capacity: u16,
+    budget: u32,
+    records: &[(u32, u8, u8, u8)],
+) -> Draft {
+    let unpaired: Vec<_> = records.iter().map(|r| (r.0, r.1, r.2)).collect();
+    let mut draft = plan_of(shape, capacity, budget, &unpaired).unpaired();
+    for (record, (_, _, _, pair)) in draft.records.iter_mut().zip(records) {
+        record.pair = *pair;
+    }
+    draft
+}
+
+/// Plan K: a pair that fills the circle of positions, and two blocks more. Counts 2, 2, 1, 1; first words 5, 10, 1, 4.
+pub fn k() -> Draft {
+    let pair = [(12, 2, 2, 1), (12, 2, 2, 0)];
+    paired_plan(
+        (2, 2),
+        3,
+        8,
+        &[&pair[..], &[(6, 1, 1, 0), (2, 1, 1, 0)]].concat(),
+    )
+}
+
+/// Plan K, byte for byte.
+pub const K: [u8; 39] = [
+    0x42, 0x50, 0x4C, 0x00, 0x02, 0x02, 0x02, 0x00, 0x03, 0x00, 0x00, 0x00, 0x08, 0x00, 0x04, 0x00,
+    0x00, 0x0C, 0x02, 0x02, 0x01, 0x00, 0x00, 0x0C, 0x02, 0x02, 0x00, 0x00, 0x00, 0x06, 0x01, 0x01,
+    0x00, 0x00, 0x00, 0x02, 0x01, 0x01, 0x00,
+];
+
+/// What the program prints for plan K.
+pub const K_LISTING: &str = "plan 2 2 4\n\
+    block 0 2 5040 0 2\n\
+    block 1 2 5040 1 3\n\
+    block 2 1 5040 0\n\
+    block 3 1 1680 2\n\
+    rest 0 10080 5040 26880 5040\n";
+
+/// A pair and two blocks more on two machines, in one rack or in two, with a capacity to choose.
+fn pair_and(shape: (u8, u8), capacity: u16, popularities: [u32; 3]) -> Draft {
+    let [pair, third, fourth] = popularities;
+    let records = [(pair, 1, 1, 1), (pair, 1, 1, 0), (third, 1, 1, 0)];
+    paired_plan(
+        shape,
+        capacity,
+        4,
+        &[&records[..], &[(fourth, 1, 1, 0)]].concat(),
+    )
+}
+
+/// From words 1, 2, 1, 2 at rest: a move of block 0 to machine 1 would bring the pair together. Without the pair it is
+/// the next step.
+pub fn no_move_for_pair(shape: (u8, u8)) -> Draft {
+    pair_and(shape, 3, [4, 9, 0])
+}
+
+/// From words 1, 2, 1, 2 at rest, all machines full: an exchange of block 0 with block 3 would bring the pair together
+/// on machine 1, that of block 2 with block 1 on machine 0. Without the pair the first is the next step.
+pub fn no_swap_for_pair(shape: (u8, u8)) -> Draft {
+    pair_and(shape, 2, [5, 7, 1])
+}
+
+pub const PAIR_WORDS: [u64; 4] = [1, 2, 1, 2];

@@ -152,6 +152,14 @@ impl Figures<'_> {
         racks_of(self.plan, after) >= self.plan.blocks[i].spread
     }
 
+    /// Block i, come to n, is apart from the other one of its pair, unless that one leaves n in the same step.
+    fn stays_apart(&self, i: usize, n: usize, leaving: Option<usize>) -> bool {
+        match self.plan.partner(i) {
+            None => true,
+            Some(other) => leaving == Some(other) || !holds(self.words[other], n),
+        }
+    }
+
     /// Both loads are strictly below Lm when `out` has left m for n and `back` has come from n.
     fn both_below(&self, m: usize, n: usize, out: u64, back: u64) -> bool {
         let limit = self.loads[m];
@@ -163,6 +171,7 @@ impl Figures<'_> {
             && self.held[n] < self.plan.capacity
             && self.both_below(m, n, self.shares[i], 0)
             && self.stays_spread(i, m, n)
+            && self.stays_apart(i, n, None)
     }
 
     fn may_swap(&self, m: usize, n: usize, i: usize, j: usize) -> bool {
@@ -170,6 +179,8 @@ impl Figures<'_> {
             && self.both_below(m, n, self.shares[i], self.shares[j])
             && self.stays_spread(i, m, n)
             && self.stays_spread(j, n, m)
+            && self.stays_apart(i, n, Some(j))
+            && self.stays_apart(j, m, Some(i))
     }
 
     /// The first block that may move from m to n.

@@ -3,6 +3,9 @@
 use crate::calls::*;
 use crate::steps::{End, Kind, Step};
 
+/// The bytes of a plan that the trials program keeps.
+pub const PLAN_ROOM: usize = 7000;
+
 /// The number of words that the trials program keeps.
 pub const WORDS: usize = 1100;
 
@@ -41,7 +44,7 @@ impl Writer {
 
     /// The current plan from now on.
     pub fn plan(&mut self, bytes: &[u8]) {
-        assert!(bytes.len() <= 6000);
+        assert!(bytes.len() <= PLAN_ROOM);
         self.record(b'P', bytes.len(), 0, bytes);
     }
 

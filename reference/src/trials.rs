@@ -1,4 +1,7 @@
-//! The stored trials: the specification's plans and examples first, generated ones after them.
+//! The stored trials: the specification's plans and examples first, generated ones after them; then the same for
+//! version 2.
+
+mod pairs;
 
 use crate::damage::{broken, flawed, over_budget, over_capacity, over_racks, two_records};
 use crate::gen::*;
@@ -135,7 +138,7 @@ fn refused_examples(w: &mut Writer) {
     w.words(&[15, 5, 2, 99]);
     refused_plan(w, &[]);
     refused_plan(w, &H[..14]);
-    for (at, byte) in [(0, 0), (2, 0x4D), (4, 2), (3, 1)] {
+    for (at, byte) in [(0, 0), (2, 0x4D), (4, 5), (3, 1)] {
         refused_plan(w, &h_changed(at, byte));
     }
     for (racks, per_rack) in [(13, 5), (5, 13), (0, 1), (1, 0), (16, 16), (65, 1), (1, 65)] {
@@ -165,6 +168,7 @@ fn refused_examples(w: &mut Writer) {
             popularity: 1,
             least,
             spread,
+            pair: 0,
         };
         let records = vec![h().records[0], record];
         refused_plan(w, &Draft { records, ..h() }.bytes());
@@ -240,15 +244,15 @@ fn damaged_plans(w: &mut Writer, rng: &mut Rng) {
     }
     w.title("random bytes");
     for _ in 0..40 {
-        w.plan(&noise(rng));
+        w.plan(&noise(rng, 1));
         w.calls("pf");
     }
 }
 
-/// Damaged placements of one plan: every set of the rows 13 to 16 that can be broken, and too few words.
+/// Damaged placements of one plan: every set of the rows 13 to 16, and 18, that can be broken, and too few words.
 fn damaged_words(w: &mut Writer, rng: &mut Rng, plan: &Plan, sets: &[usize]) {
     for set in sets {
-        let rows = [0, 1, 2, 3].map(|r| set >> r & 1 == 1);
+        let rows = [0, 1, 2, 3, 4].map(|r| set >> r & 1 == 1);
         let Some(words) = broken(rng, plan, rows) else {
             continue;
         };
@@ -442,6 +446,7 @@ pub fn stream() -> Vec<u8> {
     single_steps(&mut w, &mut rng);
     damaged_placements(&mut w, &mut rng);
     large_plans(&mut w, &mut rng);
+    pairs::all(&mut w, &mut Rng::new(2));
     w.calls("E");
     w.bytes
 }

@@ -35,7 +35,11 @@ fn rows_one_to_seven() {
         enter_plan(&bytes).err()
     };
     assert_eq!(changed(0, 0), Some(2));
-    assert_eq!(changed(4, 2), Some(3));
+    for version in [0, 5, 255] {
+        assert_eq!(changed(4, version), Some(3));
+    }
+    assert_eq!(changed(3, 1), Some(3));
+    assert_eq!(changed(4, 2), Some(7), "a length of version 1");
     let machines = |racks, per_rack| {
         plan_row(&Draft {
             racks,
@@ -89,6 +93,112 @@ fn rows_twelve_to_sixteen() {
     assert_eq!(check_row(&narrow, &[15, 3, 1]), Some(16));
     assert_eq!(check_row(&h(), &[15, 5, 2]), None);
     assert_eq!(enter_counts(&H, &mut [0; 2]), Err(12));
+}
+
+#[test]
+fn plan_k_and_its_listing() {
+    assert_eq!(k().bytes(), K);
+    assert_eq!(text(&K, 100_000), K_LISTING);
+    let plan = k().plan().unwrap();
+    assert_eq!(chosen(&plan), [2, 2, 1, 1]);
+    assert_eq!(first(&plan), [5, 10, 1, 4]);
+    assert_eq!(enter_plan(&K[..38]).err(), Some(7));
+}
+
+/// Row 8 goes by a paired block's own limit, here half of four machines.
+#[test]
+fn row_eight_of_pairs() {
+    let with = |records: &[(u32, u8, u8, u8)]| plan_row(&paired_plan((2, 2), 3, 12, records));
+    assert_eq!(with(&[(1, 2, 1, 1), (1, 2, 1, 0), (1, 4, 1, 0)]), None);
+    assert_eq!(with(&[(1, 3, 1, 1), (1, 2, 1, 0)]), Some(8));
+    assert_eq!(with(&[(1, 2, 1, 1), (1, 3, 1, 0)]), Some(8));
+    assert_eq!(with(&[(1, 1, 1, 0), (1, 3, 1, 1)]), Some(8));
+    assert_eq!(with(&[(1, 3, 1, 2), (1, 3, 1, 0)]), Some(17));
+    let alone = [(1, 1, 1, 1), (1, 1, 1, 0)];
+    assert_eq!(plan_row(&paired_plan((1, 1), 9, 9, &alone)), Some(8));
+    assert_eq!(plan_row(&paired_plan((1, 3), 9, 9, &alone)), None);
+}
+
+/// Row 17 in each of its ways, after 8 and 9 over all blocks and before 10 and 11.
+#[test]
+fn row_seventeen() {
+    let with = |at: usize, byte: u8| {
+        let mut bytes = K;
+        bytes[at] = byte;
+        enter_plan(&bytes).err()
+    };
+    assert_eq!(with(20, 2), Some(17), "neither 0 nor 1");
+    assert_eq!(with(26, 255), Some(17), "neither 0 nor 1");
+    assert_eq!(with(38, 1), Some(17), "the last block");
+    assert_eq!(with(26, 1), Some(17), "two successive blocks");
+    assert_eq!(with(32, 1), Some(17), "a pair that differs");
+    assert_eq!(with(23, 11), Some(17), "popularity");
+    assert_eq!(with(25, 1), Some(17), "spread");
+    let other = |least: u8, budget: u32, capacity: u16, pair: u8| {
+        let records = [(1, 1, 1, 1), (1, 2, 1, 0), (1, least, 1, pair)];
+        plan_row(&paired_plan((2, 2), capacity, budget, &records))
+    };
+    assert_eq!(other(1, 9, 9, 0), Some(17), "least copies");
+    assert_eq!(other(0, 9, 9, 0), Some(8));
+    assert_eq!(other(1, 3, 9, 0), Some(17), "before 10");
+    assert_eq!(other(4, 9, 1, 0), Some(17), "before 11");
+}
+
+#[test]
+fn row_eighteen() {
+    for words in [[5, 5, 1, 4], [5, 9, 1, 4], [10, 10, 1, 1]] {
+        assert_eq!(check_row(&k(), &words), Some(18));
+        assert_eq!(check_row(&k().unpaired(), &words), None);
+    }
+    assert_eq!(check_row(&k(), &[5, 5, 16, 4]), Some(13));
+    assert_eq!(check_row(&k(), &[5, 5, 3, 4]), Some(14));
+    assert_eq!(check_row(&k(), &[3, 3, 1, 4]), Some(15));
+    assert_eq!(check_row(&k(), &[5, 5, 1, 1]), Some(16));
+    let mut words = [5, 9, 1, 4];
+    assert_eq!(enter_report(&K, &words).err(), Some(18));
+    assert_eq!(enter_step(&K, &mut words).err(), Some(18));
+    assert_eq!(enter_run(&K, &mut words, 9).err(), Some(18));
+    assert_eq!(words, [5, 9, 1, 4]);
+}
+
+/// A version 2 plan with all bytes 0 is the plan of version 1.
+#[test]
+fn all_pair_bytes_zero() {
+    for draft in [h(), h_budget(3), row_eleven(1), y(), z(), empty(), ties()] {
+        assert_eq!(
+            enter_plan(&draft.bytes()),
+            enter_plan(&draft.unpaired().bytes())
+        );
+        assert_eq!(text(&draft.bytes(), 9), text(&draft.unpaired().bytes(), 9));
+    }
+}
+
+/// The step that would come next without the pair brings its blocks together; with it the placement is at rest.
+#[test]
+fn steps_that_a_pair_forbids() {
+    for (shape, kinds) in [
+        ((1, 2), [Kind::Move, Kind::Swap]),
+        ((2, 1), [Kind::RackMove, Kind::RackSwap]),
+    ] {
+        let moved = step(kinds[0], 0, 1, 0, None);
+        let swapped = step(kinds[1], 0, 1, 0, Some(3));
+        for (draft, next) in [
+            (no_move_for_pair(shape), moved),
+            (no_swap_for_pair(shape), swapped),
+        ] {
+            let without = draft.unpaired().plan().unwrap();
+            assert_eq!(step_literal(&without, &PAIR_WORDS), Some(next));
+            let plan = draft.plan().unwrap();
+            assert_eq!(check_row(&draft, &PAIR_WORDS), None);
+            assert_eq!(step_literal(&plan, &PAIR_WORDS), None);
+            assert_eq!(step_plain(&plan, &PAIR_WORDS), None);
+        }
+        // The first block of the pair would be where the second stays, or the second where the first stays.
+        let plan = no_swap_for_pair(shape).plan().unwrap();
+        let without = no_swap_for_pair(shape).unpaired().plan().unwrap();
+        let back = step(kinds[1], 0, 1, 2, Some(1));
+        assert!(back.allowed(&without, &PAIR_WORDS) && !back.allowed(&plan, &PAIR_WORDS));
+    }
 }
 
 fn step(kind: Kind, m: usize, n: usize, i: usize, j: Option<usize>) -> Step {

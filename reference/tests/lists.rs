@@ -150,14 +150,17 @@ fn lists(seed: u64, number: u64, size: Size) {
 fn what_is_claimed_after_a_list() {
     lists(21, 3000, TINY);
     lists(22, 500, SMALL);
+    lists(24, 3000, TINY.paired());
+    lists(25, 500, SMALL.paired());
 }
 
 /// A run in a list is its steps, each found word for word as the specification says.
 #[test]
 fn a_run_is_the_steps_of_a_list() {
     let rng = &mut Rng::new(23);
-    for _ in 0..200 {
-        let draft = draft(rng, TINY);
+    for number in 0..400 {
+        let size = if number < 200 { TINY } else { TINY.paired() };
+        let draft = draft(rng, size);
         let (bytes, plan) = (draft.bytes(), draft.plan().expect("an accepted plan"));
         let begin = leaning(rng, &plan);
         let (mut at_once, mut one_by_one) = (begin.clone(), begin);

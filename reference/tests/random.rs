@@ -1,9 +1,7 @@
 //! Claims of the specification on random plans, against brute force where the plans are tiny.
 
 use placement_reference::counts::{chosen, largest_share, share};
-use placement_reference::damage::{
-    broken, flawed, over_budget, over_capacity, over_racks, two_records,
-};
+use placement_reference::damage::*;
 use placement_reference::gen::*;
 use placement_reference::placement::*;
 use placement_reference::plan::{read, Plan};
@@ -13,6 +11,14 @@ const QUARTER: Size = Size {
     machines: 4,
     blocks: 3,
     coarse: true,
+    version: 1,
+};
+
+/// The same with one block more, in version 2, so that there are two pairs at times.
+const PAIRED_QUARTER: Size = Size {
+    blocks: 4,
+    version: 2,
+    ..QUARTER
 };
 
 fn plans(seed: u64, number: u64, size: Size) -> Vec<Plan> {
@@ -22,10 +28,18 @@ fn plans(seed: u64, number: u64, size: Size) -> Vec<Plan> {
         .collect()
 }
 
+/// So many plans of version 1 and so many of version 2.
+fn plans_of_both(seed: u64, number: u64, size: Size) -> Vec<Plan> {
+    [size, size.paired()]
+        .into_iter()
+        .flat_map(|size| plans(seed, number, size))
+        .collect()
+}
+
 #[test]
 fn both_searches_agree_to_rest() {
     let mut rng = Rng::new(11);
-    for plan in plans(1, 300, TINY) {
+    for plan in plans_of_both(1, 300, TINY) {
         let mut words = leaning(&mut rng, &plan);
         loop {
             let step = step_plain(&plan, &words);
@@ -40,7 +54,7 @@ fn both_searches_agree_to_rest() {
 fn first_and_random_placements_are_feasible() {
     let mut rng = Rng::new(12);
     for size in [TINY, SMALL, MEDIUM] {
-        for plan in plans(2, 150, size) {
+        for plan in plans_of_both(2, 150, size) {
             for words in [
                 first(&plan),
                 placement(&mut rng, &plan),
@@ -63,7 +77,7 @@ fn squares(plan: &Plan, words: &[u64]) -> u128 {
 #[test]
 fn loads_sum_up_and_steps_lower_the_squares() {
     let mut rng = Rng::new(13);
-    for plan in plans(3, 200, SMALL) {
+    for plan in plans_of_both(3, 200, SMALL) {
         let popularity: u64 = plan.blocks.iter().map(|b| b.popularity).sum();
         let mut words = leaning(&mut rng, &plan);
         while let Some(step) = step_plain(&plan, &words) {
@@ -79,7 +93,7 @@ fn loads_sum_up_and_steps_lower_the_squares() {
 #[test]
 fn a_run_is_its_single_steps() {
     let mut rng = Rng::new(14);
-    for plan in plans(4, 200, SMALL) {
+    for plan in plans_of_both(4, 200, SMALL) {
         let begin = leaning(&mut rng, &plan);
         let (_, all, rest) = run(&plan, &begin, u32::MAX);
         let budget = rng.below(u64::from(all) + 2) as u32;
@@ -96,10 +110,10 @@ fn a_run_is_its_single_steps() {
 /// Every list of lawful counts.
 fn all_counts(plan: &Plan) -> Vec<Vec<usize>> {
     let mut lists = vec![vec![]];
-    for b in &plan.blocks {
+    for (i, b) in plan.blocks.iter().enumerate() {
         let longer = |list: &Vec<usize>| {
             let list = list.clone();
-            (b.least..=plan.upper()).map(move |c| [list.clone(), vec![c]].concat())
+            (b.least..=plan.upper(i)).map(move |c| [list.clone(), vec![c]].concat())
         };
         lists = lists.iter().flat_map(longer).collect();
     }
@@ -109,7 +123,7 @@ fn all_counts(plan: &Plan) -> Vec<Vec<usize>> {
 
 #[test]
 fn chosen_counts_by_brute_force() {
-    for plan in plans(5, 400, TINY)
+    for plan in plans_of_both(5, 400, TINY)
         .into_iter()
         .filter(|p| p.blocks.len() < 6)
     {
@@ -121,16 +135,19 @@ fn chosen_counts_by_brute_force() {
         };
         let expected: Vec<usize> = (0..plan.blocks.len()).map(least).collect();
         assert_eq!(chosen(&plan), expected);
+        assert!(plan.pairs().all(|(i, k)| expected[i] == expected[k]));
     }
 }
 
 /// Every lawful placement, at any lawful counts.
 fn all_placements(plan: &Plan) -> Vec<Vec<u64>> {
     let mut lists: Vec<Vec<u64>> = vec![vec![]];
-    for _ in &plan.blocks {
+    for (i, b) in plan.blocks.iter().enumerate() {
+        let counted = |w: &u64| (b.least..=plan.upper(i)).contains(&copies_of(*w));
+        let words: Vec<u64> = (1..1_u64 << plan.machines()).filter(counted).collect();
         let longer = |list: &Vec<u64>| {
             let list = list.clone();
-            (1..1_u64 << plan.machines()).map(move |w| [list.clone(), vec![w]].concat())
+            words.iter().map(move |w| [list.clone(), vec![*w]].concat())
         };
         lists = lists.iter().flat_map(longer).collect();
     }
@@ -144,7 +161,10 @@ fn maximum(plan: &Plan, words: &[u64]) -> u64 {
 
 #[test]
 fn bound_at_rest_by_brute_force() {
-    for plan in plans(6, 300, QUARTER) {
+    let some = [plans(6, 300, QUARTER), plans(6, 300, PAIRED_QUARTER)].concat();
+    let with_pairs = some.iter().filter(|plan| plan.pairs().next().is_some());
+    assert!(with_pairs.count() > 60);
+    for plan in some {
         let all = all_placements(&plan);
         let best = all.iter().map(|w| maximum(&plan, w)).min().unwrap();
         let s = largest_share(&plan, &chosen(&plan));
@@ -161,12 +181,11 @@ fn bound_at_rest_by_brute_force() {
     }
 }
 
-#[test]
-fn ten_and_eleven_are_exact() {
-    let mut rng = Rng::new(15);
+fn ten_and_eleven(seed: u64, size: Size) {
+    let mut rng = Rng::new(seed);
     let mut refused = [0; 12];
     for _ in 0..600 {
-        let mut draft = draft(&mut rng, QUARTER);
+        let mut draft = draft(&mut rng, size);
         draft.capacity = rng.from_to(1, 2) as u16;
         draft.budget = rng.below(14) as u32;
         let mut roomy = draft.clone();
@@ -182,6 +201,69 @@ fn ten_and_eleven_are_exact() {
     assert!(refused[10] > 20 && refused[11] > 20);
 }
 
+/// For plans past 17: no lawful placement exists exactly if 10 or 11 is given.
+#[test]
+fn ten_and_eleven_are_exact() {
+    ten_and_eleven(15, QUARTER);
+    ten_and_eleven(18, PAIRED_QUARTER);
+}
+
+/// Random bytes, budgets and capacities over tiny plans of version 2: the definition's own words, row by row.
+#[test]
+fn rows_8_to_11_and_17_of_any_bytes() {
+    let mut rng = Rng::new(19);
+    let mut seen = [0; 18];
+    for _ in 0..20_000 {
+        let mut draft = draft(&mut rng, PAIRED_QUARTER);
+        draft.capacity = rng.from_to(1, 3) as u16;
+        draft.budget = rng.below(14) as u32;
+        for record in &mut draft.records {
+            if rng.once_in(4) {
+                record.pair = rng.one_of(&[0, 1, 1, 1, 2]);
+            }
+            if rng.once_in(6) {
+                record.least = rng.below(4) as u8;
+            }
+            if rng.once_in(12) {
+                record.popularity += 1;
+            }
+        }
+        let row = read(&draft.bytes()).err().unwrap_or(0);
+        assert_eq!(row, row_by_words(&draft));
+        seen[usize::from(row)] += 1;
+    }
+    for row in [0, 8, 9, 17, 10, 11] {
+        assert!(seen[row] > 100, "{seen:?}");
+    }
+}
+
+/// The row of a plan whose header is in order, from its fields.
+fn row_by_words(draft: &Draft) -> u8 {
+    let (records, machines) = (&draft.records, draft.machines());
+    for (i, r) in records.iter().enumerate() {
+        let paired = r.pair == 1 || i > 0 && records[i - 1].pair == 1;
+        let upper = if paired { machines / 2 } else { machines };
+        if r.least == 0 || u64::from(r.least) > upper.min(8) {
+            return 8;
+        }
+        if r.spread == 0 || r.spread > r.least || r.spread > draft.racks {
+            return 9;
+        }
+    }
+    let fields = |r: &Record| (r.popularity, r.least, r.spread);
+    for (i, r) in records.iter().enumerate() {
+        let next_alike = |next: &Record| next.pair != 1 && fields(next) == fields(r);
+        if r.pair > 1 || r.pair == 1 && !records.get(i + 1).is_some_and(next_alike) {
+            return 17;
+        }
+    }
+    match draft.least_sum() {
+        sum if sum > u64::from(draft.budget) => 10,
+        sum if sum > machines * u64::from(draft.capacity) => 11,
+        _ => 0,
+    }
+}
+
 #[test]
 fn a_share_is_whole_and_as_in_the_table() {
     let table = [840, 420, 280, 210, 168, 140, 120, 105];
@@ -193,53 +275,90 @@ fn a_share_is_whole_and_as_in_the_table() {
     }
 }
 
-#[test]
-fn damaged_plans_get_the_first_row() {
-    let mut rng = Rng::new(16);
-    for _ in 0..200 {
-        let mut plan = draft(&mut rng, SMALL);
-        plan.records.push(filled(&mut rng, TINY).records[0]);
-        plan.records.last_mut().unwrap().least = 1;
-        plan.records.last_mut().unwrap().spread = 1;
+/// Damaged plans of either version get the row of their first flaw.
+fn first_row(rng: &mut Rng, size: Size, number: u64) {
+    for _ in 0..number {
+        let mut plan = draft(rng, size);
+        plan.records.push(Record {
+            popularity: 7,
+            least: 1,
+            spread: 1,
+            pair: 0,
+        });
         (plan.capacity, plan.budget) = (1024, u32::MAX);
         for a in 1..=7 {
-            let flaw = flawed(&mut rng, plan.bytes(), a);
+            let flaw = flawed(rng, plan.bytes(), a);
             assert_eq!(read(&flaw), Err(a));
             for b in a + 1..=7 {
-                let flaw = flawed(&mut rng, plan.bytes(), b);
-                assert_eq!(read(&flawed(&mut rng, flaw, a)), Err(a));
+                let flaw = flawed(rng, plan.bytes(), b);
+                assert_eq!(read(&flawed(rng, flaw, a)), Err(a));
             }
         }
-        for a in 8..=9 {
-            assert_eq!(read(&flawed(&mut rng, plan.bytes(), a)), Err(a));
+        for a in [8, 9, 17] {
+            if a < 17 || size.version == 2 {
+                assert_eq!(read(&flawed(rng, plan.bytes(), a)), Err(a));
+            }
         }
         for (first, row) in [(true, 8), (false, 9)] {
-            let Some(two) = two_records(&mut rng, SMALL, first) else {
+            let Some(two) = two_records(rng, size, first) else {
                 continue;
             };
             assert_eq!(read(&two.bytes()), Err(row));
         }
-        if let Some(over) = over_budget(&mut rng, SMALL) {
+        if let Some(over) = over_budget(rng, size) {
             assert_eq!(read(&over.bytes()), Err(10));
         }
-        if let Some(over) = over_racks(&mut rng, SMALL) {
+        if let Some(over) = over_racks(rng, size) {
             assert_eq!(read(&over.bytes()), Err(9));
         }
-        assert_eq!(read(&over_capacity(&mut rng, SMALL).bytes()), Err(11));
+        assert_eq!(read(&over_capacity(rng, size).bytes()), Err(11));
+    }
+}
+
+#[test]
+fn damaged_plans_get_the_first_row() {
+    let mut rng = Rng::new(16);
+    first_row(&mut rng, SMALL, 200);
+    first_row(&mut rng, SMALL.paired(), 200);
+}
+
+/// Row 17 in each of its ways: alone, after a flaw of 8 or 9 at any block, before one of 10 or 11.
+#[test]
+fn mispaired_plans_get_row_17() {
+    let mut rng = Rng::new(20);
+    for how in MISPAIRINGS {
+        let mut number = 0;
+        while number < 60 {
+            let Some(alone) = mispaired(&mut rng, SMALL.paired(), how) else {
+                continue;
+            };
+            number += 1;
+            assert_eq!(read(&alone.bytes()), Err(17), "{how:?} {alone:?}");
+            assert!(alone.unpaired().plan().is_some());
+            for row in [8, 9] {
+                let two = with_block_flaw(&mut rng, alone.clone(), row);
+                assert_eq!(read(&two.bytes()), Err(row), "{how:?} {two:?}");
+            }
+            for row in [10, 11] {
+                let two = with_sum_flaw(&mut rng, alone.clone(), row);
+                assert_eq!(read(&two.bytes()), Err(17), "{how:?} {two:?}");
+                assert_eq!(read(&two.unpaired().bytes()), Err(row));
+            }
+        }
     }
 }
 
 #[test]
 fn damaged_placements_get_the_first_row() {
     let mut rng = Rng::new(17);
-    let mut found = [0; 16];
-    for plan in plans(7, 150, SMALL) {
-        for set in 1..16_usize {
-            let rows = [0, 1, 2, 3].map(|r| set >> r & 1 == 1);
+    let mut found = [0; 32];
+    for plan in plans_of_both(7, 150, SMALL) {
+        for set in 1..32_usize {
+            let rows = [0, 1, 2, 3, 4].map(|r| set >> r & 1 == 1);
             let Some(words) = broken(&mut rng, &plan, rows) else {
                 continue;
             };
-            let row = 13 + set.trailing_zeros() as u8;
+            let row = ROWS[set.trailing_zeros() as usize];
             assert_eq!(check(&plan, &words), Err(row));
             found[set] += 1;
         }

@@ -1,7 +1,7 @@
 //! The stream of trials: digests, records, and the stored stream's bounds.
 
 use placement_reference::samples::{y, H};
-use placement_reference::stream::{digest, replay, Writer};
+use placement_reference::stream::{digest, replay, Writer, PLAN_ROOM};
 use placement_reference::trials::stream;
 
 #[test]
@@ -55,4 +55,10 @@ fn the_stored_stream_keeps_its_bounds() {
     assert_eq!(once, stream());
     assert!(once.len() < 900_000);
     assert!(once.ends_with(b"E\0\0\0\0\0\0\0"));
+}
+
+/// The largest plan of any version fits, and a plan of one block more, which row 6 refuses.
+#[test]
+fn the_largest_plan_fits() {
+    assert!(15 + 6 * 1025 <= PLAN_ROOM);
 }

@@ -4,7 +4,7 @@ use crate::raw::{PLAY_NUMBERS, REPORT_NUMBERS, RUN_NUMBERS, STEP_NUMBERS};
 use std::error::Error;
 use std::fmt;
 
-/// Why a plan or a placement is turned back: the number of the check, 1 to 16.
+/// Why a plan or a placement is turned back: the number of the check, 1 to 18.
 #[derive(Clone, Copy, Debug, PartialEq, Eq, Hash)]
 pub struct Refusal(u8);
 
@@ -19,12 +19,14 @@ impl Refusal {
         match self.0 {
             1 => "the plan is shorter than 15 bytes",
             2 => "the plan's mark differs",
-            3 => "the plan's version is not 1",
+            3 => "the plan's version is neither 1 nor 2",
             4 => "racks or machines per rack 0, or more than 64 machines",
             5 => "the capacity is 0 or above 1,024",
             6 => "more than 1,024 blocks",
-            7 => "the plan's length does not fit its number of blocks",
-            8 => "least copies 0 or above the smaller of 8 and the machines",
+            7 => "the plan's length does not fit its version and number of blocks",
+            8 => {
+                "least copies 0 or above the smaller of 8 and the machines, of a pair half of them"
+            }
             9 => "a spread of 0, above the least copies, or above the racks",
             10 => "the sum of least copies is above the budget",
             11 => "the sum of least copies is above what the machines hold",
@@ -33,6 +35,8 @@ impl Refusal {
             14 => "a block's copies are not its chosen count",
             15 => "a block lies in fewer racks than its spread",
             16 => "a machine holds more copies than its capacity",
+            17 => "a pair byte is neither 0 nor 1, marks no pair, or marks two blocks that differ",
+            18 => "a machine holds both blocks of a pair",
             _ => "no check has this number",
         }
     }

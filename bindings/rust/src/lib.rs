@@ -1,8 +1,8 @@
 //! Block placement for a recording store: safe functions over the proved archive `libcapi.a`.
 //!
-//! A plan is the bytes of a plan file. A placement is one word per block; bit m of a word is set where machine m
-//! holds a copy. Words past the plan's first B are never read or written. A refused call writes nothing, and
-//! answers the number of the check that refused it.
+//! A plan is the bytes of a plan file, of version 1 or 2. A placement is one word per block; bit m of a word is set
+//! where machine m holds a copy. Words past the plan's first B are never read or written. A refused call writes
+//! nothing, and answers the number of the check that refused it.
 //!
 //! ```
 //! // One rack of two machines, three blocks of one copy.
@@ -14,6 +14,14 @@
 //! assert_eq!(bpl::run(&plan, &mut words, 100)?, bpl::RunEnd::Rest(2));
 //! assert_eq!(bpl::report(&plan, &words)?.max_load, 3360);
 //! assert_eq!(bpl::check(&plan, &words[..2]).unwrap_err().number(), 12);
+//!
+//! // In version 2 a sixth byte of 1 pairs a block with the next one: no machine ever holds both.
+//! let mut plan = vec![0x42, 0x50, 0x4C, 0, 2, 1, 2, 0, 2, 0, 0, 0, 3, 0, 3];
+//! plan.extend([0, 0, 4, 1, 1, 1, 0, 0, 4, 1, 1, 0, 0, 0, 9, 1, 1, 0]);
+//! bpl::first(&plan, &mut words)?;
+//! assert_eq!(words, [1, 2, 1]);
+//! assert_eq!(bpl::run(&plan, &mut words, 100)?, bpl::RunEnd::Rest(0));
+//! assert_eq!(bpl::check(&plan, &[1, 1, 2]).unwrap_err().number(), 18);
 //! # Ok::<(), bpl::Refusal>(())
 //! ```
 #![deny(unsafe_op_in_unsafe_fn)]
@@ -27,13 +35,13 @@ pub use script::{Call, Request, Source};
 
 use answers::settled;
 
-/// Judges a plan: refusals 1 to 11.
+/// Judges a plan: refusals 1 to 11, and 17.
 pub fn plan(plan: &[u8]) -> Result<(), Refusal> {
     // SAFETY: the pointer and the length are those of a slice that is borrowed for the whole call.
     settled(unsafe { raw::bpl_plan(plan.as_ptr(), plan.len()) })
 }
 
-/// Writes the plan's B chosen counts into the first B items of `counts`: refusals 1 to 12.
+/// Writes the plan's B chosen counts into the first B items of `counts`: refusals 1 to 12, and 17.
 pub fn counts(plan: &[u8], counts: &mut [u8]) -> Result<(), Refusal> {
     // SAFETY: each pointer and length are those of a slice that is borrowed for the whole call; `counts` is borrowed
     // alone, so it overlaps no other buffer.
@@ -42,19 +50,19 @@ pub fn counts(plan: &[u8], counts: &mut [u8]) -> Result<(), Refusal> {
     })
 }
 
-/// Writes the first placement into the first B words: refusals 1 to 12.
+/// Writes the first placement into the first B words: refusals 1 to 12, and 17.
 pub fn first(plan: &[u8], words: &mut [u64]) -> Result<(), Refusal> {
     // SAFETY: as in `counts`, for `words`.
     settled(unsafe { raw::bpl_first(plan.as_ptr(), plan.len(), words.as_mut_ptr(), words.len()) })
 }
 
-/// Checks a placement: refusals 1 to 16.
+/// Checks a placement: refusals 1 to 18.
 pub fn check(plan: &[u8], words: &[u64]) -> Result<(), Refusal> {
     // SAFETY: as in `plan`; neither slice is written.
     settled(unsafe { raw::bpl_check(plan.as_ptr(), plan.len(), words.as_ptr(), words.len()) })
 }
 
-/// Reports on a placement: refusals 1 to 16.
+/// Reports on a placement: refusals 1 to 18.
 pub fn report(plan: &[u8], words: &[u64]) -> Result<Report, Refusal> {
     let mut out = [0; raw::REPORT_NUMBERS];
     // SAFETY: as in `check`; `out` is a local of its own with the length that is passed.
@@ -71,7 +79,7 @@ pub fn report(plan: &[u8], words: &[u64]) -> Result<Report, Refusal> {
     Ok(Report::from_numbers(out))
 }
 
-/// Takes the next step of a placement, or leaves it as it is and answers `None` at rest: refusals 1 to 16.
+/// Takes the next step of a placement, or leaves it as it is and answers `None` at rest: refusals 1 to 18.
 pub fn step(plan: &[u8], words: &mut [u64]) -> Result<Option<Step>, Refusal> {
     let mut out = [0; raw::STEP_NUMBERS];
     // SAFETY: as in `first`; `out` is a local of its own with the length that is passed.
@@ -88,7 +96,7 @@ pub fn step(plan: &[u8], words: &mut [u64]) -> Result<Option<Step>, Refusal> {
     Ok(Step::from_numbers(out))
 }
 
-/// Takes next steps of a placement until rest or until the step budget is used: refusals 1 to 16.
+/// Takes next steps of a placement until rest or until the step budget is used: refusals 1 to 18.
 pub fn run(plan: &[u8], words: &mut [u64], budget: u32) -> Result<RunEnd, Refusal> {
     let mut out = [0; raw::RUN_NUMBERS];
     // SAFETY: as in `first`; `out` is a local of its own with the length that is passed.
@@ -106,7 +114,7 @@ pub fn run(plan: &[u8], words: &mut [u64], budget: u32) -> Result<RunEnd, Refusa
     Ok(RunEnd::from_numbers(out))
 }
 
-/// The listing of a plan, of a run from its first placement with the step budget: refusals 1 to 11.
+/// The listing of a plan, of a run from its first placement with the step budget: refusals 1 to 11, and 17.
 pub fn listing(plan: &[u8], budget: u32) -> Result<String, Refusal> {
     let mut text = vec![0; raw::LISTING_ROOM];
     let mut out = [0; raw::LISTING_NUMBERS];

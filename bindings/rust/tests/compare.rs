@@ -7,7 +7,7 @@ mod entries;
 
 use bpl::{RunEnd, Step};
 use common::*;
-use placement_reference::gen::{coarse, leaning, sized, Rng, LARGE};
+use placement_reference::gen::{coarse, largest, leaning, sized, Rng, LARGE};
 use placement_reference::plan::read;
 
 /// The number of blocks that the bytes tell, if they are a plan.
@@ -18,7 +18,7 @@ fn blocks_of(bytes: &[u8]) -> usize {
 /// What the cases met: checks by number (0 is passed), steps by kind, ends of runs.
 #[derive(Debug, Default)]
 struct Met {
-    checks: [u64; 17],
+    checks: [u64; 19],
     steps: [u64; 5],
     ends: [u64; 2],
 }
@@ -129,10 +129,11 @@ fn lists_of_calls() {
 fn large_plans() {
     for case in 0..cases(2000).div_ceil(100) {
         let rng = &mut Rng::new(2 << 32 | case);
-        let draft = if rng.once_in(2) {
-            coarse(rng)
-        } else {
-            sized(rng, LARGE, 8, 8, 1024)
+        let draft = match rng.below(4) {
+            0 => coarse(rng),
+            1 => largest(rng).coupled(1024),
+            2 => sized(rng, LARGE, 8, 8, 1024),
+            _ => sized(rng, LARGE.paired(), 8, 8, 1024),
         };
         let bytes = draft.bytes();
         let mut words = patterned(draft.records.len() + 5);

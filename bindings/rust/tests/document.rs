@@ -68,6 +68,48 @@ fn plan_z() {
     assert_eq!(words, [1, 2, 1, 2]);
 }
 
+/// Plan K, with a pair: counts 2, 2, 1, 1; words 5, 10, 1, 4; the listing.
+#[test]
+fn plan_k() {
+    let bytes = samples::k().bytes();
+    let (mut counts, mut words) = ([0; 4], [0; 4]);
+    assert_eq!(bpl::counts(&bytes, &mut counts), Ok(()));
+    assert_eq!(counts, [2, 2, 1, 1]);
+    assert_eq!(bpl::first(&bytes, &mut words), Ok(()));
+    assert_eq!(words, [5, 10, 1, 4]);
+    let listing = bpl::listing(&bytes, 100_000);
+    assert_eq!(listing.as_deref(), Ok(samples::K_LISTING));
+}
+
+/// A step that would bring a pair together is none; without the pair it is the next one.
+#[test]
+fn steps_that_a_pair_forbids() {
+    let (one_rack, two_racks) = ((1, 2), (2, 1));
+    let [m, n, i, j] = [0, 1, 0, 3];
+    for (draft, next) in [
+        (samples::no_move_for_pair(one_rack), Step::Move { m, n, i }),
+        (
+            samples::no_move_for_pair(two_racks),
+            Step::RackMove { m, n, i },
+        ),
+        (
+            samples::no_swap_for_pair(one_rack),
+            Step::Swap { m, n, i, j },
+        ),
+        (
+            samples::no_swap_for_pair(two_racks),
+            Step::RackSwap { m, n, i, j },
+        ),
+    ] {
+        let mut words = samples::PAIR_WORDS;
+        assert_eq!(bpl::step(&draft.bytes(), &mut words), Ok(None));
+        let without = draft.unpaired().bytes();
+        assert_eq!(bpl::step(&without, &mut words), Ok(Some(next)));
+        let together = bpl::check(&draft.bytes(), &words).unwrap_err();
+        assert_eq!(together.number(), 18);
+    }
+}
+
 /// Plan Y as a script, with calls between that are refused: the last reply of each of its beginnings. No call at all
 /// answers as a check that passed.
 #[test]
@@ -115,6 +157,18 @@ fn refusals() {
     );
     let short = bpl::first(&samples::h().bytes(), &mut [0; 2]).unwrap_err();
     assert_eq!(short.number(), 12);
+    let mut differing = samples::k();
+    differing.records[1].popularity += 1;
+    let differs = bpl::plan(&differing.bytes()).unwrap_err();
+    assert_eq!(
+        differs.to_string(),
+        "refused 17: a pair byte is neither 0 nor 1, marks no pair, or marks two blocks that differ"
+    );
+    let together = bpl::check(&samples::K, &[5, 9, 1, 4]).unwrap_err();
+    assert_eq!(
+        together.to_string(),
+        "refused 18: a machine holds both blocks of a pair"
+    );
 }
 
 /// Each stored example: its plan gives its listing.

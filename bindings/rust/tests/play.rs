@@ -126,13 +126,15 @@ fn relative(rng: &mut Rng, draft: &Draft) -> Vec<u8> {
     other.bytes()
 }
 
-/// Other bytes: refused ones, the plan's own, another accepted plan, or one that is much like the plan.
+/// Other bytes: refused ones, the plan's own, another accepted plan, one that is much like the plan, or the plan without
+/// its pairs, whose steps may bring them together.
 fn other_bytes(rng: &mut Rng, draft: &Draft) -> Vec<u8> {
-    match rng.below(8) {
+    match rng.below(9) {
         0 => Vec::new(),
         1..=3 => damaged(rng),
         4 => draft.bytes(),
         5 => accepted(rng).bytes(),
+        6 => draft.unpaired().bytes(),
         _ => relative(rng, draft),
     }
 }
@@ -210,7 +212,7 @@ fn any_scene(rng: &mut Rng) -> Scene {
 /// how often a call with an accepted other plan did something.
 #[derive(Debug, Default)]
 struct Met {
-    refused: [u64; 17],
+    refused: [u64; 19],
     checked: u64,
     steps: [u64; 5],
     ends: [u64; 2],
@@ -410,7 +412,8 @@ fn what_is_claimed_after_a_list() {
 fn large_plans() {
     for case in 0..cases(2000).div_ceil(400) {
         let rng = &mut Rng::new(11 << 32 | case);
-        let draft = sized(rng, LARGE, 8, 8, 1024);
+        let size = rng.one_of(&[LARGE, LARGE.paired()]);
+        let draft = sized(rng, size, 8, 8, 1024);
         let plan = draft.plan().expect("an accepted draft");
         let scene = Scene {
             plan: draft.bytes(),

@@ -126,7 +126,7 @@ fn out_past_the_numbers() {
         let before = before(rng, &bytes, LISTING_ROOM + 3);
         let exact = call.made(&bytes, &before, call.need());
         assert_eq!(call.made(&bytes, &before, before.out.len()), exact);
-        assert!(exact.code <= 16, "{call:?}: code {}", exact.code);
+        assert!(exact.code <= 18, "{call:?}: code {}", exact.code);
         if exact.code != 0 {
             let expected = Left {
                 code: exact.code,

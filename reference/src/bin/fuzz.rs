@@ -2,10 +2,10 @@
 //! standard input, and what it prints is compared with the reference's listing. The largest plans and inputs longer
 //! than any plan come first, then COUNT random plans.
 
-use placement_reference::damage::{flawed, over_budget, over_capacity, over_racks, two_records};
+use placement_reference::damage::*;
 use placement_reference::gen::*;
 use placement_reference::listing::{listed, Verdict, STEP_BUDGET};
-use placement_reference::samples::{long_listing, H};
+use placement_reference::samples::{long_listing, H, K};
 use placement_reference::steps::End;
 use std::io::{Result, Write};
 use std::process::{exit, Command, Stdio};
@@ -26,62 +26,97 @@ fn printed(program: &str, bytes: &[u8]) -> Result<Vec<u8>> {
 /// Inputs that are tried whatever the seed, with their names.
 fn named() -> Vec<(&'static str, Vec<u8>)> {
     let rng = &mut Rng::new(1024);
-    let largest = largest(rng).bytes();
-    let garbage: Vec<u8> = (0..6000).map(|_| rng.below(256) as u8).collect();
-    let refused = [&[0x42, 0x50, 0x4C, 0, 2], &H[5..]].concat();
-    vec![
+    let draft = largest(rng);
+    let garbage: Vec<u8> = (0..7000).map(|_| rng.below(256) as u8).collect();
+    let refused = [&[0x42, 0x50, 0x4C, 0, 5], &H[5..]].concat();
+    let mut inputs = vec![
         ("long-listing", long_listing().bytes()),
-        ("garbage-behind-a-plan", [&H[..], &garbage].concat()),
-        ("one-byte-behind-the-largest", [&largest[..], &[0]].concat()),
         (
-            "garbage-behind-the-largest",
-            [&largest[..], &garbage].concat(),
+            "long-listing-of-pairs",
+            long_listing().coupled(1024).bytes(),
         ),
+        ("version-2-in-the-length-of-1", [&K[..5], &H[5..]].concat()),
+        ("garbage-behind-a-plan", [&H[..], &garbage].concat()),
         (
             "garbage-behind-a-refused-header",
-            [refused, garbage].concat(),
+            [&refused[..], &garbage].concat(),
         ),
-        ("largest", largest),
-    ]
+    ];
+    for draft in [&draft, &draft.coupled(1024)] {
+        let largest = draft.bytes();
+        inputs.extend([
+            ("one-byte-behind-the-largest", [&largest[..], &[0]].concat()),
+            (
+                "garbage-behind-the-largest",
+                [&largest[..], &garbage].concat(),
+            ),
+            ("one-byte-less", largest[..largest.len() - 1].to_vec()),
+            ("largest", largest),
+        ]);
+    }
+    inputs
+}
+
+/// A plan that row 17 refuses, perhaps with a flaw of rows 8 to 11 beside it.
+fn wrongly_paired(rng: &mut Rng, size: Size) -> Option<Draft> {
+    let how = rng.one_of(&MISPAIRINGS);
+    let alone = mispaired(rng, size, how)?;
+    Some(match rng.below(8) {
+        row @ (0 | 1) => with_block_flaw(rng, alone, 8 + row as u8),
+        row @ (2 | 3) => with_sum_flaw(rng, alone, 8 + row as u8),
+        _ => alone,
+    })
 }
 
 /// A plan that some check refuses, or nearly so.
-fn damaged(rng: &mut Rng) -> Vec<u8> {
-    let draft = match rng.below(7) {
-        0 => two_records(rng, SMALL, true),
-        1 => two_records(rng, SMALL, false),
-        2 => over_budget(rng, SMALL),
-        3 => Some(over_capacity(rng, SMALL)),
-        4 => over_racks(rng, SMALL),
+fn damaged(rng: &mut Rng, size: Size) -> Vec<u8> {
+    let draft = match rng.below(8) {
+        0 => two_records(rng, size, true),
+        1 => two_records(rng, size, false),
+        2 => over_budget(rng, size),
+        3 => Some(over_capacity(rng, size)),
+        4 => over_racks(rng, size),
+        5 if size.version == 2 => wrongly_paired(rng, size),
         _ => None,
     };
-    let bytes = draft.unwrap_or_else(|| placement_reference::gen::draft(rng, SMALL));
+    let bytes = draft.unwrap_or_else(|| placement_reference::gen::draft(rng, size));
     if rng.once_in(2) {
         bytes.bytes()
     } else {
-        let row = rng.from_to(1, 11) as u8;
+        let row = any_row(rng, size.version);
         flawed(rng, bytes.bytes(), row)
     }
 }
 
-/// The input of one trial.
+/// The input of one trial, of either version.
 fn input(rng: &mut Rng) -> Vec<u8> {
+    let version = rng.from_to(1, 2) as u16;
+    let of = |size: Size| Size { version, ..size };
     match rng.below(200) {
-        0 => coarse(rng).bytes(),
+        0 => coarse_of(rng, version).bytes(),
         1..=3 => too_long(rng),
-        4..=13 => noise(rng),
-        14..=49 => damaged(rng),
-        50..=69 => draft(rng, MEDIUM).bytes(),
-        70..=89 => filled(rng, SMALL).bytes(),
-        90..=129 => draft(rng, TINY).bytes(),
-        _ => draft(rng, SMALL).bytes(),
+        4..=13 => noise(rng, version as u8),
+        14..=49 => damaged(rng, of(SMALL)),
+        50..=69 => draft(rng, of(MEDIUM)).bytes(),
+        70..=89 => filled(rng, of(SMALL)).bytes(),
+        90..=129 => draft(rng, of(TINY)).bytes(),
+        _ => draft(rng, of(SMALL)).bytes(),
     }
+}
+
+/// A large plan that comes to rest soon, in version 2 with pairs back to back.
+fn coarse_of(rng: &mut Rng, version: u16) -> Draft {
+    let draft = coarse(rng);
+    if version == 1 || draft.machines() < 2 {
+        return draft;
+    }
+    draft.coupled(draft.records.len())
 }
 
 /// How many trials ended in which way.
 #[derive(Default)]
 struct Tally {
-    refused: [u64; 12],
+    refused: [u64; 18],
     rest: u64,
     spent: u64,
 }
@@ -96,8 +131,9 @@ impl Tally {
     }
 
     fn text(&self) -> String {
-        let refused: Vec<String> = (1..12)
-            .map(|row| format!("{row}:{}", self.refused[row]))
+        let refused: Vec<String> = PLAN_ROWS
+            .into_iter()
+            .map(|row| format!("{row}:{}", self.refused[usize::from(row)]))
             .collect();
         format!(
             "accepted {} (at rest {}, spent {}), refused {}",
@@ -155,7 +191,8 @@ fn main() -> Result<()> {
     for k in 0..count {
         let mut rng = Rng::new(seed.wrapping_mul(1 << 32).wrapping_add(k));
         let bytes = if k % 3000 == 2999 {
-            patient(&mut rng).bytes()
+            let draft = patient(&mut rng);
+            rng.one_of(&[&draft, &draft.coupled(76)]).bytes()
         } else {
             input(&mut rng)
         };

@@ -23,6 +23,18 @@ fn mixed() -> Draft {
     draft
 }
 
+/// The same machines in version 2: first runs with their repeat runs, and blocks of one run alone between them.
+fn pairs() -> Draft {
+    let mut draft = mixed().coupled(40);
+    for (i, record) in draft.records.iter_mut().enumerate() {
+        if i % 10 >= 6 {
+            record.popularity += 5 * i as u32;
+            record.pair = 0;
+        }
+    }
+    draft
+}
+
 /// The example plans with their names.
 fn examples() -> Vec<(&'static str, Vec<u8>)> {
     vec![
@@ -31,6 +43,7 @@ fn examples() -> Vec<(&'static str, Vec<u8>)> {
         ("empty", empty().bytes()),
         ("refused", h_budget(3).bytes()),
         ("mixed", mixed().bytes()),
+        ("pairs", pairs().bytes()),
         // It needs 100,036 steps to rest, so the program's budget ends a little before.
         ("spent", patient(&mut Rng::new(0)).bytes()),
     ]

@@ -3,9 +3,7 @@
 
 use bpl::{Refusal, Report, RunEnd, Step};
 use placement_reference::calls;
-use placement_reference::damage::{
-    broken, flawed, over_budget, over_capacity, over_racks, two_records,
-};
+use placement_reference::damage::*;
 use placement_reference::gen::{
     draft, filled, leaning, noise, placement, too_long, Draft, Rng, Size, MEDIUM, SMALL, TINY,
 };
@@ -28,16 +26,18 @@ const LONG: Size = Size {
     machines: 20,
     blocks: 60,
     coarse: false,
+    version: 1,
 };
 
-/// Mostly small plans, since the reference's search is plain loops.
+/// Mostly small plans, since the reference's search is plain loops; both versions.
 pub fn size(rng: &mut Rng) -> Size {
-    match rng.below(20) {
+    let size = match rng.below(20) {
         0 => MEDIUM,
         1 => LONG,
         2..=9 => SMALL,
         _ => TINY,
-    }
+    };
+    rng.one_of(&[size, size.paired()])
 }
 
 /// A plan that the checks accept.
@@ -50,34 +50,52 @@ pub fn accepted(rng: &mut Rng) -> Draft {
     }
 }
 
-/// A damaged plan, or bytes that are none.
-pub fn damaged(rng: &mut Rng) -> Vec<u8> {
-    let size = size(rng);
-    let whole = accepted(rng).bytes();
-    let made = match rng.below(8) {
+/// A plan that row 17 refuses, at times with a flaw of rows 8 to 11 beside it.
+fn wrongly_paired(rng: &mut Rng, size: Size) -> Option<Draft> {
+    let how = rng.one_of(&MISPAIRINGS);
+    let alone = mispaired(rng, size.paired(), how)?;
+    Some(match rng.below(8) {
+        row @ (0 | 1) => with_block_flaw(rng, alone, 8 + row as u8),
+        row @ (2 | 3) => with_sum_flaw(rng, alone, 8 + row as u8),
+        _ => alone,
+    })
+}
+
+/// A plan of this size that rows 8 to 11 or 17 refuse, if one is made.
+fn over_limits(rng: &mut Rng, size: Size) -> Option<Draft> {
+    match rng.below(5) {
         0 => over_budget(rng, size),
         1 => Some(over_capacity(rng, size)),
         2 => over_racks(rng, size),
-        3 => {
+        3 => wrongly_paired(rng, size),
+        _ => {
             let least_first = rng.once_in(2);
             two_records(rng, size, least_first)
         }
-        4 => return noise(rng),
-        5 => return too_long(rng),
-        _ => None,
-    };
-    match made {
-        Some(draft) => draft.bytes(),
-        None => {
-            let row = rng.from_to(1, 11) as u8;
-            let once = flawed(rng, whole, row);
-            if once.len() >= 15 && rng.once_in(3) {
-                let row = rng.from_to(1, 11) as u8;
-                return flawed(rng, once, row);
-            }
-            once
-        }
     }
+}
+
+/// A damaged plan, or bytes that are none.
+pub fn damaged(rng: &mut Rng) -> Vec<u8> {
+    let size = size(rng);
+    let whole = accepted(rng);
+    match rng.below(9) {
+        0..=4 => {
+            if let Some(draft) = over_limits(rng, size) {
+                return draft.bytes();
+            }
+        }
+        5 => return noise(rng, size.version as u8),
+        6 => return too_long(rng),
+        _ => {}
+    }
+    let row = any_row(rng, whole.version);
+    let once = flawed(rng, whole.bytes(), row);
+    if once.len() >= 15 && rng.once_in(3) {
+        let row = any_row(rng, whole.version);
+        return flawed(rng, once, row);
+    }
+    once
 }
 
 /// Bytes of either sort.
@@ -95,7 +113,7 @@ pub fn any_placement(rng: &mut Rng, plan: &Plan) -> Vec<u64> {
         0 | 1 => placement(rng, plan),
         2..=4 => leaning(rng, plan),
         5 | 6 => {
-            let rows = [(); 4].map(|()| rng.once_in(3));
+            let rows = [(); 5].map(|()| rng.once_in(3));
             broken(rng, plan, rows).unwrap_or_else(|| placement(rng, plan))
         }
         _ => plan.blocks.iter().map(|_| rng.word()).collect(),
