@@ -173,7 +173,7 @@ fn play(plan: &mut [u8], words: &mut [u64]) {
 }
 
 fn main() {
-    let mut plan = [0u8; 6400];
+    let mut plan = [0u8; 7000];
     let mut words = [0u64; 1100];
     play(&mut plan, &mut words);
 }
