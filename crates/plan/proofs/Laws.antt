@@ -1,25 +1,30 @@
 -- What the header and the pass over the records say of the plan.
 -- Assumes nothing.
-use mathlib.Core.Path.{_≡_, ap, sym, _∙_}
+use mathlib.Core.Path.{_≡_, refl, ap, sym, _∙_}
+use mathlib.Core.Bool.{true, false}
 use mathlib.Core.List.{List}
-use Prim.Native.Nat.{ℕ, _+_, _*_, _<_, _≤_}
+use Prim.Native.Nat.{ℕ, zero, suc, _+_, _*_, _-_, _<_, _≤_}
 use native.Mathlib.Nat.{mul-le-mul-left}
 use native.Mathlib.Omega.{arith}
+use borrow.Author.Tests.{eq-eqb, ne-eqb}
 use lib.ListN.{length, getD}
 use Rattle.order.specs.Table.{filled}
-use Rattle.order.proofs.Tables.{length-table, getD-table, getD-filled}
-use Rattle.model.specs.Plan.{Plan, noBlock, blockCount, blockOf, minTotal, commonLength, versionIn, Format, formatIn, recordLength, recordAt, blockIn, planIn}
-use Rattle.model.specs.Refusal.{check10, check11, blocksRefusal, planRefusal, refusal, judge, accepted}
+use Rattle.order.proofs.Searches.{first-none}
+use Rattle.order.proofs.Tables.{length-table, getD-filled}
+use Rattle.model.specs.Plan.{Plan, machines, domains, blockCount, blockOf, pairsNext, minTotal, field, commonLength, versionIn, Format, formatIn, recordLength, recordAt, blockIn, planIn}
+use Rattle.model.specs.Refusal.{isRefusal, check17, check10, check11, blocksRefusal, pairRefusal, pairsRefusal, planRefusal, refusal, judge, accepted}
 use Rattle.theory.specs.Refusal.{Valid}
+use Rattle.theory.proofs.Plan.{planIn-blockCount, planIn-blockOf}
 use Rattle.theory.proofs.Refusal.{orElse-some, accepted-laws}
 use Rattle.cluster.specs.declared.Cluster.{Cluster}
 use Rattle.cluster.specs.Cluster.{machinesIn, InRange, ClusterOf}
-use Rattle.cluster.specs.Blocks.{demandOf, DemandsOf}
+use Rattle.cluster.specs.Blocks.{linkOf, demandOf, DemandsOf}
+use Rattle.cluster.proofs.Laws.{cluster-range, linkOf-first, linkOf-back}
 use Rattle.header.specs.declared.Header.{Header}
 use Rattle.header.specs.Format.{FormatFits}
 use Rattle.header.specs.Header.{headerIn, PassedAs}
 use Rattle.header.proofs.Laws.{formatOf-fits}
-use Rattle.plan.specs.Reading.{planOf, RecordIn, AcceptedHeader}
+use Rattle.plan.specs.Reading.{planOf, RecordIn, RecordsIn, RecordsOf, AcceptedHeader}
 
 -- ── planOf ─────────────────────────────────────────────────────────────────────────────────────────────────────────────
 
@@ -32,10 +37,6 @@ module _ (bytes : List ℕ) (h : Header) where
   pub planOf-blocks : blockCount (planOf bytes h) ≡ h .cluster .blocks
   unfolding planOf
   planOf-blocks = length-table (h .cluster .blocks) (blockIn (formatIn bytes) bytes)
-
-  pub planOf-block : (i : ℕ) → i < h .cluster .blocks → blockOf (planOf bytes h) i ≡ blockIn (formatIn bytes) bytes i
-  unfolding planOf
-  planOf-block i l = getD-table (h .cluster .blocks) (blockIn (formatIn bytes) bytes) i noBlock l
 
   -- its cluster is the header's
   pub planOf-cluster : Valid (planOf bytes h) → ClusterOf (planOf bytes h) (h .cluster)
@@ -53,9 +54,42 @@ module _ (bytes : List ℕ) (h : Header) where
       let laws = accepted-laws bytes (planOf bytes h) e in
       record {
         cluster-of = planOf-cluster (laws .valid);
-        block-is = planOf-block;
+        held = laws .held;
         length-is = laws .length-is ∙ ap (recordAt (formatIn bytes)) planOf-blocks;
       }
+
+-- ── planIn ─────────────────────────────────────────────────────────────────────────────────────────────────────────────
+
+-- A header with the numbers of the plan that the bytes hold, in their ranges, and bytes that are it and its records.
+pub record HeaderOf (bytes : List ℕ) (h : Header) : Type 0 where
+  pub held : planOf bytes h ≡ planIn bytes
+  pub in-range : InRange (h .cluster)
+  pub length-is : length bytes ≡ recordAt (formatIn bytes) (h .cluster .blocks)
+
+pub passed-of : (bytes : List ℕ) (h : Header) → PassedAs bytes h → HeaderOf bytes h
+passed-of bytes h passed =
+    record { held = planOf-in bytes h (passed .fields); in-range = passed .in-range; length-is = passed .length-is }
+
+pub accepted-of : (bytes : List ℕ) (h : Header) → judge bytes ≡ accepted (planOf bytes h) → HeaderOf bytes h
+accepted-of bytes h e =
+    let laws = accepted-header bytes h e in
+    record { held = laws .held; in-range = cluster-range _ _ (laws .cluster-of); length-is = laws .length-is }
+
+module _ (bytes : List ℕ) (h : Header) (of : HeaderOf bytes h) where
+  pub planIn-blocks : h .cluster .blocks ≡ blockCount (planIn bytes)
+  planIn-blocks = sym (planOf-blocks bytes h) ∙ ap blockCount (of .held)
+
+  pub planIn-racks : h .cluster .racks ≡ domains (planIn bytes)
+  unfolding planOf
+  planIn-racks = ap domains (of .held)
+
+  pub planIn-machines : machinesIn (h .cluster) ≡ machines (planIn bytes)
+  unfolding planOf
+  planIn-machines = ap machines (of .held)
+
+-- its blocks are the records
+pub planIn-records : (bytes : List ℕ) (f : Format) → f ≡ formatIn bytes → RecordsOf (planIn bytes) f bytes
+planIn-records bytes f e i l = rw e (planIn-blockOf bytes i (rw (planIn-blockCount bytes) at l))
 
 -- ── DemandsOf ──────────────────────────────────────────────────────────────────────────────────────────────────────────
 
@@ -68,24 +102,71 @@ demands-of p c demands₀ demands of are =
 
 -- ── RecordIn ───────────────────────────────────────────────────────────────────────────────────────────────────────────
 
--- Record i lies in the bytes, and is block i of the plan.
-pub record BlockAt (bytes : List ℕ) (h : Header) (f : Format) (i : ℕ) : Type 0 where
-  pub inside : RecordIn bytes f i
-  pub is : blockOf (planOf bytes h) i ≡ blockIn f bytes i
+pub record-in : (bytes : List ℕ) (f : Format) (blocks i : ℕ) → RecordsIn bytes f blocks → i < blocks → RecordIn bytes f i
+record-in bytes f blocks i all l =
+    let last : recordLength f * (i + 1) ≤ recordLength f * blocks = mul-le-mul-left _ (omega arith) in
+    record { fits = all .fits; below = omega (arith, all .blocks-max); room = omega (arith, all .room) }
 
-module _ (bytes : List ℕ) (h : Header) (length-is : length bytes ≡ recordAt (formatIn bytes) (h .cluster .blocks)) where
+-- a record has those before it
+pub record-before : (bytes : List ℕ) (f : Format) (i : ℕ) → RecordIn bytes f i → 1 ≤ i → RecordIn bytes f (i - 1)
+record-before bytes f i inside some =
+    record-in bytes f i (i - 1)
+    (record { fits = inside .fits; blocks-max = omega (arith, inside .below); room = omega (arith, inside .room) })
+    (omega arith)
+
+-- Record i lies in the bytes, and is block i of the plan.
+pub record BlockAt (bytes : List ℕ) (f : Format) (i : ℕ) : Type 0 where
+  pub inside : RecordIn bytes f i
+  pub below : i < blockCount (planIn bytes)
+  pub is : blockOf (planIn bytes) i ≡ blockIn f bytes i
+
+module _ (bytes : List ℕ) (h : Header) (of : HeaderOf bytes h) where
   -- the bytes that every version's header has are there
   pub common-in : commonLength ≤ length bytes
-  common-in = let fits = formatOf-fits (versionIn bytes) in omega arith
+  common-in = let fits = formatOf-fits (versionIn bytes) in omega (arith, of .length-is)
 
-  -- and so is each record
-  pub block-at : InRange (h .cluster) → (f : Format) → f ≡ formatIn bytes → FormatFits f → (i : ℕ) → i < h .cluster .blocks → BlockAt bytes h f i
-  block-at range f e fits i l =
-      let last : recordLength f * (i + 1) ≤ recordLength f * h .cluster .blocks = mul-le-mul-left _ (omega arith) in
-      record {
-        inside = record { fits = fits; below = omega arith; room = rw (length-is, ← e) (omega arith) };
-        is = rw e (planOf-block bytes h i l);
-      }
+  -- and so are the records
+  pub records-in : (f : Format) → f ≡ formatIn bytes → FormatFits f → RecordsIn bytes f (h .cluster .blocks)
+  records-in f e fits =
+      record { fits = fits; blocks-max = of .in-range .blocks-max; room = rw (of .length-is, ← e) (omega arith) }
+
+  pub block-at : (f : Format) → f ≡ formatIn bytes → FormatFits f → (i : ℕ) → i < h .cluster .blocks → BlockAt bytes f i
+  block-at f e fits i l =
+      let below : i < blockCount (planIn bytes) = rw (planIn-blocks bytes h of) at l in
+      record { inside = record-in bytes f _ i (records-in f e fits) l; below = below; is = planIn-records bytes f e i below }
+
+-- ── RecordsOf ──────────────────────────────────────────────────────────────────────────────────────────────────────────
+
+-- a pair byte that was read says whether its block is paired with the next one
+module _ (p : Plan) (f : Format) (bytes : List ℕ) (of : RecordsOf p f bytes) (i byte : ℕ) (l : i < blockCount p)
+    (is : byte ≡ blockIn f bytes i .pairByte) where
+  pub marked-next : byte ≡ 1 → pairsNext p i ≡ true
+  unfolding pairsNext
+  marked-next e = rw (of i l) (eq-eqb _ 1 (sym is ∙ e))
+
+  pub unmarked-next : (byte ≡ 1 → ⊥) → pairsNext p i ≡ false
+  unfolding pairsNext
+  unmarked-next d = rw (of i l) (ne-eqb _ 1 (λ e. d (is ∙ e)))
+
+-- where the format has no pair byte, no block is paired, and check 17 passes
+module _ (p : Plan) (f : Format) (bytes : List ℕ) (of : RecordsOf p f bytes) (without : f .pairByteWidth ≡ 0) where
+  unpaired-byte : (i : ℕ) → i < blockCount p → blockOf p i .pairByte ≡ 0
+  unfolding blockIn field
+  unpaired-byte i l = rw (of i l, without)
+
+  unpaired-next : (i : ℕ) → i < blockCount p → pairsNext p i ≡ false
+  unfolding pairsNext
+  unpaired-next i l = rw (unpaired-byte i l)
+
+  pub unpaired-link : (i : ℕ) → i < blockCount p → linkOf p i ≡ 1
+  unpaired-link zero l = linkOf-first p (unpaired-next 0 l)
+  unpaired-link (suc i) l =
+      linkOf-back p (suc i) (omega arith) (unpaired-next (suc i) l) ∙ (rw (unpaired-next (suc i - 1) (omega arith)))
+
+  pub unpaired-refusal : pairsRefusal p ≡ 0
+  unfolding pairsRefusal pairRefusal check17
+  unpaired-refusal =
+      first-none isRefusal 0 refl (pairRefusal p) (blockCount p) (λ i l. rw (unpaired-byte i l))
 
 -- ── refusal ────────────────────────────────────────────────────────────────────────────────────────────────────────────
 
@@ -95,13 +176,18 @@ module _ (bytes : List ℕ) (h : Header) (passed : PassedAs bytes h) where
   unfolding planRefusal
   refusal-fault code is some = passed .left ∙ (rw is (orElse-some code _ (λ z. omega arith)))
 
-  -- past checks 1 to 9, checks 10 and 11 on the numbers that were read decide
-  pub refusal-sums : (total : ℕ) → blocksRefusal (planIn bytes) ≡ 0 → total ≡ minTotal (planIn bytes)
+  -- past checks 8 and 9, that of a pair
+  pub refusal-pairs : (code : ℕ) → blocksRefusal (planIn bytes) ≡ 0 → pairsRefusal (planIn bytes) ≡ code → 1 ≤ code → refusal bytes ≡ code
+  unfolding planRefusal
+  refusal-pairs code none is some = passed .left ∙ (rw (none, is) (orElse-some code _ (λ z. omega arith)))
+
+  -- past check 17, checks 10 and 11 on the numbers that were read decide
+  pub refusal-sums : (total : ℕ) → blocksRefusal (planIn bytes) ≡ 0 → pairsRefusal (planIn bytes) ≡ 0 → total ≡ minTotal (planIn bytes)
       → refusal bytes ≡ check10 (h .budget) total (check11 (machinesIn (h .cluster) * h .cluster .capacity) total 0)
   unfolding planRefusal planOf
-  refusal-sums total none is =
-      passed .left ∙ go (planIn bytes) (planOf-in bytes h (passed .fields)) none is
+  refusal-sums total none unpaired is =
+      passed .left ∙ go (planIn bytes) (planOf-in bytes h (passed .fields)) none unpaired is
     where
-      go : (p : Plan) → planOf bytes h ≡ p → blocksRefusal p ≡ 0 → total ≡ minTotal p
+      go : (p : Plan) → planOf bytes h ≡ p → blocksRefusal p ≡ 0 → pairsRefusal p ≡ 0 → total ≡ minTotal p
           → planRefusal p ≡ check10 (h .budget) total (check11 (machinesIn (h .cluster) * h .cluster .capacity) total 0)
-      go p e n t = rw (n, ← t, ← e)
+      go p e n u t = rw (n, u, ← t, ← e)

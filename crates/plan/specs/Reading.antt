@@ -4,7 +4,7 @@ use mathlib.Core.List.{List}
 use Prim.Native.Nat.{ℕ, _+_, _<_, _≤_}
 use lib.ListN.{length}
 use Rattle.order.specs.Table.{table, filled}
-use Rattle.model.specs.Plan.{Plan, blockOf, minTotal, Format, formatIn, recordLength, recordAt, blockIn, planIn}
+use Rattle.model.specs.Plan.{Plan, blockCount, blockOf, minTotal, Format, formatIn, recordLength, recordAt, blockIn, planIn}
 use Rattle.model.specs.Refusal.{blocksRefusal, maxBlocks, Verdict, refused, accepted, judge}
 use Rattle.cluster.specs.Cluster.{ClusterOf}
 use Rattle.cluster.specs.Blocks.{demandOf, DemandsFit}
@@ -38,6 +38,16 @@ pub record RecordIn (bytes : List ℕ) (f : Format) (i : ℕ) : Type 0 where
   pub below : i < maxBlocks
   pub room : recordAt f i + recordLength f ≤ length bytes
 
+-- So many records lie in the bytes.
+pub record RecordsIn (bytes : List ℕ) (f : Format) (blocks : ℕ) : Type 0 where
+  pub fits : FormatFits f
+  pub blocks-max : blocks ≤ maxBlocks
+  pub room : recordAt f blocks ≤ length bytes
+
+-- They are the blocks of plan p.
+abbrev pub RecordsOf : Plan → Format → List ℕ → Type 0
+RecordsOf p f bytes = (i : ℕ) → i < blockCount p → blockOf p i ≡ blockIn f bytes i
+
 pub record FaultAs (bytes : List ℕ) (code : ℕ) : Type 0 where
   pub is : blocksRefusal (planIn bytes) ≡ code
   pub some : 1 ≤ code
@@ -64,5 +74,5 @@ pub record Decoded (bytes : List ℕ) (h : Header) (demands₀ demands : List �
 -- What holds of a header that was accepted with its bytes.
 pub record AcceptedHeader (bytes : List ℕ) (h : Header) : Type 0 where
   pub cluster-of : ClusterOf (planOf bytes h) (h .cluster)
-  pub block-is : (i : ℕ) → i < h .cluster .blocks → blockOf (planOf bytes h) i ≡ blockIn (formatIn bytes) bytes i
+  pub held : planOf bytes h ≡ planIn bytes
   pub length-is : length bytes ≡ recordAt (formatIn bytes) (h .cluster .blocks)

@@ -1,16 +1,19 @@
-// A plan file, judged: checks 1 to 11 on any bytes, and the records of an accepted plan.
+// A plan file, judged: checks 1 to 11 and 17 on any bytes, and the records of an accepted plan.
+use cluster::Cluster;
 use header::Format;
 use header::Header;
 use header::HeaderAnswer;
 ghost use mathlib.Core.Path.{_≡_};
-ghost use Prim.Native.Nat.{_<_};
-ghost use Rattle.model.specs.Plan.{blockIn, upper};
-ghost use Rattle.model.specs.Refusal.{check8, check9, judge};
+ghost use mathlib.Core.Bool.{cond};
+ghost use Prim.Native.Nat.{ℕ, _/_, _<_, _≤_};
+ghost use Rattle.model.specs.Plan.{Plan, machines, blockCount, isPaired, upper, blockIn, planIn};
+ghost use Rattle.model.specs.Refusal.{maxMachines, check8, check9, alike, pairRefusal, pairsRefusal, judge};
 ghost use Rattle.theory.specs.Widths.{popularityBound};
-ghost use Rattle.cluster.specs.Cluster.{InRange};
+ghost use Rattle.cluster.specs.Cluster.{machinesIn, InRange};
+ghost use Rattle.cluster.specs.Blocks.{linkOf};
 ghost use Rattle.header.specs.Format.{asFormat};
 ghost use Rattle.header.specs.Header.{PassedAs};
-ghost use Rattle.plan.specs.Reading.{planOf, verdictOf, RecordIn, RecordsRead, DecodeAsked, Decoded};
+ghost use Rattle.plan.specs.Reading.{verdictOf, RecordIn, RecordsIn, RecordsOf, RecordsRead, TotalAs, DecodeAsked, Decoded};
 
 // The most copies of a block.
 const MAX_REPLICAS: usize = 8;
@@ -54,13 +57,57 @@ fn min_racks(bytes: &[u8], format: Format, i: usize) -> usize
     header::field_at(bytes, at, format.min_racks_width)
 }
 
-// The upper count of block i: the smaller of 8 and the number of machines.
-fn upper_count(bytes: &[u8], h: Header, i: usize) -> usize
-    requires { ⌜ InRange (h .cluster) ⌝ }
-    ensures { λ r. ⌜ (r ≡ upper (planOf (now (bytes .entry)) h) i) × (r < 256) ⌝ }
+// The pair byte of block i: 0 where the format has none.
+fn pair_byte(bytes: &[u8], format: Format, i: usize) -> usize
+    requires { ⌜ RecordIn (now bytes) (asFormat format) i ⌝ }
+    ensures { λ r. ⌜ r ≡ blockIn (asFormat format) (now (bytes .entry)) i .pairByte ⌝ }
 {
-    let cluster = h.cluster;
+    let at = header::record_at(format, i)
+        + format.popularity_width
+        + format.min_replicas_width
+        + format.min_racks_width;
+    header::field_at(bytes, at, format.pair_byte_width)
+}
+
+// The link of block i to its partner: 2 to the next block, 0 to the preceding one, 1 where it has none.
+fn link(bytes: &[u8], format: Format, i: usize) -> usize
+    requires { ⌜ RecordIn (now bytes) (asFormat format) i ⌝ }
+    ensures { λ r. ⌜ ((p : Plan) → RecordsOf p (asFormat format) (now (bytes .entry)) → i < blockCount p → r ≡ linkOf p i) × (r < 4) ⌝ }
+{
+    if format.pair_byte_width == 0 {
+        return 1;
+    }
+    if pair_byte(bytes, format, i) == 1 {
+        return 2;
+    }
+    if i == 0 {
+        return 1;
+    }
+    if pair_byte(bytes, format, i - 1) == 1 {
+        return 0;
+    }
+    1
+}
+
+// The machines that a block with this link can use: all of them, or half of them for a paired one.
+fn machines_for(cluster: Cluster, link: usize) -> usize
+    requires { ⌜ InRange cluster ⌝ }
+    ensures { λ r. ⌜ ((p : Plan) (i : ℕ) → machinesIn cluster ≡ machines p → link ≡ linkOf p i
+        → r ≡ cond (isPaired p i) (machines p / 2) (machines p)) × (r ≤ maxMachines) ⌝ }
+{
     let machines = cluster.machines();
+    if link == 1 {
+        return machines;
+    }
+    machines / 2
+}
+
+// The upper count of a block with this link: the smaller of 8 and the machines that it can use.
+fn upper_count(cluster: Cluster, link: usize) -> usize
+    requires { ⌜ InRange cluster ⌝ }
+    ensures { λ r. ⌜ ((p : Plan) (i : ℕ) → machinesIn cluster ≡ machines p → link ≡ linkOf p i → r ≡ upper p i) × (r < 256) ⌝ }
+{
+    let machines = machines_for(cluster, link);
     if machines < MAX_REPLICAS {
         return machines;
     }
@@ -101,7 +148,8 @@ fn scan_records(bytes: &[u8], h: Header) -> Records
     while i < cluster.blocks {
         let least = min_replicas(bytes, format, i);
         let spread = min_racks(bytes, format, i);
-        let code = block_refusal(upper_count(bytes, h, i), cluster.racks, least, spread);
+        let most = upper_count(cluster, link(bytes, format, i));
+        let code = block_refusal(most, cluster.racks, least, spread);
         if code != 0 {
             return Records::Fault(code);
         }
@@ -111,24 +159,95 @@ fn scan_records(bytes: &[u8], h: Header) -> Records
     Records::Total(total)
 }
 
-// Checks 8 to 11, for a header that passed checks 1 to 7.
+// Whether blocks i and j have the same popularity, least copies and spread.
+fn are_alike(bytes: &[u8], format: Format, i: usize, j: usize) -> bool
+    requires { ⌜ RecordIn (now bytes) (asFormat format) i × RecordIn (now bytes) (asFormat format) j ⌝ }
+    ensures { λ r. ⌜ r ≡ alike (blockIn (asFormat format) (now (bytes .entry)) i) (blockIn (asFormat format) (now (bytes .entry)) j) ⌝ }
+{
+    if popularity(bytes, format, i) != popularity(bytes, format, j) {
+        return false;
+    }
+    if min_replicas(bytes, format, i) != min_replicas(bytes, format, j) {
+        return false;
+    }
+    min_racks(bytes, format, i) == min_racks(bytes, format, j)
+}
+
+// Check 17 of block i; 0 where it passes.
+fn pair_refusal(bytes: &[u8], format: Format, blocks: usize, i: usize) -> u8
+    requires { ⌜ RecordsIn (now bytes) (asFormat format) blocks × (i < blocks) ⌝ }
+    ensures { λ r. ⌜ ((p : Plan) → RecordsOf p (asFormat format) (now (bytes .entry)) → blocks ≡ blockCount p → r ≡ pairRefusal p i) ⌝ }
+{
+    let byte = pair_byte(bytes, format, i);
+    if byte > 1 {
+        return 17;
+    }
+    if byte == 0 {
+        return 0;
+    }
+    let next = i + 1;
+    if next == blocks {
+        return 17;
+    }
+    if pair_byte(bytes, format, next) == 1 {
+        return 17;
+    }
+    if !are_alike(bytes, format, i, next) {
+        return 17;
+    }
+    0
+}
+
+// Check 17 over all blocks; 0 where it passes.
+fn scan_pairs(bytes: &[u8], h: Header) -> u8
+    requires { ⌜ PassedAs (now bytes) h ⌝ }
+    ensures { λ r. ⌜ r ≡ pairsRefusal (planIn (now (bytes .entry))) ⌝ }
+{
+    let format = header::format_in(bytes);
+    if format.pair_byte_width == 0 {
+        return 0;
+    }
+    let cluster = h.cluster;
+    let mut i: usize = 0;
+    while i < cluster.blocks {
+        let code = pair_refusal(bytes, format, cluster.blocks, i);
+        if code != 0 {
+            return code;
+        }
+        i += 1;
+    }
+    0
+}
+
+// Checks 17, 10 and 11, for records that passed 8 and 9 and their sum of least copies.
+fn judge_total(bytes: &[u8], h: Header, total: usize) -> Reading
+    requires { ⌜ PassedAs (now bytes) h × TotalAs (now bytes) total ⌝ }
+    ensures { λ r. ⌜ verdictOf (now (bytes .entry)) r ≡ judge (now (bytes .entry)) ⌝ }
+{
+    let cluster = h.cluster;
+    let budget = h.budget;
+    let paired = scan_pairs(bytes, h);
+    if paired != 0 {
+        return Reading::Refused(paired);
+    }
+    if budget < total {
+        return Reading::Refused(10);
+    }
+    if cluster.machines() * cluster.capacity < total {
+        return Reading::Refused(11);
+    }
+    Reading::Accepted(h)
+}
+
+// Checks 8 to 11 and 17, for a header that passed checks 1 to 7.
 fn judge_records(bytes: &[u8], h: Header) -> Reading
     requires { ⌜ PassedAs (now bytes) h ⌝ }
     ensures { λ r. ⌜ verdictOf (now (bytes .entry)) r ≡ judge (now (bytes .entry)) ⌝ }
 {
-    let cluster = h.cluster;
     let scanned = scan_records(bytes, h);
     match scanned {
         Records::Fault(code) => Reading::Refused(code),
-        Records::Total(total) => {
-            if h.budget < total {
-                return Reading::Refused(10);
-            }
-            if cluster.machines() * cluster.capacity < total {
-                return Reading::Refused(11);
-            }
-            Reading::Accepted(h)
-        }
+        Records::Total(total) => judge_total(bytes, h, total),
     }
 }
 
@@ -152,11 +271,13 @@ pub fn decode(bytes: &[u8], h: Header, demands: &mut [u64])
     let cluster = h.cluster;
     let mut i: usize = 0;
     while i < cluster.blocks {
+        let linked = link(bytes, format, i);
         demands[i] = cluster::demand(
             popularity(bytes, format, i),
             min_replicas(bytes, format, i),
             min_racks(bytes, format, i),
-            upper_count(bytes, h, i),
+            upper_count(cluster, linked),
+            linked,
         );
         i += 1;
     }

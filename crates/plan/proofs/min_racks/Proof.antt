@@ -1,4 +1,4 @@
--- `plan::min_racks` meets its contract: it is the record's last field.
+-- `plan::min_racks` meets its contract: it is the field after the least copies.
 -- Assumes nothing.
 use native.Mathlib.Nat.{add-assoc}
 use borrow.Author.Needs.{needs}

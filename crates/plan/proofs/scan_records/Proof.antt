@@ -11,53 +11,60 @@ use denote.Ref.{now}
 use Rattle.order.specs.Sum.{sum}
 use Rattle.order.proofs.Sums.{sum-zero, sum-step}
 use Rattle.order.proofs.Searches.{first-none, first-at}
-use Rattle.model.specs.Plan.{Block, blockCount, blockOf, minTotal}
+use Rattle.model.specs.Plan.{Block, blockCount, blockOf, upper, minTotal, planIn}
 use Rattle.model.specs.Refusal.{isRefusal, blockRefusal, blocksRefusal}
 use Rattle.header.specs.Format.{asFormat}
-use Rattle.plan.specs.Reading.{planOf}
-use Rattle.plan.proofs.Laws.{planOf-in, planOf-blocks, BlockAt, common-in, block-at}
+use Rattle.plan.proofs.Laws.{passed-of, planIn-blocks, planIn-racks, planIn-machines, planIn-records, BlockAt, common-in, block-at}
 use Rattle.plan.proofs.scan_records.Statement.{statement}
 use Rattle.plan.proofs.scan_records.Tie as tie
 
 abbrev Inv-loop : tie.InvT-loop
-Inv-loop bytes h format cluster total₀ i₀ total i =
-    (i ≤ h .cluster .blocks)
-    × (total ≡ sum i (λ k. blockOf (planOf bytes h) k .minReplicas))
+Inv-loop bytes format cluster total₀ i₀ total i =
+    (i ≤ cluster .blocks)
+    × (total ≡ sum i (λ k. blockOf (planIn bytes) k .minReplicas))
     × (total ≤ 255 * i)
-    × ((k : ℕ) → k < i → isRefusal (blockRefusal (planOf bytes h) k) ≡ false)
+    × ((k : ℕ) → k < i → isRefusal (blockRefusal (planIn bytes) k) ≡ false)
 
 abbrev μ-loop : tie.MeasureT-loop
-μ-loop bytes h format cluster total₀ i₀ total i = cluster .blocks - i
+μ-loop bytes format cluster total₀ i₀ total i = cluster .blocks - i
 
 -- the block at hand
 here : (c : tie.Then1 Inv-loop μ-loop)
     → let at = c .before .before in
-    let start = at .before .before .before .before in
-    BlockAt (now (start .args .bytes)) (start .args .h) (asFormat (at .before .before .format-in .result)) (at .loop .i)
+    BlockAt (now (at .before .before .before .before .args .bytes)) (asFormat (at .before .before .format-in .result)) (at .loop .i)
 here c =
-    let at = c .before .before in
-    let pre = at .before .before .before .before .pre in
-    let format = at .before .before .format-in .ensures in
-    block-at _ _ (pre .length-is) (pre .in-range) _ (format .0) (format .1) _ (c .if1 .taken)
+    let read = c .before .before .before .before in
+    let format = read .format-in .ensures in
+    block-at _ _ (passed-of _ _ (read .before .before .pre)) _ (format .0) (format .1) _ (c .if1 .taken)
 
--- its code, as the model has it
-code-is : (c : tie.After-block-refusal Inv-loop μ-loop)
+-- its upper count and its code, as the model has them
+most-is : (c : tie.After-upper-count Inv-loop μ-loop)
     → let at = c .before .before .before .before .before .before in
-    let start = at .before .before .before .before in
-    blockRefusal (planOf (now (start .args .bytes)) (start .args .h)) (at .loop .i) ≡ c .block-refusal .result
-unfolding blockRefusal planOf
+    c .upper-count .result ≡ upper (planIn (now (at .before .before .before .before .args .bytes))) (at .loop .i)
+most-is c =
+    let taken = c .before .before .before .before in
+    let read = taken .before .before .before .before in
+    c .upper-count .ensures .0 _ _ (planIn-machines _ _ (passed-of _ _ (read .before .before .pre)))
+    (c .before .link .ensures .0 _ (planIn-records _ _ (read .format-in .ensures .0)) (here taken .below))
+
+code-is : (c : tie.After-block-refusal Inv-loop μ-loop)
+    → let at = c .before .before .before .before .before .before .before in
+    blockRefusal (planIn (now (at .before .before .before .before .args .bytes))) (at .loop .i) ≡ c .block-refusal .result
+unfolding blockRefusal
 code-is c =
-    let read = c .before .before .before in
+    let racks = c .before .before .before in
+    let taken = racks .before .before in
     rw (
-      here (read .before) .is,
-      ← (c .before .upper-count .ensures .0),
-      ← (read .min-replicas .ensures .0),
-      ← (c .before .before .min-racks .ensures .0),
+      here taken .is,
+      ← (most-is (c .before)),
+      ← (planIn-racks _ _ (passed-of _ _ (taken .before .before .before .before .before .before .pre))),
+      ← (racks .before .min-replicas .ensures .0),
+      ← (racks .min-racks .ensures .0),
       c .block-refusal .ensures,
     )
 
 format-in-requires : tie.Need-format-in-requires Inv-loop μ-loop
-format-in-requires c κs = common-in _ (c .before .args .h) (c .before .pre .length-is)
+format-in-requires c κs = common-in _ _ (passed-of _ _ (c .before .pre))
 
 loop-holds : tie.Need-loop-holds Inv-loop μ-loop
 loop-holds c = (omega arith, sym (sum-zero _), omega arith, below-none _)
@@ -68,6 +75,9 @@ min-replicas-requires c κs = here c .inside
 min-racks-requires : tie.Need-min-racks-requires Inv-loop μ-loop
 min-racks-requires c κs = here (c .before) .inside
 
+link-requires : tie.Need-link-requires Inv-loop μ-loop
+link-requires c κs = here (c .before .before) .inside
+
 upper-count-requires : tie.Need-upper-count-requires Inv-loop μ-loop
 upper-count-requires c κs = search needs
 
@@ -77,16 +87,13 @@ block-refusal-requires c κs = search needs
 returns : tie.Need-returns Inv-loop μ-loop
 unfolding blocksRefusal
 returns c =
-    let at = c .before .before .before .before .before .before .before in
-    let start = at .before .before .before .before in
-    let bytes = now (start .args .bytes) in
-    let p = planOf bytes (start .args .h) in
+    let taken = c .before .before .before .before .before .before in
+    let at = taken .before .before in
+    let p = planIn (now (at .before .before .before .before .args .bytes)) in
     let refuses : 0 < c .before .block-refusal .result = omega arith in
-    let within : at .loop .i < blockCount p = rw (planOf-blocks bytes (start .args .h)) (c .before .before .before .before .before .if1 .taken) in
     record {
       is =
-          ap blocksRefusal (sym (planOf-in bytes _ (start .pre .fields)))
-          ∙ first-at isRefusal 0 refl (blockRefusal p) (blockCount p) (at .loop .i) within (at .loop .inv .3)
+          first-at isRefusal 0 refl (blockRefusal p) (blockCount p) (at .loop .i) (here taken .below) (at .loop .inv .3)
           (rw (code-is (c .before)) (lt-ltb 0 (c .before .block-refusal .result) refuses))
           ∙ code-is (c .before);
       some = refuses;
@@ -103,7 +110,7 @@ loop-less c = omega arith
 
 loop-again : tie.Need-loop-again Inv-loop μ-loop
 loop-again c =
-    let read = c .before .before .before .before in
+    let read = c .before .before .before .before .before in
     let at = read .before .before .before in
     let i = at .loop .i in (
       omega arith,
@@ -118,15 +125,11 @@ unfolding blocksRefusal minTotal
 returns-2 c =
     let at = c .before .before in
     let start = at .before .before .before .before in
-    let bytes = now (start .args .bytes) in
-    let p = planOf bytes (start .args .h) in
-    let passed : at .loop .i ≡ blockCount p = rw (planOf-blocks bytes (start .args .h)) (omega arith) in
-    let same = planOf-in bytes (start .args .h) (start .pre .fields) in
+    let p = planIn (now (start .args .bytes)) in
+    let passed : at .loop .i ≡ blockCount p = rw (← (planIn-blocks _ _ (passed-of _ _ (start .pre)))) (omega arith) in
     record {
-      none =
-          ap blocksRefusal (sym same)
-          ∙ first-none isRefusal 0 refl (blockRefusal p) (blockCount p) (rw passed at (at .loop .inv .3));
-      is = at .loop .inv .1 ∙ ap (λ (n : ℕ). sum n (λ k. blockOf p k .minReplicas)) passed ∙ ap minTotal same;
+      none = first-none isRefusal 0 refl (blockRefusal p) (blockCount p) (rw passed at (at .loop .inv .3));
+      is = rw passed at (at .loop .inv .1);
     }
 
 pub scan-records-spec : {M : Type 1} → statement M
@@ -139,6 +142,7 @@ scan-records-spec =
     loop-holds
     min-replicas-requires
     min-racks-requires
+    link-requires
     upper-count-requires
     block-refusal-requires
     returns
