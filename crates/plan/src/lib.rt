@@ -225,11 +225,12 @@ fn judge_total(bytes: &[u8], h: Header, total: usize) -> Reading
     ensures { λ r. ⌜ verdictOf (now (bytes .entry)) r ≡ judge (now (bytes .entry)) ⌝ }
 {
     let cluster = h.cluster;
+    let budget = h.budget;
     let paired = scan_pairs(bytes, h);
     if paired != 0 {
         return Reading::Refused(paired);
     }
-    if h.budget < total {
+    if budget < total {
         return Reading::Refused(10);
     }
     if cluster.machines() * cluster.capacity < total {

@@ -36,7 +36,7 @@ returns c =
 returns-2 : tie.Need-returns-2
 unfolding verdictOf check10
 returns-2 c =
-    sym (judge-refused _ 10 (left-sums (c .before .before) ∙ (rw (lt-ltb _ _ (c .if2 .taken)))) (omega arith))
+    sym (judge-refused _ 10 (left-sums (c .before) ∙ (rw (lt-ltb _ _ (c .if2 .taken)))) (omega arith))
 
 machines-requires : tie.Need-machines-requires
 machines-requires c κs = search needs
@@ -44,7 +44,7 @@ machines-requires c κs = search needs
 mul-if3 : tie.Need-mul-if3
 mul-if3 c =
     let machines = c .before in
-    let range = machines .before .before .before .before .before .before .before .pre .0 .in-range in
+    let range = machines .before .before .before .before .before .before .pre .0 .in-range in
     omega (arith, mul-le-mul {n₂ = maxMachines} {m₂ = maxCapacity} (machines .machines .ensures .1) (range .capacity-max))
 
 returns-3 : tie.Need-returns-3
@@ -54,7 +54,7 @@ returns-3 c =
     let e = machines .before in
     sym
     (judge-refused _ 11
-    (left-sums (e .before .before)
+    (left-sums (e .before)
     ∙ (rw (← (machines .machines .ensures .0), le-ltb _ _ (e .if2 .left), lt-ltb _ _ (c .if3 .taken))))
     (omega arith))
 
@@ -63,7 +63,7 @@ unfolding verdictOf check10 check11
 returns-4 c =
     let machines = c .before .before in
     let e = machines .before in
-    let at = e .before .before in
+    let at = e .before in
     ap accepted (planOf-in _ _ (at .before .before .before .before .pre .0 .fields))
     ∙ sym
     (judge-accepted _

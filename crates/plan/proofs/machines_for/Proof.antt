@@ -1,6 +1,6 @@
 -- `plan::machines_for` meets its contract: a link is 1 exactly if the block is not paired.
 -- Assumes nothing.
-use mathlib.Core.Path.{ap, sym, _∙_}
+use mathlib.Core.Path.{ap, _∙_}
 use Prim.Native.Nat.{ℕ, _/_}
 use native.Mathlib.Omega.{arith}
 use borrow.Author.Needs.{needs}
@@ -13,7 +13,7 @@ machines-requires c κs = search needs
 
 returns : tie.Need-returns
 returns c = (
-  λ p i m e. rw (linkOf-single p i (sym e ∙ c .if1 .taken), ← m) (c .before .machines .ensures .0),
+  λ p i m e. rw (linkOf-single p i (omega (arith, e, c .if1 .taken)), ← m) (c .before .machines .ensures .0),
   omega arith,
 )
 
