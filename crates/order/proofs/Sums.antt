@@ -100,6 +100,22 @@ sum-prefix (suc n) f i l = go (eq-or-lt-of-le l) (λ m. sum-prefix n f i m)
     go (inl e) below = rw e (le-refl (sum (suc n) f))
     go (inr m) below = let b = below (le-of-suc-le-suc m) in omega arith
 
+-- terms that are not above others are equal to them where their sum is not below
+pub sum-same : (n : ℕ) (f g : ℕ → ℕ) → ((i : ℕ) → i < n → f i ≤ g i) → sum n g ≤ sum n f → (i : ℕ) → i < n → f i ≡ g i
+unfolding sum
+sum-same zero f g le full i l = absurd (not-suc-le-zero l)
+sum-same (suc n) f g le full i l = go (eq-or-lt-of-le (le-of-suc-le-suc l)) (sum-same n f g below (omega (arith, last)) i)
+  where
+    below : (i : ℕ) → i < n → f i ≤ g i
+    below i l = le i (omega arith)
+
+    last : f n ≤ g n
+    last = le n (le-refl (suc n))
+
+    go : (i ≡ n) ⊎ (i < n) → (i < n → f i ≡ g i) → f i ≡ g i
+    go (inl e) before = let less = sum-mono n f g below in rw e (omega (arith, last))
+    go (inr m) before = before m
+
 -- a sum below another is below it at some term
 pub sum-index : (n : ℕ) (f g : ℕ → ℕ) → sum n f < sum n g → (i : ℕ) × (i < n) × (f i < g i)
 unfolding sum

@@ -1,25 +1,114 @@
 -- What the choice of counts is given and says, in the model's terms.
 use mathlib.Core.Path.{_≡_}
 use mathlib.Core.List.{List}
-use Prim.Native.Nat.{ℕ, suc, _<_, _≤_}
+use mathlib.Core.Bool.{true, false}
+use Prim.Native.Nat.{ℕ, suc, _*_, _-_, _/_, _^_, _<_, _≤_}
+use lib.ListN.{getD}
+use Rattle.order.specs.Sum.{sum}
 use Rattle.order.specs.Table.{filled}
-use Rattle.model.specs.Plan.{Plan, blockCount}
-use Rattle.model.specs.Replication.{limit as limitOf, largestShare, need, figure, chosen}
-use Rattle.theory.specs.Refusal.{ValidBlock}
-use Rattle.theory.specs.Widths.{shareBound}
+use Rattle.model.specs.Plan.{Plan, maxReplicas, blockCount, blockOf, upper, minTotal}
+use Rattle.model.specs.Refusal.{maxMachines, maxCapacity, maxBlocks}
+use Rattle.model.specs.Replication.{limit as limitOf, unit, share, largestShare, need, reachable, chosen}
+use Rattle.theory.specs.Refusal.{Valid}
+use Rattle.theory.specs.Widths.{popularityBound, shareBound}
 use Rattle.cluster.specs.declared.Cluster.{Cluster}
-use Rattle.cluster.specs.Blocks.{leastIn, mostIn, demandOf, DemandInRange, DemandsFit, DemandsOf, profileOf, ProfilesFit}
+use Rattle.cluster.specs.Blocks.{popularityIn, leastIn, mostIn, DemandInRange, DemandsFit, DemandsOf, profileOf, ProfilesFit}
+use Rattle.replication.specs.declared.Extent.{Extent}
+use Rattle.replication.specs.declared.Bracket.{Bracket}
+use Rattle.replication.specs.declared.Tally.{Tally}
 
--- One block's demand and a figure, in their ranges.
-pub record NeedAsked (demand wanted : ℕ) : Type 0 where
+-- The unit's quotients, and a popularity and a count in their ranges.
+pub record ShareAsked (quotients : List ℕ) (popularity count : ℕ) : Type 0 where
+  pub quotients-are : (k : ℕ) → k < maxReplicas → getD quotients k 0 ≡ unit / suc k
+  pub popularity-narrow : popularity < popularityBound
+  pub count-pos : 1 ≤ count
+  pub count-max : count ≤ maxReplicas
+
+-- Estimates are reckoned in parts of a copy.
+abbrev pub parts : ℕ
+parts = 2 ^ 48
+
+-- A popularity times the scale is at most the copies, in parts, that keep its share within the figure.
+pub record ScaleOf (wanted scale : ℕ) : Type 0 where
+  pub scale-max : scale * suc wanted ≤ unit * parts
+
+-- One block's demand, and a figure within which it can have its share.
+pub record NeedAsked (demand wanted scale : ℕ) : Type 0 where
   pub in-range : DemandInRange demand
   pub wanted-narrow : wanted < shareBound
+  pub scale-of : ScaleOf wanted scale
+  pub most-within : share (popularityIn demand) (mostIn demand) ≤ wanted
 
--- r is the need of any block with this demand.
+-- r is the least lawful count whose share is within the figure.
 pub record NeedOf (demand wanted r : ℕ) : Type 0 where
   pub low : leastIn demand ≤ r
-  pub high : r ≤ suc (mostIn demand)
-  pub is : (p : Plan) (i : ℕ) → ValidBlock p i → demand ≡ demandOf p i → r ≡ need p wanted i
+  pub high : r ≤ mostIn demand
+  pub within : share (popularityIn demand) r ≤ wanted
+  pub less-above : leastIn demand < r → wanted < share (popularityIn demand) (r - 1)
+
+-- The demands, and a figure within which every block can have its share.
+pub record FigureAsked (c : Cluster) (demands : List ℕ) (wanted : ℕ) : Type 0 where
+  pub fit : DemandsFit c demands
+  pub wanted-narrow : wanted < shareBound
+  pub most-within : (i : ℕ) → i < c .blocks → share (popularityIn (getD demands i 0)) (mostIn (getD demands i 0)) ≤ wanted
+
+-- The needs at a figure: what holds of their numbers, and what they say of plan p.
+pub record TallyFits (c : Cluster) (wanted : ℕ) (t : Tally) : Type 0 where
+  pub total-max : t .total ≤ maxReplicas * c .blocks
+  pub top-max : t .top ≤ wanted
+  pub next-above : wanted < t .next
+
+pub record TallyOf (p : Plan) (wanted : ℕ) (t : Tally) : Type 0 where
+  pub total-is : t .total ≡ sum (blockCount p) (need p wanted)
+  pub top-is : t .top ≡ largestShare p (need p wanted)
+  pub lawful : (i : ℕ) → i < blockCount p → need p wanted i ≤ upper p i
+  pub same : (f : ℕ) → wanted ≤ f → f < t .next → (i : ℕ) → i < blockCount p → need p f i ≡ need p wanted i
+
+-- What the bisection starts from: its numbers, and what they are of plan p.
+pub record ExtentFits (c : Cluster) (e : Extent) : Type 0 where
+  pub low-narrow : e .low < shareBound
+  pub high-narrow : e .high < shareBound
+  pub popularity-max : e .popularity ≤ popularityBound * c .blocks
+
+pub record ExtentOf (p : Plan) (e : Extent) : Type 0 where
+  pub low-is : e .low ≡ largestShare p (upper p)
+  pub high-is : e .high ≡ largestShare p (λ i. blockOf p i .minReplicas)
+  pub copies-is : e .copies ≡ minTotal p
+
+-- These numbers, with those of a plan.
+pub record BracketAsked (e : Extent) (limit blocks : ℕ) : Type 0 where
+  pub low-narrow : e .low < shareBound
+  pub high-narrow : e .high < shareBound
+  pub popularity-max : e .popularity ≤ popularityBound * maxBlocks
+  pub copies-max : e .copies ≤ limit
+  pub limit-max : limit ≤ maxMachines * maxCapacity
+  pub blocks-max : blocks ≤ maxBlocks
+
+-- Where the bisection stands: in range, and of plan p.
+pub record BracketFits (b : Bracket) : Type 0 where
+  pub high-narrow : b .high < shareBound
+  pub over-max : b .over ≤ maxMachines * maxCapacity
+  pub spare-max : b .spare ≤ maxMachines * maxCapacity
+  pub turn-below : b .turn < 8
+
+pub record BracketOf (p : Plan) (b : Bracket) : Type 0 where
+  pub low-min : largestShare p (upper p) ≤ b .low
+  pub unreached : (f : ℕ) → f < b .low → reachable p f ≡ false
+  pub reached : reachable p (b .high) ≡ true
+
+-- A probe of it.
+pub record NarrowAsked (b : Bracket) (t : Tally) (limit : ℕ) : Type 0 where
+  pub fits : BracketFits b
+  pub total-max : t .total ≤ maxReplicas * maxBlocks
+  pub limit-max : limit ≤ maxMachines * maxCapacity
+  pub low-less : b .low < t .next
+  pub high-less : t .top < b .high
+
+-- What is left after it.
+pub record NarrowedTo (b : Bracket) (t : Tally) (limit : ℕ) (r : Bracket) : Type 0 where
+  pub fits : BracketFits r
+  pub less : b .low < b .high → r .high - r .low < b .high - b .low
+  pub of : (p : Plan) (wanted : ℕ) → Valid p → limit ≡ limitOf p → TallyOf p wanted t → BracketOf p b → BracketOf p r
 
 -- The demands and the copies in all that plan p allows.
 pub record LimitedDemands (p : Plan) (c : Cluster) (demands : List ℕ) (limit : ℕ) : Type 0 where
@@ -31,14 +120,6 @@ pub record ChooseAsked (c : Cluster) (demands : List ℕ) (limit : ℕ) : Type 0
   pub fit : DemandsFit c demands
   pub plan : Plan
   pub limited : LimitedDemands plan c demands limit
-
--- The same, with the figure of that plan.
-pub record FillAsked (c : Cluster) (demands : List ℕ) (wanted : ℕ) : Type 0 where
-  pub fit : DemandsFit c demands
-  pub plan : Plan
-  pub demands-of : DemandsOf plan c demands
-  pub figure-is : wanted ≡ figure plan
-  pub narrow : wanted < shareBound
 
 -- The profiles of plan p's blocks at the chosen counts, in their ranges, in the place of the demands; the later items stay.
 pub record ChosenProfiles (p : Plan) (c : Cluster) (demands profiles : List ℕ) : Type 0 where

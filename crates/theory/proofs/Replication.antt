@@ -5,7 +5,7 @@ use mathlib.Core.Path.{_≡_, refl, ap, sym, _∙_}
 use mathlib.Core.Logic.{_↔_, inl, inr}
 use mathlib.Core.Bool.{Bool, true, false, _||_}
 use Prim.Native.Nat.{ℕ, suc, _+_, _*_, _-_, _/_, _≤_, _<_}
-use native.Mathlib.Nat.{mul-comm, mul-assoc, zero-div, le-of-mul-le-mul-right, mul-le-mul-left, mul-le-mul-right, div-le-self, div-eq-of-eq-mul-left, le-add-right, le-of-eq, le-min, le-antisymm, le-trans, le-refl, eq-or-lt-of-le}
+use native.Mathlib.Nat.{mul-comm, mul-assoc, zero-div, le-of-mul-le-mul-right, mul-le-mul-left, mul-le-mul-right, div-le-self, div-eq-of-eq-mul-left, le-add-right, le-of-eq, le-min, min-le-right, mul-le-mul, le-antisymm, le-trans, le-refl, eq-or-lt-of-le}
 use native.Mathlib.Decide.{decLt, decLe}
 use native.Mathlib.Omega.{arith}
 use borrow.Author.Tests.{eqb-true, ne-eqb, leb-true, le-leb}
@@ -13,14 +13,20 @@ use lib.Dec.{eqb, leb}
 use Rattle.order.specs.Sum.{sum}
 use Rattle.order.specs.Search.{allb}
 use Rattle.order.proofs.Booleans.{no-contradiction, not-so, and-iff, leb-iff}
-use Rattle.order.proofs.Sums.{sum-cong, sum-mono, sum-mul}
+use Rattle.order.proofs.Sums.{sum-cong, sum-mono, sum-mul, sum-same}
 use Rattle.order.proofs.Extremes.{least-le, least-passes, least-first, allb-at, allb-iff, largest-term, largest-le}
 use Rattle.model.specs.Plan.{Plan, maxReplicas, blockCount, blockOf, isPaired, partner, upper, minTotal}
+use Rattle.model.specs.Refusal.{maxMachines, maxCapacity}
 use Rattle.model.specs.Replication.{limit, FeasibleCounts, unit, share, largestShare, need, reachable, figure, chosen}
 use Rattle.theory.specs.Widths.{popularityBound, shareBound}
 use Rattle.theory.specs.Refusal.{ValidBlock, Shaped, Valid}
 use Rattle.theory.specs.Replication.{ShareLaws, ChosenLaws, ChosenUnique}
 use Rattle.theory.proofs.Plan.{partner-paired, partner-popularity, partner-minReplicas, upper-max, upper-same}
+
+-- ── limit ────────────────────────────────────────────────────────────────────────────────────────
+pub limit-max : (p : Plan) → Shaped p → limit p ≤ maxMachines * maxCapacity
+unfolding limit
+limit-max p s = le-trans (min-le-right _ _) (mul-le-mul (s .machines-max) (s .capacity-max))
 
 -- ── FeasibleCounts ───────────────────────────────────────────────────────────────────────────────
 -- lawful counts are from 1 to 8
@@ -128,10 +134,6 @@ module _ (p : Plan) (i : ℕ) (b : ValidBlock p i) (f : ℕ) where
   unfolding need
   need-min = le-add-right _ _
 
-  pub need-max : need p f i ≤ suc (upper p i)
-  unfolding need
-  need-max = let l = least-le (enough p f i) (room p i) in omega arith
-
   pub need-within : need p f i ≤ upper p i → share (blockOf p i .popularity) (need p f i) ≤ f
   unfolding need
   need-within l = leb-true _ _ (least-passes (enough p f i) (room p i) (omega arith))
@@ -146,30 +148,36 @@ module _ (p : Plan) (i : ℕ) (b : ValidBlock p i) (f : ℕ) where
       let h = least-first (enough p f i) (room p i) (k - blockOf p i .minReplicas) (omega arith) here in
       omega arith
 
-  -- what a search upwards from the least copies finds
+  -- a count within f, where one copy less would be above it
   pub need-is : (k : ℕ) → blockOf p i .minReplicas ≤ k → k ≤ upper p i → share (blockOf p i .popularity) k ≤ f
-      → ((j : ℕ) → blockOf p i .minReplicas ≤ j → j < k → f < share (blockOf p i .popularity) j)
+      → (blockOf p i .minReplicas < k → f < share (blockOf p i .popularity) (k - 1))
       → need p f i ≡ k
-  need-is k low high l below =
+  need-is k low high l less =
       let first = need-first k low high l in
+      let min = need-min in
+      let max = upper-max p i in
       elim (decLt (need p f i) k) [
-        | yes m ↦ absurd (let w = need-within (omega arith) in let a = below (need p f i) need-min m in omega arith)
+        | yes m ↦ absurd
+            (omega
+            (arith, less (omega arith), need-within (omega arith), share-falls (blockOf p i .popularity) (need p f i) (k - 1) (omega (arith, b .min-pos)) (omega arith) (omega arith)))
         | no m ↦ omega arith
       ]
 
-  pub need-past : ((k : ℕ) → blockOf p i .minReplicas ≤ k → k ≤ upper p i → f < share (blockOf p i .popularity) k)
-      → need p f i ≡ suc (upper p i)
-  need-past above =
-      elim (decLe (need p f i) (upper p i)) [
-        | yes m ↦ absurd (let w = need-within m in let a = above (need p f i) need-min m in omega arith)
-        | no m ↦ let most = need-max in omega arith
-      ]
+module _ (p : Plan) (i : ℕ) (b : ValidBlock p i) (f g : ℕ) (l : f ≤ g) (reaches : need p f i ≤ upper p i) where
+  -- a larger figure needs no more copies
+  pub need-falls : need p g i ≤ need p f i
+  need-falls = need-first p i b g (need p f i) (need-min p i b f) reaches (le-trans (need-within p i b f reaches) l)
+
+  -- and as many where one copy less is above it, too
+  pub need-same : (blockOf p i .minReplicas < need p f i → g < share (blockOf p i .popularity) (need p f i - 1))
+      → need p g i ≡ need p f i
+  need-same = need-is p i b g (need p f i) (need-min p i b f) reaches (le-trans (need-within p i b f reaches) l)
 
 -- it goes by the block's popularity, its least copies and its upper count
-need-same : (p : Plan) (f i j : ℕ) → blockOf p i .popularity ≡ blockOf p j .popularity → blockOf p i .minReplicas ≡ blockOf p j .minReplicas
+need-alike : (p : Plan) (f i j : ℕ) → blockOf p i .popularity ≡ blockOf p j .popularity → blockOf p i .minReplicas ≡ blockOf p j .minReplicas
     → upper p i ≡ upper p j → need p f i ≡ need p f j
 unfolding need
-need-same p f i j popular few most = rw (popular, few, most)
+need-alike p f i j popular few most = rw (popular, few, most)
 
 -- ── reachable ────────────────────────────────────────────────────────────────────────────────────
 -- the two parts of the test
@@ -210,6 +218,30 @@ module _ (p : Plan) (v : Valid p) where
   pub reachable-mono : (f g : ℕ) → f ≤ g → reachable p f ≡ true → reachable p g ≡ true
   reachable-mono f g l e =
       reachable-counts g (need p f) (reachable-feasible f e) (le-trans (reachable-within f e) l)
+
+  -- no block is above a reachable figure at its upper count
+  pub reachable-upper : (f : ℕ) → reachable p f ≡ true → largestShare p (upper p) ≤ f
+  unfolding largestShare
+  reachable-upper f e =
+      largest-le (blockCount p) _ f
+      (λ i l.
+      let b = v .shaped .block i l in
+      let lawful = reachable-parts p f .0 e .0 i l in
+      le-trans
+      (share-falls (blockOf p i .popularity) (need p f i) (upper p i) (le-trans (b .min-pos) (need-min p i b f)) lawful (upper-max p i))
+      (need-within p i b f lawful))
+
+  -- where the needs at f are above the limit, nothing is reachable below f, nor from f on as long as the needs stay
+  pub reachable-none : (f end : ℕ) → limit p < sum (blockCount p) (need p f)
+      → ((g : ℕ) → f ≤ g → g < end → (i : ℕ) → i < blockCount p → need p g i ≡ need p f i)
+      → (g : ℕ) → g < end → reachable p g ≡ false
+  reachable-none f end over same g l =
+      not-so (reachable p g)
+      (λ e.
+      elim (decLe f g) [
+        | yes m ↦ omega (arith, reachable-parts p g .0 e .1, sum-cong (blockCount p) _ _ (same g m l))
+        | no m ↦ omega (arith, reachable-parts p f .0 (reachable-mono g f (omega arith) e) .1)
+      ])
 
 -- ── figure ───────────────────────────────────────────────────────────────────────────────────────
 -- the figure is at most the largest share at the least copies, where the search for it ends
@@ -253,6 +285,25 @@ module _ (p : Plan) (v : Valid p) where
   pub figure-optimal : (count : ℕ → ℕ) → FeasibleCounts p count → figure p ≤ largestShare p count
   figure-optimal count c = figure-least _ (reachable-counts p v _ count c (le-refl _))
 
+  -- needs that use the whole limit have the figure as their largest share: at a smaller one the block that has it needs a copy more
+  pub figure-full : (f : ℕ) → reachable p f ≡ true → sum (blockCount p) (need p f) ≡ limit p → figure p ≡ largestShare p (need p f)
+  unfolding largestShare
+  figure-full f e full =
+      le-antisymm (figure-optimal (need p f) (reachable-feasible p v f e))
+      (largest-le (blockCount p) _ (figure p)
+      (λ i l. rw (same i l) (need-within p i (v .shaped .block i l) (figure p) (lawful i l))))
+    where
+      lawful : (i : ℕ) → i < blockCount p → need p (figure p) i ≤ upper p i
+      lawful = reachable-parts p (figure p) .0 figure-reachable .0
+
+      fewer : (i : ℕ) → i < blockCount p → need p f i ≤ need p (figure p) i
+      fewer i l = need-falls p i (v .shaped .block i l) (figure p) f (figure-least f e) (lawful i l)
+
+      same : (i : ℕ) → i < blockCount p → need p f i ≡ need p (figure p) i
+      same =
+          sum-same (blockCount p) (need p f) (need p (figure p)) fewer
+          (le-trans (reachable-parts p (figure p) .0 figure-reachable .1) (le-of-eq (sym full)))
+
 -- ── chosen ───────────────────────────────────────────────────────────────────────────────────────
 module _ (p : Plan) (v : Valid p) where
   -- The chosen counts are optimal. Let lawful counts keep every share within some figure f. The need of a block at f is the first
@@ -283,7 +334,7 @@ module _ (p : Plan) (v : Valid p) where
   pub chosen-partner : (i : ℕ) → i < blockCount p → isPaired p i ≡ true → chosen p (partner p i) ≡ chosen p i
   unfolding chosen
   chosen-partner i l paired =
-      need-same p (figure p) (partner p i) i (partner-popularity p (v .shaped) i l paired)
+      need-alike p (figure p) (partner p i) i (partner-popularity p (v .shaped) i l paired)
       (partner-minReplicas p (v .shaped) i l paired)
       (upper-same p (partner p i) i (partner-paired p (v .shaped) i l paired ∙ sym paired))
 

@@ -1,94 +1,135 @@
 -- `replication::best_figure` meets its contract. The loop's invariant: the upper end is reachable, and nothing below the lower end is.
 -- Assumes nothing.
 use mathlib.Core.Path.{_≡_, sym, _∙_}
-use mathlib.Core.Bool.{true, false}
-use mathlib.Core.Logic.{inl, inr}
-use Prim.Native.Nat.{ℕ, _-_, _<_, _≤_}
-use native.Mathlib.Nat.{le-of-eq}
+use mathlib.Core.List.{List}
+use Prim.Native.Nat.{ℕ, _-_, _*_, _<_, _≤_}
+use native.Mathlib.Nat.{le-trans, le-of-eq}
 use native.Mathlib.Omega.{arith}
-use Rattle.order.proofs.Booleans.{bool-cases, no-contradiction}
-use Rattle.model.specs.Plan.{Plan, blockOf}
-use Rattle.model.specs.Replication.{reachable}
-use Rattle.theory.specs.Refusal.{Valid}
-use Rattle.theory.specs.Widths.{shareBound}
-use Rattle.theory.proofs.Replication.{reachable-mono, figure-by-bisection, reachable-counts, feasibleCounts-least}
-use Rattle.replication.specs.Choice.{LimitedDemands}
+use Rattle.order.proofs.Booleans.{not-so}
+use Rattle.model.specs.Plan.{Plan, blockOf, minTotal}
+use Rattle.model.specs.Refusal.{maxMachines, maxCapacity}
+use Rattle.theory.proofs.Replication.{limit-max, feasibleCounts-least, reachable-counts, reachable-upper, figure-by-bisection, figure-full}
+use Rattle.cluster.specs.declared.Cluster.{Cluster}
+use Rattle.replication.specs.Choice.{BracketFits, BracketOf, LimitedDemands, ChooseAsked}
+use Rattle.replication.proofs.Laws.{most-within, tally-reached}
 use Rattle.replication.proofs.best_figure.Statement.{statement}
 use Rattle.replication.proofs.best_figure.Tie as tie
 
 abbrev Inv-loop : tie.InvT-loop
-Inv-loop demands limit cluster low₀ high₀ low high =
-    (low ≤ high)
-    × (high < shareBound)
-    × ((p : Plan) → LimitedDemands p cluster demands limit → reachable p high ≡ true)
-    × ((p : Plan) → LimitedDemands p cluster demands limit → (f : ℕ) → f < low → reachable p f ≡ false)
+Inv-loop demands limit cluster bracket₀ bracket =
+    BracketFits bracket × ((p : Plan) → LimitedDemands p cluster demands limit → BracketOf p bracket)
 
 abbrev μ-loop : tie.MeasureT-loop
-μ-loop demands limit cluster low₀ high₀ low high = high - low
+μ-loop demands limit cluster bracket₀ bracket = bracket .high - bracket .low
 
--- below a figure that is not reachable, none is
-unreachable : (p : Plan) → Valid p → (f g : ℕ) → g ≤ f → reachable p f ≡ false → reachable p g ≡ false
-unreachable p v f g l e =
-    elim (bool-cases (reachable p g)) [
-      | inl h ↦ no-contradiction (sym (reachable-mono p v g f l h) ∙ e)
-      | inr h ↦ h
-    ]
+-- the limit of a plan is at most its places, and at least its least copies
+module _ (c : Cluster) (demands : List ℕ) (limit : ℕ) (asked : ChooseAsked c demands limit) where
+  limit-here : limit ≤ maxMachines * maxCapacity
+  limit-here =
+      rw (asked .limited .limit-is) (limit-max (asked .plan) (asked .limited .demands-of .cluster .valid .shaped))
 
-top-share-requires : tie.Need-top-share-requires Inv-loop μ-loop
-top-share-requires c κs = c .before .pre
+  least-here : minTotal (asked .plan) ≤ limit
+  unfolding minTotal
+  least-here = rw (asked .limited .limit-is) (feasibleCounts-least (asked .plan) (asked .limited .demands-of .cluster .valid) .in-limit)
+
+extent-of-requires : tie.Need-extent-of-requires Inv-loop μ-loop
+extent-of-requires c κs = c .before .pre .fit
+
+bracket-of-requires : tie.Need-bracket-of-requires Inv-loop μ-loop
+bracket-of-requires c κs =
+    let asked = c .before .before .pre in
+    let fits = c .extent-of .ensures .0 in
+    let of = c .extent-of .ensures .1 (asked .plan) (asked .limited .demands-of) in
+    let blocks-max = asked .fit .in-range .blocks-max in
+    record {
+      low-narrow = fits .low-narrow;
+      high-narrow = fits .high-narrow;
+      popularity-max = omega (arith, fits .popularity-max);
+      copies-max = rw (of .copies-is) (least-here _ _ _ asked);
+      limit-max = limit-here _ _ _ asked;
+      blocks-max = blocks-max;
+    }
 
 loop-holds : tie.Need-loop-holds Inv-loop μ-loop
-loop-holds c = (
-  omega arith,
-  c .top-share .ensures .1,
-  λ p of.
-      let valid = of .demands-of .cluster .valid in
-      reachable-counts p valid _ (λ i. blockOf p i .minReplicas) (feasibleCounts-least p valid)
-      (le-of-eq (sym (c .top-share .ensures .0 p (of .demands-of)))),
-  λ p of f l. absurd (omega arith),
-)
-
-sub-middle : tie.Need-sub-middle Inv-loop μ-loop
-sub-middle c = omega arith
-
-add-middle : tie.Need-add-middle Inv-loop μ-loop
-add-middle c = omega arith
-
-reaches-requires : tie.Need-reaches-requires Inv-loop μ-loop
-reaches-requires c κs = (c .before .before .before .before .pre, omega arith)
-
-loop-less : tie.Need-loop-less Inv-loop μ-loop
-loop-less c = omega arith
-
-loop-again : tie.Need-loop-again Inv-loop μ-loop
-loop-again c =
-    let inv = c .before .before .before .loop .inv in
-    (omega arith, omega arith, λ p of. sym (c .before .reaches .ensures p of) ∙ c .if1 .taken, inv .3)
-
-add-low : tie.Need-add-low Inv-loop μ-loop
-add-low c = omega arith
-
-loop-less-2 : tie.Need-loop-less-2 Inv-loop μ-loop
-loop-less-2 c = omega arith
-
-loop-again-2 : tie.Need-loop-again-2 Inv-loop μ-loop
-loop-again-2 c =
-    let inv = c .before .before .before .loop .inv in (
-      omega arith,
-      omega arith,
-      inv .2,
-      λ p of f l.
-          unreachable p (of .demands-of .cluster .valid) _ f (omega arith)
-          (sym (c .before .reaches .ensures p of) ∙ c .if1 .left),
+loop-holds c =
+    let bracket = c .bracket-of .ensures in (
+      bracket .2,
+      λ p of.
+          let valid = of .demands-of .cluster .valid in
+          let extent = c .before .extent-of .ensures .1 p (of .demands-of) in
+          let low-is = bracket .0 ∙ extent .low-is in
+          record {
+            low-min = le-of-eq (sym low-is);
+            unreached = λ f l. not-so _ (λ e. omega (arith, reachable-upper p valid f e, low-is));
+            reached = reachable-counts p valid _ (λ i. blockOf p i .minReplicas) (feasibleCounts-least p valid)
+                (le-of-eq (sym (bracket .1 ∙ extent .high-is)));
+          },
     )
+
+probe-requires : tie.Need-probe-requires Inv-loop μ-loop
+probe-requires c κs = (c .before .before .loop .inv .0, c .if1 .taken)
+
+tally-of-requires : tie.Need-tally-of-requires Inv-loop μ-loop
+tally-of-requires c κs =
+    let at = c .before .before .before in
+    let asked = at .before .before .before .before .pre in
+    let inv = at .loop .inv in
+    record {
+      fit = asked .fit;
+      wanted-narrow = omega (arith, c .probe .ensures .1, inv .0 .high-narrow);
+      most-within = most-within (asked .plan) _ _ (asked .limited .demands-of) _
+          (le-trans (inv .1 (asked .plan) (asked .limited) .low-min) (c .probe .ensures .0));
+    }
 
 returns : tie.Need-returns Inv-loop μ-loop
 returns c =
-    let inv = c .before .loop .inv in (
+    let counted = c .before .before in
+    let at = counted .before .before .before .before in
+    let probe = counted .before .probe .ensures in (
       λ p of.
-          sym
-          (figure-by-bisection p (of .demands-of .cluster .valid) _ (inv .2 p of) (λ f l. inv .3 p of f (omega arith))),
-      inv .1,
+          let tally = counted .tally-of .ensures .1 p (of .demands-of) in
+          let full = c .if2 .taken ∙ of .limit-is in
+          tally .top-is
+          ∙ sym
+          (figure-full p (of .demands-of .cluster .valid) _ (tally-reached p _ _ tally (le-of-eq full)) (sym (tally .total-is) ∙ full)),
+      omega (arith, counted .tally-of .ensures .0 .top-max, probe .1, at .loop .inv .0 .high-narrow),
+    )
+
+narrowed-requires : tie.Need-narrowed-requires Inv-loop μ-loop
+narrowed-requires c κs =
+    let counted = c .before .before in
+    let at = counted .before .before .before .before in
+    let asked = at .before .before .before .before .pre in
+    let probe = counted .before .probe .ensures in
+    let tally = counted .tally-of .ensures .0 in
+    record {
+      fits = at .loop .inv .0;
+      total-max = omega (arith, tally .total-max, asked .fit .in-range .blocks-max);
+      limit-max = limit-here _ _ _ asked;
+      low-less = omega (arith, probe .0, tally .next-above);
+      high-less = omega (arith, probe .1, tally .top-max);
+    }
+
+loop-less : tie.Need-loop-less Inv-loop μ-loop
+loop-less c = c .narrowed .ensures .less (c .before .before .before .before .before .if1 .taken)
+
+loop-again : tie.Need-loop-again Inv-loop μ-loop
+loop-again c =
+    let counted = c .before .before .before in
+    let inv = counted .before .before .before .before .loop .inv in (
+      c .narrowed .ensures .fits,
+      λ p of.
+          c .narrowed .ensures .of p _ (of .demands-of .cluster .valid) (of .limit-is)
+          (counted .tally-of .ensures .1 p (of .demands-of)) (inv .1 p of),
+    )
+
+returns-2 : tie.Need-returns-2 Inv-loop μ-loop
+returns-2 c =
+    let inv = c .before .before .loop .inv in (
+      λ p of.
+          let at = inv .1 p of in
+          sym (figure-by-bisection p (of .demands-of .cluster .valid) _ (at .reached) (λ f l. at .unreached f (omega arith))),
+      inv .0 .high-narrow,
     )
 
 pub best-figure-spec : {M : Type 1} → statement M
@@ -97,14 +138,13 @@ best-figure-spec =
     (tie.spec
     Inv-loop
     μ-loop
-    top-share-requires
+    extent-of-requires
+    bracket-of-requires
     loop-holds
-    sub-middle
-    add-middle
-    reaches-requires
+    probe-requires
+    tally-of-requires
+    returns
+    narrowed-requires
     loop-less
     loop-again
-    add-low
-    loop-less-2
-    loop-again-2
-    returns)
+    returns-2)

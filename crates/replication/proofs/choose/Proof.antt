@@ -2,23 +2,25 @@
 -- Assumes nothing.
 use borrow.Author.Needs.{needs}
 use mathlib.Core.Path.{sym, _∙_}
-use Rattle.theory.proofs.Replication.{chosen-laws}
+use Rattle.theory.proofs.Replication.{reachable-upper, figure-reachable, chosen-laws}
+use Rattle.replication.proofs.Laws.{most-within}
 use Rattle.replication.proofs.choose.Statement.{statement}
 use Rattle.replication.proofs.choose.Tie as tie
 
 best-figure-requires : tie.Need-best-figure-requires
-best-figure-requires c κs = c .before .before .pre .fit
+best-figure-requires c κs = c .before .before .pre
 
 fill-requires : tie.Need-fill-requires
 fill-requires c κs =
     let asked = c .before .before .before .before .pre in
+    let of = asked .limited .demands-of in
+    let valid = of .cluster .valid in
     let figure = c .before .best-figure .ensures in
     record {
       fit = asked .fit;
-      plan = asked .plan;
-      demands-of = asked .limited .demands-of;
-      figure-is = figure .0 (asked .plan) (asked .limited);
-      narrow = figure .1;
+      wanted-narrow = figure .1;
+      most-within = most-within (asked .plan) _ _ of _
+          (rw (figure .0 (asked .plan) (asked .limited)) (reachable-upper (asked .plan) valid _ (figure-reachable (asked .plan) valid)));
     }
 
 same-length : tie.Need-same-length

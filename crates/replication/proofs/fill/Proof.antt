@@ -15,18 +15,20 @@ use Rattle.theory.proofs.Replication.{share-whole, feasibleCounts-range, chosen
 use Rattle.cluster.specs.declared.Cluster.{Cluster}
 use Rattle.cluster.specs.Blocks.{popularityIn, spreadAsked, linkIn, profileOf, DemandsFit, DemandsOf, ProfilesFit}
 use Rattle.cluster.proofs.Laws.{cluster-blocks, cluster-block, demands-popularity, demands-spread, demands-link, profileOf-share, profileOf-link, linked-mate}
+use Rattle.replication.specs.Choice.{NeedAsked}
+use Rattle.replication.proofs.Laws.{quotients-are, need-of}
 use Rattle.replication.proofs.fill.Statement.{statement}
 use Rattle.replication.proofs.fill.Tie as tie
 
 abbrev Inv-loop : tie.InvT-loop
-Inv-loop items₀ cluster wanted i₀ items i =
+Inv-loop items₀ cluster wanted quotients scale i₀ items i =
     (i ≤ cluster .blocks)
     × (length items ≡ length items₀)
     × ((k : ℕ) → i ≤ k → getD items k 0 ≡ getD items₀ k 0)
     × ((p : Plan) → DemandsOf p cluster items₀ → wanted ≡ figure p → items ≡ filled i (profileOf p (chosen p)) items₀)
 
 abbrev μ-loop : tie.MeasureT-loop
-μ-loop items₀ cluster wanted i₀ items i = cluster .blocks - i
+μ-loop items₀ cluster wanted quotients scale i₀ items i = cluster .blocks - i
 
 -- chosen counts are from 1 to 8
 chosen-range : (p : Plan) (c : Cluster) (demands : List ℕ) → DemandsOf p c demands → (i : ℕ) → i < c .blocks
@@ -35,24 +37,44 @@ chosen-range p c demands of i l =
     let valid = of .cluster .valid in
     feasibleCounts-range p (chosen p) (valid .shaped) (chosen-laws p valid .feasible) i (rw (cluster-blocks p c (of .cluster)) at l)
 
+-- the demand is still in its place, in its ranges, and within the figure at its upper count
+module _ (c : tie.After-slice-known2 Inv-loop μ-loop) where
+  abbrev Here : tie.At-loop Inv-loop μ-loop
+  Here = c .before .before .before
+
+  kept : getD (Here .loop .items) (Here .loop .i) 0 ≡ getD (now (Here .before .before .before .args .items)) (Here .loop .i) 0
+  kept = Here .loop .inv .2 (Here .loop .i) (omega arith)
+
+  asked-here : NeedAsked (getD (Here .loop .items) (Here .loop .i) 0) (Here .before .before .before .args .wanted) (Here .before .scale-of .result)
+  asked-here =
+      let asked = Here .before .before .before .pre in
+      let l : Here .loop .i < Here .before .before .before .args .cluster .blocks = omega arith in
+      rw kept
+      (record {
+        in-range = asked .fit .each _ l;
+        wanted-narrow = asked .wanted-narrow;
+        scale-of = Here .before .scale-of .ensures;
+        most-within = asked .most-within _ l;
+      })
+
 -- the count found is the block's chosen count
 module _ (c : tie.After-needed Inv-loop μ-loop) where
   abbrev At : tie.At-loop Inv-loop μ-loop
   At = c .before .before .before .before
 
-  chosen-here : (p : Plan) → let a = At .before .before .args in
+  chosen-here : (p : Plan) → let a = At .before .before .before .args in
       DemandsOf p (a .cluster) (now (a .items)) → a .wanted ≡ figure p → c .needed .result ≡ chosen p (At .loop .i)
   unfolding chosen
   chosen-here p of same =
       let i = At .loop .i in
-      let l : i < At .before .before .args .cluster .blocks = omega arith in
-      c .needed .ensures .is p i (cluster-block p _ (of .cluster) i l) (At .loop .inv .2 i (omega arith) ∙ of .are i l) ∙ ap (λ (x : ℕ). need p x i) same
+      let found = rw (kept (c .before)) at (c .needed .ensures) in
+      need-of p _ _ of i _ _ (omega arith) found .0 ∙ ap (λ (x : ℕ). need p x i) same
 
   count-here : (1 ≤ c .needed .result) × (c .needed .result ≤ maxReplicas)
   count-here =
-      let asked = At .before .before .pre in
-      rw (chosen-here (asked .plan) (asked .demands-of) (asked .figure-is))
-      (chosen-range (asked .plan) _ _ (asked .demands-of) (At .loop .i) (omega arith))
+      let d = asked-here (c .before) .in-range in
+      let found = c .needed .ensures in
+      (omega (arith, found .low, d .least-pos), omega (arith, found .high, d .most-max))
 
 -- the profiles are in range
 profiles-fit : (p : Plan) (c : Cluster) (demands profiles₀ profiles : List ℕ) → DemandsFit c demands → DemandsOf p c demands
@@ -76,6 +98,9 @@ profiles-fit p c demands profiles₀ profiles fit of room are =
           (linked-mate p (profileOf p (chosen p) i) i (profileOf-link p (chosen p) i) (of .cluster .valid .shaped) i-in);
     }
 
+scale-of-requires : tie.Need-scale-of-requires Inv-loop μ-loop
+scale-of-requires c κs = c .before .pre .wanted-narrow
+
 loop-holds : tie.Need-loop-holds Inv-loop μ-loop
 loop-holds c = (omega arith, refl, λ k l. refl, λ p of same. filled-none _ _)
 
@@ -83,32 +108,27 @@ mul-demand : tie.Need-mul-demand Inv-loop μ-loop
 mul-demand c = omega arith
 
 slice-read-demand : tie.Need-slice-read-demand Inv-loop μ-loop
-slice-read-demand c = omega (arith, c .before .before .before .before .before .pre .fit .room)
+slice-read-demand c = omega (arith, c .before .before .before .before .before .before .pre .fit .room)
 
 needed-requires : tie.Need-needed-requires Inv-loop μ-loop
-needed-requires c κs =
-    let at = c .before .before .before in
-    let asked = at .before .before .pre in
-    record { in-range = rw (at .loop .inv .2 (at .loop .i) (omega arith)) (asked .fit .each (at .loop .i) (omega arith)); wanted-narrow = asked .narrow }
+needed-requires c κs = asked-here c
 
 share-at-requires : tie.Need-share-at-requires Inv-loop μ-loop
 share-at-requires c κs =
-    let at = c .before .before .before .before .before in
-    let d = at .before .before .pre .fit .each (at .loop .i) (omega arith) in
-    let kept = at .loop .inv .2 (at .loop .i) (omega arith) in
-    let count = count-here (c .before) in
-    (omega arith, count .0, count .1)
+    let d = asked-here (c .before .before .before) .in-range in
+    let count = count-here (c .before .before) in
+    record { quotients-are = quotients-are; popularity-narrow = omega (arith, d .popularity-narrow); count-pos = count .0; count-max = count .1 }
 
 profile-requires : tie.Need-profile-requires Inv-loop μ-loop
 profile-requires c κs =
-    let few = count-here (c .before .before .before .before) .1 in
+    let few = count-here (c .before .before .before .before .before) .1 in
     (c .before .before .share-at .ensures .1, omega arith, omega arith, omega arith)
 
 mul-items : tie.Need-mul-items Inv-loop μ-loop
 mul-items c = omega arith
 
 slice-write-items : tie.Need-slice-write-items Inv-loop μ-loop
-slice-write-items c = omega arith
+slice-write-items c = omega (arith, c .before .before .before .before .before .before .before .before .before .before .before .before .before .pre .fit .room)
 
 add-i : tie.Need-add-i Inv-loop μ-loop
 add-i c = omega arith
@@ -119,8 +139,9 @@ loop-less c = omega arith
 loop-again : tie.Need-loop-again Inv-loop μ-loop
 unfolding profileOf
 loop-again c =
-    let at = c .before .before .before .before .before .before .before .before .before in
-    let start = at .before .before in
+    let found = c .before .before .before .before .before .before in
+    let at = At found in
+    let start = at .before .before .before in
     let i = at .loop .i in
     let inv = at .loop .inv in
     let l : i < start .args .cluster .blocks = omega arith in (
@@ -128,12 +149,12 @@ loop-again c =
       simp length-set (inv .1),
       λ k l. getD-set-other (at .loop .items) i k (c .profile .result) 0 (omega arith) ∙ inv .2 k (omega arith),
       λ p of same.
-          let count-is = chosen-here (c .before .before .before .before .before) p of same in
+          let count-is = chosen-here found p of same in
           let spread-is = ap spreadAsked (inv .2 i (omega arith)) ∙ demands-spread p _ _ of i l in
           let link-is = ap linkIn (inv .2 i (omega arith)) ∙ demands-link p _ _ of i l in
           let share-is = c .before .before .before .share-at .ensures .0
           ∙ ap₂ share (c .before .before .before .before .popularity-of .ensures ∙ ap popularityIn (inv .2 i (omega arith)) ∙ demands-popularity p _ _ of i l) count-is in
-          filled-more i _ _ _ _ (inv .3 p of same) (omega arith) (omega arith),
+          filled-more i _ _ _ _ (inv .3 p of same) (omega (arith, start .pre .fit .room)) (omega arith),
     )
 
 same-length : tie.Need-same-length Inv-loop μ-loop
@@ -142,10 +163,10 @@ same-length c = c .before .before .loop .inv .1
 returns : tie.Need-returns Inv-loop μ-loop
 returns c p of same =
     let at = c .before .before in
-    let asked = at .before .before .pre in
+    let asked = at .before .before .before .pre in
     let all : at .loop .i ≡ blockCount p = omega (arith, cluster-blocks p _ (of .cluster)) in
     let are = rw all at (at .loop .inv .3 p of same) in
-    record { are = are; fit = profiles-fit p _ _ _ _ (asked .fit) of (omega arith) are }
+    record { are = are; fit = profiles-fit p _ _ _ _ (asked .fit) of (omega (arith, asked .fit .room)) are }
 
 pub fill-spec : {M : Type 1} → statement M
 fill-spec =
@@ -153,6 +174,7 @@ fill-spec =
     (tie.spec
     Inv-loop
     μ-loop
+    scale-of-requires
     loop-holds
     mul-demand
     slice-read-demand

@@ -1,102 +1,144 @@
--- `replication::needed` meets its contract. The loop's invariant: every count passed has a share above the figure.
+-- `replication::needed` meets its contract. The loop's invariant: the count is lawful, and one copy less is not enough.
 -- Assumes nothing.
-use mathlib.Core.Path.{_≡_, sym, _∙_}
-use Prim.Native.Nat.{ℕ, suc, _+_, _-_, _<_, _≤_}
-use native.Mathlib.Nat.{mul-le-mul, lt-of-not-le}
+use mathlib.Core.Path.{_≡_, ap, ap₂, _∙_}
+use Prim.Native.Nat.{ℕ, suc, _+_, _-_, _*_, _/_, _<_, _≤_, max}
+use native.Mathlib.Nat.{mul-le-mul, mul-le-mul-left, mul-le-mul-right, lt-of-not-le}
+use native.Mathlib.Decide.{decLt, decLe}
 use native.Mathlib.Omega.{arith}
-use borrow.Author.Count.{below-more}
-use Rattle.model.specs.Plan.{Plan, maxReplicas}
-use Rattle.model.specs.Replication.{share, need}
-use Rattle.theory.specs.Refusal.{ValidBlock}
-use Rattle.theory.specs.Widths.{shareBound}
-use Rattle.theory.proofs.Replication.{share-within, need-is, need-past}
-use Rattle.cluster.specs.Blocks.{popularityIn, leastIn, mostIn, demandOf}
-use Rattle.cluster.proofs.Laws.{demandOf-popularity, demandOf-least, demandOf-most}
+use Rattle.model.specs.Plan.{maxReplicas}
+use Rattle.model.specs.Replication.{unit, share}
+use Rattle.theory.proofs.Replication.{share-within}
+use Rattle.cluster.specs.Blocks.{popularityIn, leastIn, mostIn}
+use Rattle.replication.specs.Choice.{parts, ScaleOf, NeedAsked}
 use Rattle.replication.proofs.needed.Statement.{statement}
 use Rattle.replication.proofs.needed.Tie as tie
 
--- the shares of the counts from the least copies to k, k left out, are above the figure
-abbrev Above : ℕ → ℕ → ℕ → Type 0
-Above demand figure k = (j : ℕ) → j < k → leastIn demand ≤ j → figure < share (popularityIn demand) j
-
 abbrev Inv-loop : tie.InvT-loop
-Inv-loop demand figure reads most k₀ k = (leastIn demand ≤ k) × (k ≤ mostIn demand) × Above demand figure k
+Inv-loop demand figure scale popularity reads estimate k₀ k =
+    (leastIn demand ≤ k)
+    × (k ≤ mostIn demand)
+    × (leastIn demand < k → figure * (k - 1) < popularityIn demand * unit)
 
 abbrev μ-loop : tie.MeasureT-loop
-μ-loop demand figure reads most k₀ k = suc most - k
+μ-loop demand figure scale popularity reads estimate k₀ k = suc (mostIn demand) - k
 
--- what the search finds is the block's need
-module _ (p : Plan) (i : ℕ) (v : ValidBlock p i) (demand figure : ℕ) (same : demand ≡ demandOf p i) where
-  found : (k : ℕ) → leastIn demand ≤ k → k ≤ mostIn demand → share (popularityIn demand) k ≤ figure → Above demand figure k
-      → k ≡ need p figure i
-  found =
-      rw (same, demandOf-popularity p i v, demandOf-least p i v, demandOf-most p i v)
-      (λ k low high within above. sym (need-is p i v figure k low high within (λ j least less. above j less least)))
+-- the upper count is enough
+module _ (demand figure scale : ℕ) (asked : NeedAsked demand figure scale) where
+  enough : popularityIn demand * unit ≤ figure * mostIn demand
+  enough =
+      let d = asked .in-range in
+      share-within _ _ figure (omega (arith, d .least-pos, d .least-most)) (d .most-max) .0 (asked .most-within)
 
-  past : Above demand figure (suc (mostIn demand)) → suc (mostIn demand) ≡ need p figure i
-  past =
-      rw (same, demandOf-popularity p i v, demandOf-least p i v, demandOf-most p i v)
-      (λ above. sym (need-past p i v figure (λ k least high. above k (omega arith) least)))
+  -- a product with the scale is at most 8 in parts
+  product-max : popularityIn demand * scale ≤ maxReplicas * parts
+  product-max =
+      let P = popularityIn demand in
+      elim (decLe (P * scale) (maxReplicas * parts)) [
+        | yes l ↦ l
+        | no l ↦ absurd
+            (let more : suc (maxReplicas * parts) * suc figure ≤ P * scale * suc figure = mul-le-mul-right (suc figure) (lt-of-not-le l) in
+            let scaled : P * (scale * suc figure) ≤ P * (unit * parts) = mul-le-mul-left P (asked .scale-of .scale-max) in
+            let most : figure * mostIn demand ≤ figure * maxReplicas = mul-le-mul-left figure (asked .in-range .most-max) in
+            omega (arith, enough))
+      ]
+
+-- a count below the estimate is not enough
+estimate-below : (P figure scale e j : ℕ) → ScaleOf figure scale → e * parts < P * scale + parts → j < e → figure * j < P * unit
+estimate-below P figure scale e j of l less =
+    elim (decLt (figure * j) (P * unit)) [
+      | yes h ↦ h
+      | no h ↦ absurd
+          (let more : suc (j * parts) * suc figure ≤ P * scale * suc figure = mul-le-mul-right (suc figure) (omega arith) in
+          let scaled : P * (scale * suc figure) ≤ P * (unit * parts) = mul-le-mul-left P (of .scale-max) in
+          omega arith)
+    ]
+
+popularity-of-requires : tie.Need-popularity-of-requires Inv-loop μ-loop
+popularity-of-requires c κs = tt
 
 mul-reads : tie.Need-mul-reads Inv-loop μ-loop
 mul-reads c = omega arith
 
+product-here : (c : tie.After-popularity-of Inv-loop μ-loop) → c .popularity-of .result * c .before .args .scale ≤ maxReplicas * parts
+product-here c = rw (c .popularity-of .ensures) (product-max _ _ _ (c .before .pre))
+
+mul-estimate : tie.Need-mul-estimate Inv-loop μ-loop
+mul-estimate c = omega (arith, product-here c)
+
+sub-estimate : tie.Need-sub-estimate Inv-loop μ-loop
+sub-estimate c = omega arith
+
+add-estimate : tie.Need-add-estimate Inv-loop μ-loop
+add-estimate c = omega (arith, product-here c)
+
 loop-holds : tie.Need-loop-holds Inv-loop μ-loop
-loop-holds c = (omega arith, omega arith, λ j low high. omega arith)
+loop-holds c =
+    let start = c .before .before .before in
+    let a = start .args in
+    let P = popularityIn (a .demand) in
+    let e = (P * a .scale + 281474976710655) / parts in
+    let below : (j : ℕ) → j < e → a .figure * j < P * unit =
+    λ j l. estimate-below P (a .figure) (a .scale) e j (start .pre .scale-of) (omega arith) l
+    in
+    let found =
+    c .larger .ensures
+    ∙ ap₂ max (c .before .least-of .ensures) (ap (λ (x : ℕ). (x * a .scale + 281474976710655) / parts) (c .before .before .popularity-of .ensures))
+    in
+    let few : e ≤ mostIn (a .demand) =
+    elim (decLe e (mostIn (a .demand))) [
+      | yes l ↦ l
+      | no l ↦ absurd (omega (arith, below (mostIn (a .demand)) (omega arith), enough _ _ _ (start .pre)))
+    ]
+    in
+    (omega arith, omega arith, λ l. below _ (omega arith))
 
 mul-loop : tie.Need-mul-loop Inv-loop μ-loop
 mul-loop c =
-    let a = c .before .before .before .before .args in
-    omega (arith, mul-le-mul {n₁ = a .figure} {m₁ = c .loop .k} {n₂ = shareBound} {m₂ = maxReplicas} (omega arith) (omega arith))
-
-add-result : tie.Need-add-result Inv-loop μ-loop
-add-result c = omega arith
-
--- where the loop goes on, the share at k is above the figure
-above-here : (c : tie.In-loop Inv-loop μ-loop)
-    → c .before .before .before .before .before .args .figure
-    < share (popularityIn (c .before .before .before .before .before .args .demand)) (c .before .loop .k)
-above-here c =
-    lt-of-not-le (λ l. let w = share-within _ (c .before .loop .k) _ (omega arith) (omega arith) .0 l in omega arith)
-
-returns : tie.Need-returns Inv-loop μ-loop
-returns c =
-    let turn = c .before in
-    let at = turn .before in
-    let inv = at .loop .inv in
-    let last : at .loop .k + 1 ≡ suc (mostIn (at .before .before .before .before .args .demand)) = omega arith in
-    let all = below-more _ (at .loop .k) (inv .2) (λ low. above-here turn) in
-    let most = at .before .before .most-of in
-    let result : most .result + 1 ≡ suc (mostIn (at .before .before .before .before .args .demand)) = omega (arith, most .ensures) in
-    record {
-      low = omega arith;
-      high = omega arith;
-      is = λ p i v same. result ∙ past p i v _ _ same (rw last at all);
-    }
+    let inv = c .loop .inv in
+    let asked = c .before .before .before .before .pre in
+    let product = mul-le-mul (asked .wanted-narrow) (inv .1) in
+    omega (arith, asked .in-range .most-max)
 
 add-k : tie.Need-add-k Inv-loop μ-loop
 add-k c = omega arith
 
+-- a count that is not enough is below the upper count
+below-most : (c : tie.In-loop Inv-loop μ-loop) → c .before .loop .k < mostIn (c .before .before .before .before .before .args .demand)
+below-most c =
+    let inv = c .before .loop .inv in
+    elim (decLt (c .before .loop .k) (mostIn (c .before .before .before .before .before .args .demand))) [
+      | yes l ↦ l
+      | no l ↦ absurd
+          (let same : c .before .loop .k ≡ mostIn (c .before .before .before .before .before .args .demand) = omega arith in
+          omega (arith, c .loop-test .taken, rw (← same) at (enough _ _ _ (c .before .before .before .before .before .pre))))
+    ]
+
 loop-less : tie.Need-loop-less Inv-loop μ-loop
-loop-less c = omega arith
+loop-less c = omega (arith, below-most c)
 
 loop-again : tie.Need-loop-again Inv-loop μ-loop
 loop-again c =
-    let turn = c .before in
-    let inv = turn .before .loop .inv in
-    (omega arith, omega arith, below-more _ (turn .before .loop .k) (inv .2) (λ low. above-here turn))
+    let inv = c .before .loop .inv in (
+      omega arith,
+      omega (arith, below-most c),
+      λ l. let back : c .before .loop .k + 1 - 1 ≡ c .before .loop .k = omega arith in rw back (omega arith),
+    )
 
-returns-2 : tie.Need-returns-2 Inv-loop μ-loop
-returns-2 c =
+returns : tie.Need-returns Inv-loop μ-loop
+returns c =
     let at = c .before in
-    let a = at .before .before .before .before .args in
-    let k = at .loop .k in
     let inv = at .loop .inv in
-    let within : share (popularityIn (a .demand)) k ≤ a .figure = share-within _ k _ (omega arith) (omega arith) .1 (omega arith) in
+    let asked = at .before .before .before .before .pre in
+    let d = asked .in-range in
     record {
       low = inv .0;
-      high = omega arith;
-      is = λ p i v same. found p i v _ _ same k (inv .0) (inv .1) within (inv .2);
+      high = inv .1;
+      within = share-within _ (at .loop .k) _ (omega (arith, d .least-pos)) (omega (arith, d .most-max)) .1 (omega arith);
+      less-above = λ l.
+          lt-of-not-le
+          (λ h.
+          let w = share-within _ (at .loop .k - 1) _ (omega (arith, d .least-pos)) (omega (arith, d .most-max)) .0 h in
+          omega (arith, inv .2 l));
     }
 
 pub needed-spec : {M : Type 1} → statement M
@@ -105,15 +147,16 @@ needed-spec =
     (tie.spec
     Inv-loop
     μ-loop
-    (λ c κs. tt)
+    popularity-of-requires
     mul-reads
+    mul-estimate
+    sub-estimate
+    add-estimate
     (λ c κs. tt)
     (λ c κs. tt)
     loop-holds
     mul-loop
-    add-result
-    returns
     add-k
     loop-less
     loop-again
-    returns-2)
+    returns)

@@ -1,0 +1,20 @@
+-- `replication::scale_of` meets its contract: a quotient times its divisor is at most the number divided.
+-- Assumes nothing.
+use borrow.Author.Needs.{needs}
+use Prim.Native.Nat.{_+_}
+use native.Mathlib.Nat.{div-mul-le-self}
+use native.Mathlib.Omega.{arith}
+use Rattle.replication.proofs.scale_of.Statement.{statement}
+use Rattle.replication.proofs.scale_of.Tie as tie
+
+add-result : tie.Need-add-result
+add-result c = search needs
+
+div-result : tie.Need-div-result
+div-result c = search needs
+
+returns : tie.Need-returns
+returns c = record { scale-max = omega (arith, div-mul-le-self 236438980436951040 (c .args .figure + 1)) }
+
+pub scale-of-spec : {M : Type 1} → statement M
+scale-of-spec = tie.close (tie.spec add-result div-result returns)
