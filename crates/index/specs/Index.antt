@@ -125,3 +125,15 @@ pub record NextOf (index : List ℕ) (part m n from : ℕ) (c : Cluster) (r : �
   pub passed : (k : ℕ) → from ≤ k → k < r → k < c .blocks → spot index part m k ≡ 1 → spot index part n k ≡ 0 → ⊥
   pub holds : r < c .blocks → spot index part m r ≡ 1
   pub lacks : r < c .blocks → spot index part n r ≡ 0
+
+-- Blocks by rising share.
+pub record AboveAsked (index : List ℕ) (c : Cluster) : Type 0 where
+  pub sized : length index ≡ indexLength
+  pub blocks-max : c .blocks ≤ maxBlocks
+  pub rising : (r q : ℕ) → r ≤ q → q < c .blocks → shareAt index r ≤ shareAt index q
+
+-- r is the first rank whose share is above the limit, or past the last block.
+pub record AboveOf (index : List ℕ) (limit : ℕ) (c : Cluster) (r : ℕ) : Type 0 where
+  pub within : r ≤ c .blocks
+  pub passed : (k : ℕ) → k < r → shareAt index k ≤ limit
+  pub above : (k : ℕ) → r ≤ k → k < c .blocks → limit < shareAt index k

@@ -5,7 +5,7 @@ ghost use mathlib.Core.List.{List};
 ghost use Prim.Native.Nat.{ℕ};
 ghost use mathlib.Core.Path.{_≡_};
 ghost use lib.ListN.{length};
-ghost use Rattle.index.specs.Index.{indexLength, Ordered, Cleared, StartAsked, Indexed, CopyAsked, CopiedTo, ClearedTo, EnterAsked, Entered, FillAsked, NextAsked, NextOf};
+ghost use Rattle.index.specs.Index.{indexLength, Ordered, Cleared, StartAsked, Indexed, CopyAsked, CopiedTo, ClearedTo, EnterAsked, Entered, FillAsked, NextAsked, NextOf, AboveAsked, AboveOf};
 
 // The index's length, and where its parts begin: the blocks by number and by rank, the keys and the ranks.
 pub const INDEX_LENGTH: usize = 4096;
@@ -108,4 +108,22 @@ pub fn next(index: &[u64], part: usize, m: usize, n: usize, from: usize, cluster
         k = (k / 64 + 1) * 64;
     }
     k
+}
+
+// The first rank whose share is above `limit`; past the last block where there is none.
+pub fn first_above(index: &[u64], limit: u64, cluster: Cluster) -> usize
+    requires { ⌜ AboveAsked (now index) cluster ⌝ }
+    ensures { λ r. ⌜ AboveOf (now (index .entry)) limit cluster r ⌝ }
+{
+    let mut low: usize = 0;
+    let mut high = cluster.blocks;
+    while low < high {
+        let middle = (low + high) / 2;
+        if ranking::share_of(index[KEYS_AT + middle]) <= limit {
+            low = middle + 1;
+        } else {
+            high = middle;
+        }
+    }
+    low
 }

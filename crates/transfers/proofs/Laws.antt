@@ -29,8 +29,8 @@ use Rattle.cluster.specs.Cluster.{machinesIn, ClusterOf}
 use Rattle.cluster.specs.Blocks.{linkedTo, shareIn, spreadIn, PlacementFits, PlacementOf}
 use Rattle.cluster.proofs.Laws.{cluster-blocks, cluster-racks, cluster-size, cluster-machines, mate-paired, mate-single, profiles-mate, placement-block, placement-share, placement-spread, placement-machine}
 use Rattle.index.specs.declared.Pair.{Pair}
-use Rattle.index.specs.Index.{byNumber, spot, NextOf}
-use Rattle.transfers.specs.Pair.{blockStep, pairStep, Shift, PairIn, BlockAsked, Lies, InMargin, Passable, Free, ReturnAsked, PairAsked, PairScene, Return, FreeReturn, CandidateAsked}
+use Rattle.index.specs.Index.{byNumber, spot, rankAt, NextOf}
+use Rattle.transfers.specs.Pair.{blockStep, pairStep, Shift, PairIn, BlockAsked, Lies, InMargin, Passable, Free, NoReturn, ReturnAsked, PairAsked, PairScene, Return, FreeReturn, CandidateAsked}
 use Rattle.transfers.proofs.Searches.{step-found, none-found, test-found, test-none}
 
 -- ── BlockAsked: when a spread is kept ──────────────────────────────────────────────────────────────────────────────────
@@ -64,7 +64,7 @@ groups-are p c w of =
     rw (cluster-racks p c of, cluster-size p c of)
     (sum-cong (p .racks) _ _ (λ d l. ap (min 1) (sym (replicasIn-members p w d l))))
 
--- ── PlacementFits: the block that a block is linked to ────────────────────────────────────────────────────────────────────
+-- ── PlacementFits: the block that a block is linked to ─────────────────────────────────────────────────────────────────
 
 pub linked-below : {c : Cluster} {words profiles : List ℕ} → PlacementFits c words profiles
     → (i : ℕ) → i < c .blocks → linkedTo (getD profiles i 0) i < c .blocks
@@ -148,6 +148,19 @@ candidate-shift candidate =
       holds = candidate .holds;
       lacks = candidate .lacks;
     }
+
+-- ── NoReturn: what the shares rule out ─────────────────────────────────────────────────────────────────────────────────
+
+pub noReturn-block : (p : Plan) {c : Cluster} {words profiles index : List ℕ} {pair : Pair} {given : ℕ}
+    → PairAsked c words profiles index pair → NoReturn c index pair given
+    → (k : ℕ) → k < c .blocks → Return p words profiles pair given k → ⊥
+noReturn-block p {index} {pair} asked ruled k l t =
+    let indexed = asked .indexed in
+    let pair-in = asked .pair-in in
+    ruled (rankAt index k) (indexed .ordered .rank-below k l)
+    (indexed .by-rank (pair .m) k (omega (arith, pair-in .m-below, pair-in .in-range .machines-max)) l ∙ t .holds)
+    (indexed .by-rank (pair .n) k (omega (arith, pair-in .n-below, pair-in .in-range .machines-max)) l ∙ t .lacks)
+    (rw (indexed .ordered .rank-share k l) (t .test .in-margin))
 
 -- ── Pair: the other way round ──────────────────────────────────────────────────────────────────────────────────────────
 

@@ -15,7 +15,7 @@ use Rattle.cluster.specs.declared.Cluster.{Cluster}
 use Rattle.cluster.specs.Cluster.{machinesIn, InRange, ClusterOf}
 use Rattle.cluster.specs.Blocks.{linkedTo, shareIn, spreadIn, PlacementFits, PlacementOf}
 use Rattle.index.specs.declared.Pair.{Pair}
-use Rattle.index.specs.Index.{Indexed}
+use Rattle.index.specs.Index.{byRank, spot, shareAt, Indexed, AboveAsked}
 use Rattle.transfers.specs.declared.Hit.{Hit}
 use Rattle.transfers.specs.declared.Hit.the-variants.{Nothing, Move, Swap}
 
@@ -116,6 +116,17 @@ MarginOf p words pair =
 pub record PairScene (p : Plan) (count : ℕ → ℕ) (c : Cluster) (words profiles : List ℕ) (pair : Pair) : Type 0 where
   pub placement : PlacementOf p count c words profiles
   pub margin-is : MarginOf p words pair
+
+-- What is asked about the shares of a pair's blocks.
+pub record SharesAsked (c : Cluster) (index : List ℕ) (pair : Pair) : Type 0 where
+  pub above-asked : AboveAsked index c
+  pub pair-in : PairIn c pair
+
+-- No block of m's that n lacks, at whatever rank, has a share that may come back for the share `given`.
+abbrev pub NoReturn : Cluster → List ℕ → Pair → ℕ → Type 0
+NoReturn c index pair given =
+    (r : ℕ) → r < c .blocks → spot index byRank (pair .m) r ≡ 1 → spot index byRank (pair .n) r ≡ 0
+    → InMargin (pair .margin) given (shareAt index r) → ⊥
 
 -- What is asked about a block j that may come back: it is on m and not on n.
 pub record ReturnAsked (c : Cluster) (words profiles : List ℕ) (pair : Pair) (j : ℕ) : Type 0 where

@@ -2,12 +2,14 @@
 // blocks of a pair are each other's partners; they share no machine.
 use cluster::Cluster;
 use index::BY_NUMBER;
+use index::BY_RANK;
+use index::KEYS_AT;
 use index::Pair;
 ghost use mathlib.Core.Path.{_≡_};
 ghost use mathlib.Core.Bool.{Bool};
 ghost use Rattle.model.specs.Steps.{isStep};
 ghost use Rattle.cluster.specs.Blocks.{shareIn, spreadIn};
-ghost use Rattle.transfers.specs.Pair.{hitOf, pairStep, blockStep, BlockAsked, KeepsOf, PassableOf, FreeAsked, FreeOf, ReturnAsked, ReturnOf, PairAsked, ReturnFound, OwnAsked, OwnFound, CandidateAsked, ExchangeFound, HitOf};
+ghost use Rattle.transfers.specs.Pair.{hitOf, pairStep, blockStep, BlockAsked, KeepsOf, PassableOf, FreeAsked, FreeOf, SharesAsked, NoReturn, ReturnAsked, ReturnOf, PairAsked, ReturnFound, OwnAsked, OwnFound, CandidateAsked, ExchangeFound, HitOf};
 
 // Block i from m to n, or that and block j from n to m.
 pub enum Hit {
@@ -96,6 +98,23 @@ fn is_free(words: &[u64], profiles: &[u64], cluster: Cluster, i: usize, n: usize
     bits::bit_at(words[k], n) == 0
 }
 
+// Whether a block of m's that n lacks may go to n in return for one of the share `given`, as far as the shares tell; where it says no,
+// none can.
+fn may_return(index: &[u64], cluster: Cluster, pair: Pair, given: u64) -> bool
+    requires { ⌜ SharesAsked cluster (now index) pair ⌝ }
+    ensures { λ r. ⌜ (r ≡ Bool.false → NoReturn cluster (now (index .entry)) pair given) ⌝ }
+{
+    if given < pair.margin {
+        return true;
+    }
+    let from = index::first_above(index, given - pair.margin, cluster);
+    let rank = index::next(index, BY_RANK, pair.m, pair.n, from, cluster);
+    if cluster.blocks <= rank {
+        return false;
+    }
+    ranking::share_of(index[KEYS_AT + rank]) < given
+}
+
 // Whether block j can go from m to n in return for one of the share `given`, and its partner is not on n.
 fn can_return(
     words: &[u64],
@@ -126,6 +145,9 @@ fn first_return(
     requires { ⌜ PairAsked cluster (now words) (now profiles) (now index) pair ⌝ }
     ensures { λ r. ⌜ ReturnFound cluster (now (words .entry)) (now (profiles .entry)) pair given r ⌝ }
 {
+    if !may_return(index, cluster, pair, given) {
+        return cluster.blocks;
+    }
     let mut j = index::next(index, BY_NUMBER, pair.m, pair.n, 0, cluster);
     while j < cluster.blocks {
         if can_return(words, profiles, cluster, pair, given, j) {

@@ -1,9 +1,10 @@
--- `transfers::first_return` meets its contract. The loop's invariant: the search has come to j, and no block before it can come back.
+-- `transfers::first_return` meets its contract: where the shares rule out every block, there is none. The loop's invariant: the search has come to j, and no block before it can come back.
 -- Assumes nothing.
 use mathlib.Core.Path.{_≡_, sym, _∙_}
 use mathlib.Core.List.{List}
 use Prim.Native.Nat.{ℕ, _-_, _<_}
 use native.Mathlib.Omega.{arith}
+use borrow.Author.Tests.{not-true}
 use Rattle.order.proofs.Booleans.{no-contradiction}
 use Rattle.model.specs.Plan.{Plan}
 use Rattle.model.specs.Placement.{held}
@@ -11,7 +12,7 @@ use Rattle.cluster.specs.declared.Cluster.{Cluster}
 use Rattle.cluster.specs.Blocks.{PlacementOf}
 use Rattle.index.specs.declared.Pair.{Pair}
 use Rattle.transfers.specs.Pair.{FreeReturn}
-use Rattle.transfers.proofs.Laws.{Passed, passed-first, passed-next, passed-candidate, candidate-return}
+use Rattle.transfers.proofs.Laws.{Passed, passed-first, passed-next, passed-candidate, candidate-return, noReturn-block}
 use borrow.Author.Needs.{needs}
 use Rattle.transfers.proofs.first_return.Statement.{statement}
 use Rattle.transfers.proofs.first_return.Tie as tie
@@ -32,28 +33,52 @@ Inv-loop words profiles index cluster pair given j₀ j = Passed cluster words p
 abbrev μ-loop : tie.MeasureT-loop
 μ-loop words profiles index cluster pair given j₀ j = cluster .blocks - j
 
+may-return-requires : tie.Need-may-return-requires Inv-loop μ-loop
+may-return-requires c κs =
+    let asked = c .before .before .before .pre in
+    record {
+      above-asked =
+          record {
+            sized = asked .indexed .ordered .sized;
+            blocks-max = asked .pair-in .in-range .blocks-max;
+            rising = asked .indexed .ordered .rising;
+          };
+      pair-in = asked .pair-in;
+    }
+
+returns : tie.Need-returns Inv-loop μ-loop
+returns c =
+    let start = c .before .before .before .before .before in
+    let none = c .before .may-return .ensures (not-true _ (c .if1 .taken)) in
+    record {
+      holds = λ b. absurd (omega arith);
+      lacks = λ b. absurd (omega arith);
+      passed = λ k l b p count of t. noReturn-block p (start .pre) none k b (t .back);
+      found = λ b. absurd (omega arith);
+    }
+
 next-requires : tie.Need-next-requires Inv-loop μ-loop
 next-requires c κs = search needs
 
 loop-holds : tie.Need-loop-holds Inv-loop μ-loop
 loop-holds c =
-    let start = c .before .before .before .before in
+    let start = c .before .before .before .before .before .before in
     passed-first (start .pre) others (c .next .ensures)
 
 can-return-requires : tie.Need-can-return-requires Inv-loop μ-loop
 can-return-requires c κs =
     let at = c .before .before in
-    let start = at .before .before .before .before .before in
-    candidate-return (passed-candidate (start .pre) (at .loop .inv) (c .if1 .taken))
+    let start = at .before .before .before .before .before .before .before in
+    candidate-return (passed-candidate (start .pre) (at .loop .inv) (c .if2 .taken))
 
-returns : tie.Need-returns Inv-loop μ-loop
-returns c =
+returns-2 : tie.Need-returns-2 Inv-loop μ-loop
+returns-2 c =
     let inv = c .before .before .before .before .loop .inv in
     record {
       holds = inv .holds;
       lacks = inv .lacks;
       passed = inv .before;
-      found = λ b p count of. c .before .can-return .ensures p count of .0 (c .if2 .taken);
+      found = λ b p count of. c .before .can-return .ensures p count of .0 (c .if3 .taken);
     }
 
 add-next : tie.Need-add-next Inv-loop μ-loop
@@ -68,13 +93,13 @@ loop-less c = omega (arith, c .next2 .ensures .at-least)
 loop-again : tie.Need-loop-again Inv-loop μ-loop
 loop-again c =
     let at = c .before .before .before .before .before in
-    let start = at .before .before .before .before .before in
+    let start = at .before .before .before .before .before .before .before in
     passed-next (start .pre) others (at .loop .inv)
-    (λ p count of t. no-contradiction (sym (c .before .before .can-return .ensures p count of .1 t) ∙ c .before .if2 .left))
+    (λ p count of t. no-contradiction (sym (c .before .before .can-return .ensures p count of .1 t) ∙ c .before .if3 .left))
     (c .next2 .ensures)
 
-returns-2 : tie.Need-returns-2 Inv-loop μ-loop
-returns-2 c =
+returns-3 : tie.Need-returns-3 Inv-loop μ-loop
+returns-3 c =
     let at = c .before .before in
     record {
       holds = λ b. absurd (omega arith);
@@ -89,12 +114,14 @@ first-return-spec =
     (tie.spec
     Inv-loop
     μ-loop
+    may-return-requires
+    returns
     next-requires
     loop-holds
     can-return-requires
-    returns
+    returns-2
     add-next
     next-requires-2
     loop-less
     loop-again
-    returns-2)
+    returns-3)

@@ -1,0 +1,83 @@
+-- `transfers::may_return` meets its contract: of the blocks whose shares are near enough to `given`, the first by rank has the smallest.
+-- Assumes nothing.
+use mathlib.Core.Path.{_≡_, sym}
+use mathlib.Core.List.{List}
+use Prim.Native.Nat.{ℕ, _-_, _<_, _≤_}
+use native.Mathlib.Decide.{decLt}
+use native.Mathlib.Omega.{arith}
+use borrow.Author.Tests.{ltb-false}
+use Rattle.order.proofs.Booleans.{no-contradiction}
+use Rattle.cluster.specs.declared.Cluster.{Cluster}
+use Rattle.index.specs.declared.Pair.{Pair}
+use Rattle.index.specs.Index.{byRank, spot, shareAt, NextOf, AboveOf}
+use Rattle.transfers.specs.Pair.{InMargin}
+use borrow.Author.Needs.{needs}
+use Rattle.transfers.proofs.may_return.Statement.{statement}
+use Rattle.transfers.proofs.may_return.Tie as tie
+
+-- no block that may come back stands before the one that is found
+not-before : {c : Cluster} {index : List ℕ} (pair : Pair) (given : ℕ) {from rank : ℕ} → pair .margin ≤ given
+    → AboveOf index (given - pair .margin) c from → NextOf index byRank (pair .m) (pair .n) from c rank
+    → (r : ℕ) → r < c .blocks → spot index byRank (pair .m) r ≡ 1 → spot index byRank (pair .n) r ≡ 0
+    → InMargin (pair .margin) given (shareAt index r) → rank ≤ r
+not-before pair given {from} {rank} few above next r l on off margin = elim (decLt r rank) [
+  | yes h ↦
+      elim (decLt r from) [
+        | yes low ↦ absurd (omega (arith, above .passed r low, margin .below))
+        | no high ↦ absurd (next .passed r (omega arith) h l on off)
+      ]
+  | no h ↦ omega arith
+]
+
+returns : tie.Need-returns
+returns c = λ e. no-contradiction e
+
+first-above-requires : tie.Need-first-above-requires
+first-above-requires c κs = search needs
+
+next-requires : tie.Need-next-requires
+next-requires c κs = search needs
+
+returns-2 : tie.Need-returns-2
+returns-2 c =
+    let a = c .before .before .before .before .before .before .before .before .args in
+    let found = c .before .before in
+    let few = found .before .before .before .if1 .left in
+    λ e r l on off margin.
+    omega (arith, c .if2 .taken, l, not-before (a .pair) (a .given) few (found .before .first-above .ensures) (found .next .ensures) r l on off margin)
+
+add-share-of : tie.Need-add-share-of
+add-share-of c = search needs
+
+mul-share-of : tie.Need-mul-share-of
+mul-share-of c = search needs
+
+shared-slice-read-share-of : tie.Need-shared-slice-read-share-of
+shared-slice-read-share-of c = search needs
+
+share-of-requires : tie.Need-share-of-requires
+share-of-requires c κs = search needs
+
+returns-3 : tie.Need-returns-3
+returns-3 c =
+    let found = c .before .before .before .before in
+    let few = found .before .before .before .if1 .left in
+    let start = c .before .before .before .before .before .before .before .before .before .before in
+    let a = start .args in
+    λ e r l on off margin.
+    let after = not-before (a .pair) (a .given) few (found .before .first-above .ensures) (found .next .ensures) r l on off margin in
+    omega (arith, ltb-false (c .share-of .result) (a .given) e, c .share-of .ensures, start .pre .above-asked .rising _ r after l, margin .gain)
+
+pub may-return-spec : {M : Type 1} → statement M
+may-return-spec =
+    tie.close
+    (tie.spec
+    returns
+    first-above-requires
+    next-requires
+    returns-2
+    add-share-of
+    mul-share-of
+    shared-slice-read-share-of
+    share-of-requires
+    returns-3)
