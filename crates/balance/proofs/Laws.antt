@@ -22,7 +22,7 @@ use Rattle.cluster.specs.Blocks.{shareIn, PlacementFits, PlacementOf}
 use Rattle.loads.specs.declared.Loads.{Loads}
 use Rattle.loads.specs.Loads.{loadSum, copySum, ShiftAsked as SharesAsked, ShiftedTo}
 use Rattle.loads.proofs.Laws.{loads-narrow, copies-max}
-use Rattle.transfers.specs.Pair.{Shift}
+use Rattle.transfers.specs.Route.{Shift}
 use Rattle.search.specs.Scene.{Found, stepOf, NextFound}
 use Rattle.search.specs.declared.Step.{Step}
 use Rattle.search.specs.declared.Step.the-variants.{Rest, Move, Swap, RackMove, RackSwap}

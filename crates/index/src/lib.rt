@@ -18,8 +18,9 @@ pub const KEYS_AT: usize = 2048;
 
 pub const RANKS_AT: usize = 3072;
 
-// A pair of machines m and n: what m's load may fall by stays below `margin`, and whether they lie in different racks.
-pub struct Pair {
+// A route: a step takes a block from machine m to machine n. What m's load may fall by stays below `margin`; `across` says whether the
+// two lie in different racks.
+pub struct Route {
     pub across: bool,
     pub m: usize,
     pub n: usize,

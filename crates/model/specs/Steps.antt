@@ -66,17 +66,17 @@ isStep (swap racks m n i j) = true
 abbrev pub first : ℕ → (ℕ → Step) → Step
 first n f = firstUp isStep none f n
 
-unfoldable pub pairs : Plan → Bool → (ℕ → ℕ → Step) → Step
-pairs p racks f =
+unfoldable pub routes : Plan → Bool → (ℕ → ℕ → Step) → Step
+routes p racks f =
     first (machines p) (λ m. first (machines p) (λ n. cond (Bool·beq racks (acrossRacks p m n)) (f m n) none))
 
 unfoldable pub nextMove : Plan → List ℕ → Bool → Step
 nextMove p words racks =
-    pairs p racks (λ m n. first (blockCount p) (λ i. cond (canMove p words m n i) (move racks m n i) none))
+    routes p racks (λ m n. first (blockCount p) (λ i. cond (canMove p words m n i) (move racks m n i) none))
 
 unfoldable pub nextSwap : Plan → List ℕ → Bool → Step
 nextSwap p words racks =
-    pairs p racks
+    routes p racks
     (λ m n.
     first (blockCount p)
     (λ i. first (blockCount p) (λ j. cond (canSwap p words m n i j) (swap racks m n i j) none)))

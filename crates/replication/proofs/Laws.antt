@@ -64,4 +64,4 @@ module _ (p : Plan) (c : Cluster) (demands : List ℕ) (of : DemandsOf p c deman
 -- ── TallyOf ──────────────────────────────────────────────────────────────────────────────────────
 -- a figure is reachable where the needs are within the limit
 pub tally-reached : (p : Plan) (wanted : ℕ) (t : Tally) → TallyOf p wanted t → t .total ≤ limitOf p → reachable p wanted ≡ true
-tally-reached p wanted t of l = reachable-parts p wanted .1 (of .lawful, le-trans (le-of-eq (sym (of .total-is))) l)
+tally-reached p wanted t of l = reachable-parts p wanted .1 (of .in-upper, le-trans (le-of-eq (sym (of .total-is))) l)

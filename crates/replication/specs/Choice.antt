@@ -61,7 +61,7 @@ pub record TallyFits (c : Cluster) (wanted : ℕ) (t : Tally) : Type 0 where
 pub record TallyOf (p : Plan) (wanted : ℕ) (t : Tally) : Type 0 where
   pub total-is : t .total ≡ sum (blockCount p) (need p wanted)
   pub top-is : t .top ≡ largestShare p (need p wanted)
-  pub lawful : (i : ℕ) → i < blockCount p → need p wanted i ≤ upper p i
+  pub in-upper : (i : ℕ) → i < blockCount p → need p wanted i ≤ upper p i
   pub same : (f : ℕ) → wanted ≤ f → f < t .next → (i : ℕ) → i < blockCount p → need p f i ≡ need p wanted i
 
 -- What the bisection starts from: its numbers, and what they are of plan p.

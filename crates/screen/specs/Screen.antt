@@ -1,4 +1,4 @@
--- What is ruled out at a pair of machines, on the blocks by rising share.
+-- What is ruled out at a route of machines, on the blocks by rising share.
 use mathlib.Core.Path.{_≡_}
 use mathlib.Core.Bool.{Bool, true, false}
 use mathlib.Core.List.{List}
@@ -9,7 +9,7 @@ use Rattle.model.specs.Placement.{bit}
 use Rattle.theory.specs.Widths.{loadBound}
 use Rattle.cluster.specs.declared.Cluster.{Cluster}
 use Rattle.cluster.specs.Cluster.{InRange}
-use Rattle.index.specs.declared.Pair.{Pair}
+use Rattle.index.specs.declared.Route.{Route}
 use Rattle.index.specs.Index.{indexLength, byRank, spot, shareAt}
 use Rattle.screen.specs.declared.Sweep.{Sweep}
 
@@ -17,13 +17,13 @@ use Rattle.screen.specs.declared.Sweep.{Sweep}
 abbrev pub Rising : List ℕ → ℕ → Type 0
 Rising index blocks = (r q : ℕ) → r ≤ q → q < blocks → shareAt index r ≤ shareAt index q
 
--- An index with the blocks by rising share, and a pair of its machines.
-pub record ScreenAsked (c : Cluster) (index : List ℕ) (pair : Pair) : Type 0 where
+-- An index with the blocks by rising share, and a route of its machines.
+pub record ScreenAsked (c : Cluster) (index : List ℕ) (route : Route) : Type 0 where
   pub sized : length index ≡ indexLength
   pub in-range : InRange c
-  pub m-below : pair .m < maxMachines
-  pub n-below : pair .n < maxMachines
-  pub margin-narrow : pair .margin < loadBound
+  pub m-below : route .m < maxMachines
+  pub n-below : route .n < maxMachines
+  pub margin-narrow : route .margin < loadBound
   pub rising : Rising index (c .blocks)
 
 -- The block at rank k is on the first machine alone.
@@ -36,22 +36,22 @@ abbrev pub rankedOn : List ℕ → ℕ → ℕ → ℕ
 rankedOn index m = spot index byRank m
 
 -- No block on m alone has a share above 0 and below the margin.
-abbrev pub NoMove : Cluster → List ℕ → Pair → Type 0
-NoMove c index pair =
-    (k : ℕ) → k < c .blocks → Alone (rankedOn index (pair .m)) (rankedOn index (pair .n)) k → 0 < shareAt index k
-    → pair .margin ≤ shareAt index k
+abbrev pub NoMove : Cluster → List ℕ → Route → Type 0
+NoMove c index route =
+    (k : ℕ) → k < c .blocks → Alone (rankedOn index (route .m)) (rankedOn index (route .n)) k → 0 < shareAt index k
+    → route .margin ≤ shareAt index k
 
 -- No block on m alone has a share above that of one on n alone by less than the margin.
-abbrev pub NoExchange : Cluster → List ℕ → Pair → Type 0
-NoExchange c index pair =
-    (k q : ℕ) → k < c .blocks → q < c .blocks → Alone (rankedOn index (pair .m)) (rankedOn index (pair .n)) k
-    → Alone (rankedOn index (pair .n)) (rankedOn index (pair .m)) q → shareAt index q < shareAt index k
-    → pair .margin + shareAt index q ≤ shareAt index k
+abbrev pub NoExchange : Cluster → List ℕ → Route → Type 0
+NoExchange c index route =
+    (k q : ℕ) → k < c .blocks → q < c .blocks → Alone (rankedOn index (route .m)) (rankedOn index (route .n)) k
+    → Alone (rankedOn index (route .n)) (rankedOn index (route .m)) q → shareAt index q < shareAt index k
+    → route .margin + shareAt index q ≤ shareAt index k
 
 -- Nothing of the kind can pass: a move, or an exchange.
-abbrev pub RuledOut : Cluster → List ℕ → Pair → Bool → Type 0
-RuledOut c index pair false = NoMove c index pair
-RuledOut c index pair true = NoExchange c index pair
+abbrev pub RuledOut : Cluster → List ℕ → Route → Bool → Type 0
+RuledOut c index route false = NoMove c index route
+RuledOut c index route true = NoExchange c index route
 
 -- What is known of n's own blocks below rank k for a block ahead with the share `ahead`: the largest share is `top`, it can be
 -- returned for one below `reach`, and the next smaller one for one below `under`.

@@ -1,9 +1,9 @@
-// Cheap tests that rule out a pair of machines: over the blocks by rising share, no move or no exchange can lower m's load and
-// keep n's below it. They never rule out a pair that has a step, whatever the spreads.
+// Cheap tests that rule out a route between two machines: over the blocks by rising share, no move or no exchange can lower m's load and
+// keep n's below it. They never rule out a route that has a step, whatever the spreads.
 use cluster::Cluster;
 use index::BY_RANK;
 use index::KEYS_AT;
-use index::Pair;
+use index::Route;
 ghost use mathlib.Core.Path.{_≡_};
 ghost use mathlib.Core.Bool.{Bool};
 ghost use Rattle.screen.specs.Screen.{ScreenAsked, NoMove, NoExchange, RuledOut, BlockAsked, BlockSwept, WordAsked, WordSwept};
@@ -18,17 +18,17 @@ struct Sweep {
 }
 
 // No block of m's that n lacks has a share above 0 and below the margin.
-fn no_move(index: &[u64], cluster: Cluster, pair: Pair) -> bool
-    requires { ⌜ ScreenAsked cluster (now index) pair ⌝ }
-    ensures { λ r. ⌜ (r ≡ Bool.true → NoMove cluster (now (index .entry)) pair) ⌝ }
+fn no_move(index: &[u64], cluster: Cluster, route: Route) -> bool
+    requires { ⌜ ScreenAsked cluster (now index) route ⌝ }
+    ensures { λ r. ⌜ (r ≡ Bool.true → NoMove cluster (now (index .entry)) route) ⌝ }
 {
-    let mut k = index::next(index, BY_RANK, pair.m, pair.n, 0, cluster);
+    let mut k = index::next(index, BY_RANK, route.m, route.n, 0, cluster);
     while k < cluster.blocks {
         let share = ranking::share_of(index[KEYS_AT + k]);
         if share != 0 {
-            return pair.margin <= share;
+            return route.margin <= share;
         }
-        k = index::next(index, BY_RANK, pair.m, pair.n, k + 1, cluster);
+        k = index::next(index, BY_RANK, route.m, route.n, k + 1, cluster);
     }
     true
 }
@@ -98,12 +98,12 @@ fn sweep_word(a: u64, b: u64, index: &[u64], base: usize, margin: u64, start: Sw
 }
 
 // No block of m's that n lacks has a share above that of one of n's that m lacks by less than the margin.
-fn no_exchange(index: &[u64], cluster: Cluster, pair: Pair) -> bool
-    requires { ⌜ ScreenAsked cluster (now index) pair ⌝ }
-    ensures { λ r. ⌜ (r ≡ Bool.true → NoExchange cluster (now (index .entry)) pair) ⌝ }
+fn no_exchange(index: &[u64], cluster: Cluster, route: Route) -> bool
+    requires { ⌜ ScreenAsked cluster (now index) route ⌝ }
+    ensures { λ r. ⌜ (r ≡ Bool.true → NoExchange cluster (now (index .entry)) route) ⌝ }
 {
-    let m = pair.m;
-    let n = pair.n;
+    let m = route.m;
+    let n = route.n;
     let mut sweep = Sweep {
         found: false,
         top: 0,
@@ -118,7 +118,7 @@ fn no_exchange(index: &[u64], cluster: Cluster, pair: Pair) -> bool
             index[at + n * 16],
             index,
             base,
-            pair.margin,
+            route.margin,
             sweep,
         );
         if sweep.found {
@@ -130,12 +130,12 @@ fn no_exchange(index: &[u64], cluster: Cluster, pair: Pair) -> bool
 }
 
 // Whether the shares rule out every move from m to n, or every exchange between them.
-pub fn rules_out(index: &[u64], cluster: Cluster, pair: Pair, swapping: bool) -> bool
-    requires { ⌜ ScreenAsked cluster (now index) pair ⌝ }
-    ensures { λ r. ⌜ (r ≡ Bool.true → RuledOut cluster (now (index .entry)) pair swapping) ⌝ }
+pub fn rules_out(index: &[u64], cluster: Cluster, route: Route, swapping: bool) -> bool
+    requires { ⌜ ScreenAsked cluster (now index) route ⌝ }
+    ensures { λ r. ⌜ (r ≡ Bool.true → RuledOut cluster (now (index .entry)) route swapping) ⌝ }
 {
     if swapping {
-        return no_exchange(index, cluster, pair);
+        return no_exchange(index, cluster, route);
     }
-    no_move(index, cluster, pair)
+    no_move(index, cluster, route)
 }

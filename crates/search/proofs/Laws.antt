@@ -11,12 +11,12 @@ use borrow.Author.Tests.{eq-eqb, ne-eqb}
 use lib.Dec.{eqb}
 use Rattle.order.proofs.Booleans.{no-contradiction}
 use Rattle.model.specs.Plan.{Plan}
-use Rattle.model.specs.Steps.{Step, none, move, swap, isStep, pairs, nextMove, nextSwap, orStep, nextStep}
+use Rattle.model.specs.Steps.{Step, none, move, swap, isStep, routes, nextMove, nextSwap, orStep, nextStep}
 use Rattle.cluster.specs.declared.Cluster.{Cluster}
 use Rattle.cluster.specs.Blocks.{PlacementOf}
 use Rattle.transfers.specs.declared.Hit.{Hit}
-use Rattle.transfers.specs.Pair.{hitOf, pairStep}
-use Rattle.search.specs.Scene.{pairOf, rowOf, kindStep, HitIs}
+use Rattle.transfers.specs.Route.{hitOf, routeStep}
+use Rattle.search.specs.Scene.{routeOf, rowOf, kindStep, HitIs}
 
 -- ── of_kind ────────────────────────────────────────────────────────────────────────────────────────────────────────────
 
@@ -87,5 +87,5 @@ module _ (swapping across : Bool) {c : Cluster} {words profiles : List ℕ} {r :
 -- the definition's next step, by kinds
 pub nextStep-kinds : (p : Plan) (words : List ℕ) → nextStep p words
     ≡ orStep (kindStep p words false false) (orStep (kindStep p words true false) (orStep (kindStep p words false true) (kindStep p words true true)))
-unfolding nextStep nextMove nextSwap pairs kindStep rowOf pairOf pairStep
+unfolding nextStep nextMove nextSwap routes kindStep rowOf routeOf routeStep
 nextStep-kinds p words = refl

@@ -1,3 +1,3 @@
 pub mod Laws
-pub mod Pairs
+pub mod Routes
 pub mod Loops

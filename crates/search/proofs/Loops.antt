@@ -14,7 +14,7 @@ use Rattle.cluster.specs.Blocks.{PlacementOf}
 use Rattle.cluster.proofs.Laws.{cluster-machines, placement-machine}
 use Rattle.transfers.specs.declared.Hit.{Hit}
 use Rattle.transfers.specs.declared.Hit.the-variants.{Nothing}
-use Rattle.transfers.specs.Pair.{hitOf}
+use Rattle.transfers.specs.Route.{hitOf}
 use Rattle.transfers.proofs.Searches.{step-found, none-found}
 use Rattle.search.specs.Scene.{HitIs}
 

@@ -13,7 +13,7 @@ use Rattle.cluster.specs.Blocks.{PlacementFits, PlacementOf}
 use Rattle.loads.specs.Loads.{LoadsOf}
 use Rattle.index.specs.Index.{Indexed}
 use Rattle.transfers.specs.declared.Hit.{Hit}
-use Rattle.transfers.specs.Pair.{hitOf, pairStep, Shift, HitFound}
+use Rattle.transfers.specs.Route.{hitOf, routeStep, Shift, HitFound}
 use Rattle.search.specs.declared.Step.{Step}
 use Rattle.search.specs.declared.Step.the-variants.{Rest, Move, Swap, RackMove, RackSwap}
 use Rattle.search.specs.declared.Row.{Row}
@@ -61,12 +61,12 @@ isExchange kind = eqb (kind % 2) 1
 abbrev pub isAcross : ℕ → Bool
 isAcross kind = leb 2 kind
 
--- The definition's search of one kind, from the inside out: at the pair (m, n), over all n, over all m and n.
-unfoldable pub pairOf : Plan → List ℕ → Bool → Bool → ℕ → ℕ → ModelStep
-pairOf p words swapping across m n = cond (Bool·beq across (acrossRacks p m n)) (pairStep p words swapping across m n) none
+-- The definition's search of one kind, from the inside out: at the route (m, n), over all n, over all m and n.
+unfoldable pub routeOf : Plan → List ℕ → Bool → Bool → ℕ → ℕ → ModelStep
+routeOf p words swapping across m n = cond (Bool·beq across (acrossRacks p m n)) (routeStep p words swapping across m n) none
 
 unfoldable pub rowOf : Plan → List ℕ → Bool → Bool → ℕ → ModelStep
-rowOf p words swapping across m = first (machines p) (pairOf p words swapping across m)
+rowOf p words swapping across m = first (machines p) (routeOf p words swapping across m)
 
 unfoldable pub kindStep : Plan → List ℕ → Bool → Bool → ModelStep
 kindStep p words swapping across = first (machines p) (rowOf p words swapping across)
@@ -86,7 +86,7 @@ pub record RowAsked (c : Cluster) (words profiles index loads copies : List ℕ)
   pub all : SearchAsked c words profiles index loads copies
   pub row-in : RowIn c row
 
-pub record PairAt (c : Cluster) (words profiles index loads copies : List ℕ) (row : Row) (n : ℕ) : Type 0 where
+pub record RouteAt (c : Cluster) (words profiles index loads copies : List ℕ) (row : Row) (n : ℕ) : Type 0 where
   pub all : SearchAsked c words profiles index loads copies
   pub row-in : RowIn c row
   pub n-below : n < machinesIn c

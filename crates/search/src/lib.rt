@@ -1,9 +1,9 @@
 // The next step of the definition: the first Move, Swap, RackMove or RackSwap, by machines and blocks lowest first.
 use cluster::Cluster;
-use index::Pair;
+use index::Route;
 use transfers::Hit;
-ghost use Rattle.transfers.specs.Pair.{pairStep, PairAsked, HitOf};
-ghost use Rattle.search.specs.Scene.{isExchange, isAcross, NextFound, AnswerOf, KindAsked, OfKind, pairOf, rowOf, kindStep, SearchAsked, RowAsked, PairAt, HitIs};
+ghost use Rattle.transfers.specs.Route.{routeStep, RouteAsked, HitOf};
+ghost use Rattle.search.specs.Scene.{isExchange, isAcross, NextFound, AnswerOf, KindAsked, OfKind, routeOf, rowOf, kindStep, SearchAsked, RowAsked, RouteAt, HitIs};
 
 // A step, or rest. Block i goes from m to n, of an exchange block j from n to m; m and n of a RackMove or RackSwap lie in
 // different racks.
@@ -82,21 +82,21 @@ fn find_open(
     profiles: &[u64],
     index: &[u64],
     cluster: Cluster,
-    pair: Pair,
+    route: Route,
     swapping: bool,
 ) -> Hit
-    requires { ⌜ PairAsked cluster (now words) (now profiles) (now index) pair ⌝ }
-    ensures { λ r. ⌜ HitOf cluster (now (words .entry)) (now (profiles .entry)) pair swapping
-        (λ p. pairStep p (now (words .entry)) swapping (pair .across) (pair .m) (pair .n)) r ⌝ }
+    requires { ⌜ RouteAsked cluster (now words) (now profiles) (now index) route ⌝ }
+    ensures { λ r. ⌜ HitOf cluster (now (words .entry)) (now (profiles .entry)) route swapping
+        (λ p. routeStep p (now (words .entry)) swapping (route .across) (route .m) (route .n)) r ⌝ }
 {
-    if screen::rules_out(index, cluster, pair, swapping) {
+    if screen::rules_out(index, cluster, route, swapping) {
         return Hit::Nothing;
     }
-    transfers::find(words, profiles, index, cluster, pair, swapping)
+    transfers::find(words, profiles, index, cluster, route, swapping)
 }
 
 // The first step of the row's kind from its machine to n.
-fn find_pair(
+fn find_route(
     words: &[u64],
     profiles: &[u64],
     index: &[u64],
@@ -106,9 +106,9 @@ fn find_pair(
     row: Row,
     n: usize,
 ) -> Hit
-    requires { ⌜ PairAt cluster (now words) (now profiles) (now index) (now loads) (now copies) row n ⌝ }
+    requires { ⌜ RouteAt cluster (now words) (now profiles) (now index) (now loads) (now copies) row n ⌝ }
     ensures { λ r. ⌜ HitIs cluster (now (words .entry)) (now (profiles .entry)) (row .across)
-        (λ p. pairOf p (now (words .entry)) (row .swapping) (row .across) (row .m) n) r ⌝ }
+        (λ p. routeOf p (now (words .entry)) (row .swapping) (row .across) (row .m) n) r ⌝ }
 {
     let across = row.across;
     let m = row.m;
@@ -124,13 +124,13 @@ fn find_pair(
         }
     }
     let margin = loads[m] - loads[n];
-    let pair = Pair {
+    let route = Route {
         across,
         m,
         n,
         margin,
     };
-    find_open(words, profiles, index, cluster, pair, row.swapping)
+    find_open(words, profiles, index, cluster, route, row.swapping)
 }
 
 // The first step of the row's kind from its machine.
@@ -150,7 +150,7 @@ fn find_row(
     let machines = cluster.machines();
     let mut n: usize = 0;
     while n < machines {
-        let hit = find_pair(words, profiles, index, loads, copies, cluster, row, n);
+        let hit = find_route(words, profiles, index, loads, copies, cluster, row, n);
         if transfers::is_found(hit) {
             return hit;
         }

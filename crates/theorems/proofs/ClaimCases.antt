@@ -60,7 +60,7 @@ first-claim bytes lent blocks e =
 -- the bounds, written out
 at-end : (p : Plan) (after : List ℕ) → RestAfter p after → Bounded p after
 at-end p after rest =
-    let held = claim (rest .bytes) p (rest .reads) (rest .words) (rest .lawful) (rest .calls) (rest .allowed) in
+    let held = claim (rest .bytes) p (rest .reads) (rest .words) (rest .feasible) (rest .calls) (rest .allowed) in
     rw (rest .after-is) (held .bounded (rw (rest .after-is) at (rest .rests)))
 
 pub claim-one-spread : ClaimOneSpread

@@ -12,7 +12,7 @@ use Rattle.model.specs.Plan.{Plan, blockCount, blockOf, upper, minTotal, field,
 use Rattle.model.specs.Refusal.{check1, refusal, Verdict, judge}
 use Rattle.model.specs.Replication.{limit, share, need, chosen}
 use Rattle.model.specs.Placement.{bit, replicas, replicasIn, domainsUsed, used, allWithin, allSpread, allFit, countsFeasible, isFeasible, position, laidWord, firstWord, firstPlacement, shareOf, load, maxLoad, minLoad, totalLoad, maxShare, allApart, keptApart}
-use Rattle.model.specs.Steps.{shifted, afterMove, afterSwap, after, improves, canMove, canSwap, pairs, nextMove, nextSwap, nextStep, Run, run}
+use Rattle.model.specs.Steps.{shifted, afterMove, afterSwap, after, improves, canMove, canSwap, routes, nextMove, nextSwap, nextStep, Run, run}
 use Rattle.model.specs.Calls.{reportOf}
 use Rattle.model.specs.Listing.{digits, decimal, numberField, fields, line, planLine, holders, blockLine, lines, lastLine, listingOf, refusedLine, printedOf, printed, stepLimit, listingRoom}
 use Rattle.theory.specs.Widths.{shareBound}
@@ -34,7 +34,7 @@ unfolding firstPlacement planIn blockIn formatOf field upper isPaired pairsBack 
 H-first = rw (figures .H) refl
 
 H-lines : runLines (planIn plan-H) (run (planIn plan-H) stepLimit (15 ∷ 5 ∷ 2 ∷ [])) ≡ listing-H
-unfolding runLines lastLine planLine blockLine lines holders line fields numberField decimal digits reportOf maxLoad minLoad totalLoad maxShare planIn blockIn formatOf field upper isPaired pairsBack pairsNext minTotal shifted afterMove afterSwap after improves canMove canSwap pairs nextMove nextSwap nextStep run bit replicas replicasIn domainsUsed used allWithin allSpread allFit allApart keptApart partner countsFeasible isFeasible shareOf load largest smallest share limit sum table allb firstUp plan-H listing-H
+unfolding runLines lastLine planLine blockLine lines holders line fields numberField decimal digits reportOf maxLoad minLoad totalLoad maxShare planIn blockIn formatOf field upper isPaired pairsBack pairsNext minTotal shifted afterMove afterSwap after improves canMove canSwap routes nextMove nextSwap nextStep run bit replicas replicasIn domainsUsed used allWithin allSpread allFit allApart keptApart partner countsFeasible isFeasible shareOf load largest smallest share limit sum table allb firstUp plan-H listing-H
 H-lines = refl
 
 H-printed : printed plan-H stepLimit ≡ listing-H

@@ -15,7 +15,7 @@ use Rattle.theory.specs.Steps.{Taken, none-taken, one-more}
 use Rattle.theory.proofs.Placement.{bit-apart}
 use Rattle.theory.proofs.Steps.{afterMove-load-source, afterMove-load-target, afterMove-load-else, afterSwap-load-source, afterSwap-load-target, afterSwap-load-else}
 use Rattle.theory.proofs.StepsLocal.{canMove-lowers, canSwap-lowers}
-use Rattle.theory.proofs.StepsNext.{nextStep-lawful, nextStep-feasible, run-laws, run-feasible}
+use Rattle.theory.proofs.StepsNext.{nextStep-admissible, nextStep-feasible, run-laws, run-feasible}
 use Rattle.theorems.specs.Potential.{StepLowers, RunRests}
 
 module _ (p : Plan) (words : List ℕ) (m n i : ℕ) (ml : m < machines p) (nl : n < machines p) (il : i < blockCount p) where
@@ -62,7 +62,7 @@ step-lowers p count words feasible (swap racks m n i j) (ml, nl, il, jl, can, ac
 module _ (p : Plan) (count : ℕ → ℕ) where
   next-lowers : (words : List ℕ) → Feasible p count words → isStep (nextStep p words) ≡ true
       → potential p (after words (nextStep p words)) + 2 ≤ potential p words
-  next-lowers words f is = step-lowers p count words f (nextStep p words) (nextStep-lawful p words is)
+  next-lowers words f is = step-lowers p count words f (nextStep p words) (nextStep-admissible p words is)
 
   taken-lowers : {words later : List ℕ} {n : ℕ} → Taken p words n later → Feasible p count words
       → potential p later + 2 * n ≤ potential p words

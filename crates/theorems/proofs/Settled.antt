@@ -9,7 +9,7 @@ use Rattle.model.specs.Plan.{Plan}
 use Rattle.model.specs.Placement.{Feasible, shareOf, load}
 use Rattle.model.specs.Steps.{Step, none, move, swap, acrossRacks, AtRest}
 use Rattle.theory.specs.Refusal.{Shaped}
-use Rattle.theory.specs.Steps.{Lawful}
+use Rattle.theory.specs.Steps.{Admissible}
 use Rattle.theory.proofs.StepsLocal.{canMove-local, canSwap-local}
 use Rattle.theory.proofs.StepsNext.{nextStep-laws}
 use Rattle.theorems.specs.Bounds.{Settled}
@@ -51,7 +51,7 @@ module _ (p : Plan) (shaped : Shaped p) (count : ℕ → ℕ) (words : List ℕ)
             ));
       }
     where
-      none-left : (s : Step) → Lawful p words s → ⊥
+      none-left : (s : Step) → Admissible p words s → ⊥
       none-left = nextStep-laws p words .rest .0 rest
 
       no-gap : (a b : ℕ) → (b < a → ⊥) → a ≤ b + 0
@@ -60,7 +60,7 @@ module _ (p : Plan) (shaped : Shaped p) (count : ℕ → ℕ) (words : List ℕ)
   pub settled-rest : Settled p words 0 → AtRest p words
   settled-rest settled = nextStep-laws p words .rest .1 none-left
     where
-      none-left : (s : Step) → Lawful p words s → ⊥
+      none-left : (s : Step) → Admissible p words s → ⊥
       none-left none h = h
       none-left (move racks m n i) (ml, nl, il, can, across) =
           let s = canMove-local p shaped count words feasible m n i ml nl il .0 can in

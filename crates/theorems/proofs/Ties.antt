@@ -15,10 +15,10 @@ use Rattle.model.specs.Plan.{blockCount, blockOf, upper, minTotal, field, forma
 use Rattle.model.specs.Refusal.{check1, check2, check3, check4, check5, check6, check7, check8, check9, blockRefusal, blocksRefusal, check10, check11, check12, planRefusal, refusal, judge, accepted, pairsRefusal, pairRefusal, check17, alike}
 use Rattle.model.specs.Replication.{limit, unit, share, need, reachable, figure, chosen}
 use Rattle.model.specs.Placement.{bit, replicas, replicasIn, domainsUsed, used, Feasible, allWithin, allSpread, allFit, countsFeasible, isFeasible, shareOf, load, maxLoad, totalLoad, allApart, keptApart}
-use Rattle.model.specs.Steps.{Step, none, move, swap, shifted, afterMove, afterSwap, after, improves, canMove, canSwap, pairs, nextMove, nextSwap, nextStep, Run, run}
+use Rattle.model.specs.Steps.{Step, none, move, swap, shifted, afterMove, afterSwap, after, improves, canMove, canSwap, routes, nextMove, nextSwap, nextStep, Run, run}
 use Rattle.model.specs.Calls.{allCounted, placementRefusal, onPlacement, checkCall, stepCall, runCall}
 use Rattle.theory.specs.Refusal.{Valid}
-use Rattle.theory.specs.Steps.{Lawful}
+use Rattle.theory.specs.Steps.{Admissible}
 use Rattle.theory.proofs.Refusal.{accepted-laws}
 use Rattle.theory.proofs.Replication.{figure-at}
 use Rattle.theory.proofs.Steps.{afterMove-load-else, afterSwap-load-else}
@@ -82,7 +82,7 @@ still : (words : List ℕ) → (k : ℕ) × (k < 3) × (load tied words k ≡ 6 
 unfolding maxLoad
 still words (k, l, e) = le-trans (le-of-eq (hottest ∙ sym e)) (largest-term 3 (load tied words) k l)
 
-none-lowers : (s : Step) → Lawful tied sixes s → maxLoad tied sixes ≤ maxLoad tied (after sixes s)
+none-lowers : (s : Step) → Admissible tied sixes s → maxLoad tied sixes ≤ maxLoad tied (after sixes s)
 unfolding after
 none-lowers none h = absurd h
 none-lowers (move racks m n i) (ml, nl, il, can, across) =
@@ -107,11 +107,11 @@ best count words f = omega (arith, loads-total tied valid count words f, twelve,
 
 -- the run, on the plan's fields: five steps, and then no step is left
 rest-tied : nextStep tied fours ≡ none
-unfolding shifted afterMove afterSwap improves canMove canSwap pairs nextMove nextSwap nextStep bit replicas replicasIn domainsUsed used allWithin allSpread allFit allApart keptApart partner countsFeasible isFeasible shareOf load share limit upper isPaired pairsBack pairsNext sum firstUp allb
+unfolding shifted afterMove afterSwap improves canMove canSwap routes nextMove nextSwap nextStep bit replicas replicasIn domainsUsed used allWithin allSpread allFit allApart keptApart partner countsFeasible isFeasible shareOf load share limit upper isPaired pairsBack pairsNext sum firstUp allb
 rest-tied = refl
 
 run-tied : (more : ℕ) → run tied (suc (suc (suc (suc (suc more))))) sixes ≡ record { rested = true; steps = 5; words = fours }
-unfolding shifted afterMove afterSwap after improves canMove canSwap pairs nextMove nextSwap nextStep run bit replicas replicasIn domainsUsed used allWithin allSpread allFit allApart keptApart partner countsFeasible isFeasible shareOf load share limit upper isPaired pairsBack pairsNext sum firstUp allb
+unfolding shifted afterMove afterSwap after improves canMove canSwap routes nextMove nextSwap nextStep run bit replicas replicasIn domainsUsed used allWithin allSpread allFit allApart keptApart partner countsFeasible isFeasible shareOf load share limit upper isPaired pairsBack pairsNext sum firstUp allb
 run-tied more =
     ap (λ (r : Run). record { rested = r .rested; steps = suc (suc (suc (suc (suc (r .steps))))); words = r .words }) (run-none tied fours more rest-tied)
 
@@ -121,7 +121,7 @@ run-enough budget l =
     rw split at (run-tied (budget - 5))
 
 pub ties : Ties
-unfolding checkCall stepCall runCall onPlacement shifted afterMove afterSwap after improves canMove canSwap pairs nextMove nextSwap nextStep bit replicas replicasIn domainsUsed used allWithin allSpread allFit allApart keptApart partner countsFeasible isFeasible shareOf load maxLoad share limit upper isPaired pairsBack pairsNext sum table firstUp allb largest
+unfolding checkCall stepCall runCall onPlacement shifted afterMove afterSwap after improves canMove canSwap routes nextMove nextSwap nextStep bit replicas replicasIn domainsUsed used allWithin allSpread allFit allApart keptApart partner countsFeasible isFeasible shareOf load maxLoad share limit upper isPaired pairsBack pairsNext sum table firstUp allb largest
 ties =
     record {
       accepts = accepts;

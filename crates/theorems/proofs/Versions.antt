@@ -13,7 +13,7 @@ use Rattle.model.specs.Plan.{Plan, upper, isPaired, pairsBack, pairsNext, partn
 use Rattle.model.specs.Refusal.{check1, check2, check3, check4, check5, check6, check7, blockRefusal, blocksRefusal, pairRefusal, pairsRefusal, planRefusal, refusal, Verdict, refused, accepted, verdict, judge}
 use Rattle.model.specs.Replication.{limit, largestShare, need, reachable, figure, chosen}
 use Rattle.model.specs.Placement.{replicas, replicasIn, domainsUsed, used, allWithin, allSpread, allFit, keptApart, allApart, countsFeasible, isFeasible, position, laidWord, firstWord, firstPlacement, shareOf, load, maxLoad, minLoad, totalLoad, maxShare}
-use Rattle.model.specs.Steps.{after, improves, canMove, canSwap, pairs, nextMove, nextSwap, nextStep, isStep, Run, run}
+use Rattle.model.specs.Steps.{after, improves, canMove, canSwap, routes, nextMove, nextSwap, nextStep, isStep, Run, run}
 use Rattle.model.specs.Calls.{Outcome, onPlan, unless, bufferRefusal, allCounted, placementRefusal, onPlacement, reportOf, countsCall, firstCall, checkCall, reportCall, stepCall, runCall}
 use Rattle.model.specs.Listing.{planLine, blockLine, lastLine, listingOf, printedOf, printed}
 use Rattle.theorems.specs.Versions.{withVersion, verdictWith, VersionFree, SameFields, SameAnswers, Versions}
@@ -33,7 +33,7 @@ module _ (version : ℕ) (p : Plan) where
   first-free = refl
 
   next-free : (words : List ℕ) → nextStep (withVersion version p) words ≡ nextStep p words
-  unfolding nextStep nextMove nextSwap pairs canMove canSwap improves isFeasible countsFeasible allWithin allSpread allFit allApart keptApart partner replicas replicasIn domainsUsed used shareOf load limit upper isPaired pairsBack pairsNext
+  unfolding nextStep nextMove nextSwap routes canMove canSwap improves isFeasible countsFeasible allWithin allSpread allFit allApart keptApart partner replicas replicasIn domainsUsed used shareOf load limit upper isPaired pairsBack pairsNext
   next-free words = refl
 
   run-free : (budget : ℕ) (words : List ℕ) → run (withVersion version p) budget words ≡ run p budget words

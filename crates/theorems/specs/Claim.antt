@@ -26,7 +26,7 @@ pub record RestAfter (p : Plan) (after : List ℕ) : Type 0 where
   pub words : List ℕ
   pub calls : List Call
   pub reads : judge bytes ≡ accepted p
-  pub lawful : Feasible p (chosen p) words
+  pub feasible : Feasible p (chosen p) words
   pub allowed : Allowed bytes (blockCount p) calls words
   pub after-is : after ≡ play checked calls words .words
   pub rests : AtRest p after

@@ -7,13 +7,13 @@ use Prim.Native.Nat.{ℕ, _+_, _*_, _/_, _≤_}
 use Rattle.model.specs.Plan.{Plan}
 use Rattle.model.specs.Placement.{Feasible}
 use Rattle.model.specs.Steps.{Step, after, run, potential}
-use Rattle.theory.specs.Steps.{Lawful}
+use Rattle.theory.specs.Steps.{Admissible}
 
 -- Every lawful step, not only the next one.
 abbrev pub StepLowers : Type 0
 StepLowers =
     (p : Plan) (count : ℕ → ℕ) (words : List ℕ) → Feasible p count words
-    → (s : Step) → Lawful p words s → potential p (after words s) + 2 ≤ potential p words
+    → (s : Step) → Admissible p words s → potential p (after words s) + 2 ≤ potential p words
 
 -- A run takes at most half the first sum of steps, whatever its limit; and with half the sum for its limit, or more, it rests.
 pub record RestComes (p : Plan) (words : List ℕ) : Type 0 where

@@ -12,7 +12,7 @@ use Rattle.model.specs.Replication.{unit}
 use Rattle.model.specs.Placement.{Feasible, used, maxLoad}
 use Rattle.model.specs.Steps.{Step, move, after}
 use Rattle.model.specs.Calls.{checkCall, stepCall, runCall}
-use Rattle.theory.specs.Steps.{Lawful}
+use Rattle.theory.specs.Steps.{Admissible}
 use Rattle.theorems.specs.Trials.{gives, rest}
 
 -- R 1, S 3, C 12, budget 12, twelve blocks with P 1, least and spread 1; and the plan that these bytes hold
@@ -53,7 +53,7 @@ pub record Ties : Type 0 where
   -- a share is 840 units, so the hottest load is six of them
   pub hottest : maxLoad tied sixes ≡ 6 * unit
   -- no lawful step lowers it, though one is left
-  pub none-lowers : (s : Step) → Lawful tied sixes s → maxLoad tied sixes ≤ maxLoad tied (after sixes s)
+  pub none-lowers : (s : Step) → Admissible tied sixes s → maxLoad tied sixes ≤ maxLoad tied (after sixes s)
   pub one-left : stepCall plan-tied sixes ≡ gives (move false 0 2 0) stepped
   -- no lawful placement at any lawful counts is below four
   pub best : (count : ℕ → ℕ) (words : List ℕ) → Feasible tied count words → 4 * unit ≤ maxLoad tied words

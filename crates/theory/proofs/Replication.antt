@@ -226,10 +226,10 @@ module _ (p : Plan) (v : Valid p) where
       largest-le (blockCount p) _ f
       (λ i l.
       let b = v .shaped .block i l in
-      let lawful = reachable-parts p f .0 e .0 i l in
+      let in-upper = reachable-parts p f .0 e .0 i l in
       le-trans
-      (share-falls (blockOf p i .popularity) (need p f i) (upper p i) (le-trans (b .min-pos) (need-min p i b f)) lawful (upper-max p i))
-      (need-within p i b f lawful))
+      (share-falls (blockOf p i .popularity) (need p f i) (upper p i) (le-trans (b .min-pos) (need-min p i b f)) in-upper (upper-max p i))
+      (need-within p i b f in-upper))
 
   -- where the needs at f are above the limit, nothing is reachable below f, nor from f on as long as the needs stay
   pub reachable-none : (f end : ℕ) → limit p < sum (blockCount p) (need p f)
@@ -291,13 +291,13 @@ module _ (p : Plan) (v : Valid p) where
   figure-full f e full =
       le-antisymm (figure-optimal (need p f) (reachable-feasible p v f e))
       (largest-le (blockCount p) _ (figure p)
-      (λ i l. rw (same i l) (need-within p i (v .shaped .block i l) (figure p) (lawful i l))))
+      (λ i l. rw (same i l) (need-within p i (v .shaped .block i l) (figure p) (in-upper i l))))
     where
-      lawful : (i : ℕ) → i < blockCount p → need p (figure p) i ≤ upper p i
-      lawful = reachable-parts p (figure p) .0 figure-reachable .0
+      in-upper : (i : ℕ) → i < blockCount p → need p (figure p) i ≤ upper p i
+      in-upper = reachable-parts p (figure p) .0 figure-reachable .0
 
       fewer : (i : ℕ) → i < blockCount p → need p f i ≤ need p (figure p) i
-      fewer i l = need-falls p i (v .shaped .block i l) (figure p) f (figure-least f e) (lawful i l)
+      fewer i l = need-falls p i (v .shaped .block i l) (figure p) f (figure-least f e) (in-upper i l)
 
       same : (i : ℕ) → i < blockCount p → need p f i ≡ need p (figure p) i
       same =

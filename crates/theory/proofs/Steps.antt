@@ -18,7 +18,7 @@ use Rattle.model.specs.Replication.{share}
 use Rattle.model.specs.Placement.{bit, wordOf, held, replicas, replicasIn, domainsUsed, countOf, used, shareOf, load}
 use Rattle.model.specs.Steps.{Step, none, move, swap, shifted, afterMove, afterSwap, after}
 use Rattle.theory.specs.Refusal.{Shaped}
-use Rattle.theory.specs.Steps.{Lawful}
+use Rattle.theory.specs.Steps.{Admissible}
 use Rattle.theory.proofs.Plan.{domain-lt}
 use Rattle.theory.proofs.Placement.{bit-add, bit-add-below, bit-take, bit-apart, held-word, held-apart, replicasIn-delta, domainsUsed-pos}
 
@@ -316,7 +316,7 @@ after-length words none = refl
 after-length words (move racks m n i) = afterMove-length words m n i
 after-length words (swap racks m n i j) = afterMove-length (afterMove words m n i) n m j ∙ afterMove-length words m n i
 
-pub after-past : (p : Plan) (words : List ℕ) (s : Step) → Lawful p words s
+pub after-past : (p : Plan) (words : List ℕ) (s : Step) → Admissible p words s
     → drop (blockCount p) (after words s) ≡ drop (blockCount p) words
 unfolding after
 after-past p words none h = absurd h

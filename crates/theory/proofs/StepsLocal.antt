@@ -17,7 +17,7 @@ use Rattle.model.specs.Plan.{Plan, machines, blockCount, blockOf, isPaired, par
 use Rattle.model.specs.Placement.{bit, wordOf, held, domainsUsed, countOf, used, Feasible, shareOf, load}
 use Rattle.model.specs.Steps.{Step, none, move, swap, afterMove, afterSwap, after, improves, canMove, canSwap}
 use Rattle.theory.specs.Refusal.{Shaped}
-use Rattle.theory.specs.Steps.{Lowers, LocalMove, LocalSwap, Lawful}
+use Rattle.theory.specs.Steps.{Lowers, LocalMove, LocalSwap, Admissible}
 use Rattle.theory.proofs.Placement.{bit-le, bit-cases, feasible-same, feasible-own, isFeasible-iff}
 use Rattle.theory.proofs.Plan.{partner-other, partner-paired, partner-partner}
 use Rattle.theory.proofs.Steps.{shifted-below, afterMove-word, afterMove-each, afterMove-held, afterMove-held-target, afterMove-count, afterMove-used, afterMove-load-source, afterMove-load-target, afterSwap-word-i, afterSwap-word-j, afterSwap-each, afterSwap-held, afterSwap-held-source, afterSwap-held-target, afterSwap-count, afterSwap-used, afterSwap-load-source, afterSwap-load-target}
@@ -303,7 +303,7 @@ module _ (p : Plan) (shaped : Shaped p) (count : ℕ → ℕ) (words : List ℕ)
 -- ── after ────────────────────────────────────────────────────────────────────────────────────────
 -- a lawful step keeps the placement feasible, at its counts
 pub after-feasible : (p : Plan) (count : ℕ → ℕ) (words : List ℕ) → Feasible p count words
-    → (s : Step) → Lawful p words s → Feasible p count (after words s)
+    → (s : Step) → Admissible p words s → Feasible p count (after words s)
 unfolding after
 after-feasible p count words feasible none h = absurd h
 after-feasible p count words feasible (move racks m n i) h =

@@ -17,8 +17,8 @@ use Rattle.order.proofs.Booleans.{no-contradiction, bool-cases, beq-iff}
 use Rattle.order.proofs.Searches.{none-below, first-index}
 use Rattle.model.specs.Plan.{Plan, machines, blockCount}
 use Rattle.model.specs.Placement.{Feasible}
-use Rattle.model.specs.Steps.{Step, none, move, swap, after, acrossRacks, canMove, canSwap, isStep, first, pairs, nextMove, nextSwap, orStep, nextStep, run}
-use Rattle.theory.specs.Steps.{Lawful, keyOf, Precedes, NextStepLaws, Taken, none-taken, one-more, RunLaws}
+use Rattle.model.specs.Steps.{Step, none, move, swap, after, acrossRacks, canMove, canSwap, isStep, first, routes, nextMove, nextSwap, orStep, nextStep, run}
+use Rattle.theory.specs.Steps.{Admissible, keyOf, Precedes, NextStepLaws, Taken, none-taken, one-more, RunLaws}
 use Rattle.theory.proofs.Steps.{after-past}
 use Rattle.theory.proofs.StepsLocal.{after-feasible}
 
@@ -121,14 +121,14 @@ four-first none none none (swap racks m n i j) = refl
 four-first none none none none = refl
 
 module _ (p : Plan) (words : List ℕ) where
-  -- The pairs of machines of a kind.
-  abbrev Pairs : Bool → (ℕ → ℕ → List ℕ → Step → Type 0) → List ℕ → Step → Type 0
-  Pairs racks S = Under (machines p) (λ m. Under (machines p) (λ n a s. (Bool·beq racks (acrossRacks p m n) ≡ true) × S m n a s))
+  -- The routes of a kind.
+  abbrev Routes : Bool → (ℕ → ℕ → List ℕ → Step → Type 0) → List ℕ → Step → Type 0
+  Routes racks S = Under (machines p) (λ m. Under (machines p) (λ n a s. (Bool·beq racks (acrossRacks p m n) ≡ true) × S m n a s))
 
-  finds-pairs : (racks : Bool) (f : ℕ → ℕ → Step) (S : ℕ → ℕ → List ℕ → Step → Type 0) → ((m n : ℕ) → Finds (S m n) (f m n))
-      → Finds (Pairs racks S) (pairs p racks f)
-  unfolding pairs
-  finds-pairs racks f S each =
+  finds-routes : (racks : Bool) (f : ℕ → ℕ → Step) (S : ℕ → ℕ → List ℕ → Step → Type 0) → ((m n : ℕ) → Finds (S m n) (f m n))
+      → Finds (Routes racks S) (routes p racks f)
+  unfolding routes
+  finds-routes racks f S each =
       finds-first (machines p) _ (λ m. Under (machines p) (λ n a s. (Bool·beq racks (acrossRacks p m n) ≡ true) × S m n a s)) (λ m ml.
       finds-first (machines p) _ (λ n a s. (Bool·beq racks (acrossRacks p m n) ≡ true) × S m n a s) (λ n nl.
       finds-if (Bool·beq racks (acrossRacks p m n)) (S m n) (f m n) (each m n)))
@@ -142,17 +142,17 @@ module _ (p : Plan) (words : List ℕ) where
       Under (blockCount p) (λ i.
       Under (blockCount p) (λ j a s. (canSwap p words m n i j ≡ true) × ((a ≡ []) × (s ≡ swap racks m n i j))))
 
-  finds-move : (racks : Bool) → Finds (Pairs racks (Moves racks)) (nextMove p words racks)
+  finds-move : (racks : Bool) → Finds (Routes racks (Moves racks)) (nextMove p words racks)
   unfolding nextMove
   finds-move racks =
-      finds-pairs racks _ (Moves racks) (λ m n.
+      finds-routes racks _ (Moves racks) (λ m n.
       finds-first (blockCount p) _ (λ i a s. (canMove p words m n i ≡ true) × ((a ≡ []) × (s ≡ move racks m n i))) (λ i il.
       finds-if (canMove p words m n i) _ (move racks m n i) (finds-one (move racks m n i) refl)))
 
-  finds-swap : (racks : Bool) → Finds (Pairs racks (Swaps racks)) (nextSwap p words racks)
+  finds-swap : (racks : Bool) → Finds (Routes racks (Swaps racks)) (nextSwap p words racks)
   unfolding nextSwap
   finds-swap racks =
-      finds-pairs racks _ (Swaps racks) (λ m n.
+      finds-routes racks _ (Swaps racks) (λ m n.
       finds-first (blockCount p) _ (λ i.
       Under (blockCount p) (λ j a s. (canSwap p words m n i j ≡ true) × ((a ≡ []) × (s ≡ swap racks m n i j)))) (λ i il.
       finds-first (blockCount p) _ (λ j a s. (canSwap p words m n i j ≡ true) × ((a ≡ []) × (s ≡ swap racks m n i j))) (λ j jl.
@@ -160,10 +160,10 @@ module _ (p : Plan) (words : List ℕ) where
 
   -- All steps of kind k.
   abbrev Kind : ℕ → List ℕ → Step → Type 0
-  Kind zero = Pairs false (Moves false)
-  Kind (suc zero) = Pairs false (Swaps false)
-  Kind (suc (suc zero)) = Pairs true (Moves true)
-  Kind (suc (suc (suc k))) = Pairs true (Swaps true)
+  Kind zero = Routes false (Moves false)
+  Kind (suc zero) = Routes false (Swaps false)
+  Kind (suc (suc zero)) = Routes true (Moves true)
+  Kind (suc (suc (suc k))) = Routes true (Swaps true)
 
   finds-next : Finds (Under 4 Kind) (nextStep p words)
   unfolding nextStep four
@@ -179,85 +179,85 @@ module _ (p : Plan) (words : List ℕ) where
       each (suc (suc (suc k))) l = finds-swap true
 
   -- the steps that are looked through are the lawful ones, by their keys
-  lawful-move : (racks : Bool) (a : List ℕ) (s : Step) → Pairs racks (Moves racks) a s
-      → (m : ℕ) × (n : ℕ) × (i : ℕ) × (a ≡ m ∷ n ∷ i ∷ []) × (s ≡ move racks m n i) × Lawful p words (move racks m n i)
-  lawful-move racks a s (m, b, e, ml, (n, c, f, nl, (t, (i, d, g, il, (can, (h, is)))))) =
+  admissible-move : (racks : Bool) (a : List ℕ) (s : Step) → Routes racks (Moves racks) a s
+      → (m : ℕ) × (n : ℕ) × (i : ℕ) × (a ≡ m ∷ n ∷ i ∷ []) × (s ≡ move racks m n i) × Admissible p words (move racks m n i)
+  admissible-move racks a s (m, b, e, ml, (n, c, f, nl, (t, (i, d, g, il, (can, (h, is)))))) =
       (m, n, i, (rw (e, f, g, h)), is, (ml, nl, il, can, beq-iff racks (acrossRacks p m n) .0 t))
 
-  lawful-swap : (racks : Bool) (a : List ℕ) (s : Step) → Pairs racks (Swaps racks) a s
-      → (m : ℕ) × (n : ℕ) × (i : ℕ) × (j : ℕ) × (a ≡ m ∷ n ∷ i ∷ j ∷ []) × (s ≡ swap racks m n i j) × Lawful p words (swap racks m n i j)
-  lawful-swap racks a s (m, b, e, ml, (n, c, f, nl, (t, (i, d, g, il, (j, k, o, jl, (can, (h, is))))))) =
+  admissible-swap : (racks : Bool) (a : List ℕ) (s : Step) → Routes racks (Swaps racks) a s
+      → (m : ℕ) × (n : ℕ) × (i : ℕ) × (j : ℕ) × (a ≡ m ∷ n ∷ i ∷ j ∷ []) × (s ≡ swap racks m n i j) × Admissible p words (swap racks m n i j)
+  admissible-swap racks a s (m, b, e, ml, (n, c, f, nl, (t, (i, d, g, il, (j, k, o, jl, (can, (h, is))))))) =
       (m, n, i, j, (rw (e, f, g, o, h)), is, (ml, nl, il, jl, can, beq-iff racks (acrossRacks p m n) .0 t))
 
-  move-lawful : (racks : Bool) (m n i : ℕ) → Lawful p words (move racks m n i)
-      → Pairs racks (Moves racks) (m ∷ n ∷ i ∷ []) (move racks m n i)
-  move-lawful racks m n i (ml, nl, il, can, across) =
+  move-admissible : (racks : Bool) (m n i : ℕ) → Admissible p words (move racks m n i)
+      → Routes racks (Moves racks) (m ∷ n ∷ i ∷ []) (move racks m n i)
+  move-admissible racks m n i (ml, nl, il, can, across) =
       (m, _, refl, ml, (n, _, refl, nl, (beq-iff racks (acrossRacks p m n) .1 across, (i, _, refl, il, (can, (refl, refl))))))
 
-  swap-lawful : (racks : Bool) (m n i j : ℕ) → Lawful p words (swap racks m n i j)
-      → Pairs racks (Swaps racks) (m ∷ n ∷ i ∷ j ∷ []) (swap racks m n i j)
-  swap-lawful racks m n i j (ml, nl, il, jl, can, across) =
+  swap-admissible : (racks : Bool) (m n i j : ℕ) → Admissible p words (swap racks m n i j)
+      → Routes racks (Swaps racks) (m ∷ n ∷ i ∷ j ∷ []) (swap racks m n i j)
+  swap-admissible racks m n i j (ml, nl, il, jl, can, across) =
       (m, _, refl, ml, (n, _, refl, nl, (beq-iff racks (acrossRacks p m n) .1 across, (i, _, refl, il, (j, _, refl, jl, (can, (refl, refl)))))))
 
-  kinds-lawful : (a : List ℕ) (s : Step) → Under 4 Kind a s ↔ ((a ≡ keyOf s) × Lawful p words s)
+  kinds-admissible : (a : List ℕ) (s : Step) → Under 4 Kind a s ↔ ((a ≡ keyOf s) × Admissible p words s)
   unfolding keyOf
-  kinds-lawful a s = (λ h. there (h .0) (h .1) (h .2) (h .3) (h .4), λ h. rw (h .0) (back s (h .1)))
+  kinds-admissible a s = (λ h. there (h .0) (h .1) (h .2) (h .3) (h .4), λ h. rw (h .0) (back s (h .1)))
     where
-      told : (t : Step) → a ≡ keyOf t → s ≡ t → Lawful p words t → (a ≡ keyOf s) × Lawful p words s
+      told : (t : Step) → a ≡ keyOf t → s ≡ t → Admissible p words t → (a ≡ keyOf s) × Admissible p words s
       told t e is h = rw is (e, h)
 
-      there : (k : ℕ) (b : List ℕ) → a ≡ k ∷ b → k < 4 → Kind k b s → (a ≡ keyOf s) × Lawful p words s
+      there : (k : ℕ) (b : List ℕ) → a ≡ k ∷ b → k < 4 → Kind k b s → (a ≡ keyOf s) × Admissible p words s
       there zero b e l h =
-          let z = lawful-move false b s h in
+          let z = admissible-move false b s h in
           told (move false (z .0) (z .1) (z .2)) (e ∙ ap (λ (c : List ℕ). 0 ∷ c) (z .3)) (z .4) (z .5)
       there (suc zero) b e l h =
-          let z = lawful-swap false b s h in
+          let z = admissible-swap false b s h in
           told (swap false (z .0) (z .1) (z .2) (z .3)) (e ∙ ap (λ (c : List ℕ). 1 ∷ c) (z .4)) (z .5) (z .6)
       there (suc (suc zero)) b e l h =
-          let z = lawful-move true b s h in
+          let z = admissible-move true b s h in
           told (move true (z .0) (z .1) (z .2)) (e ∙ ap (λ (c : List ℕ). 2 ∷ c) (z .3)) (z .4) (z .5)
       there (suc (suc (suc k))) b e l h =
-          let z = lawful-swap true b s h in
+          let z = admissible-swap true b s h in
           let last : suc (suc (suc k)) ≡ 3 = omega arith in
           told (swap true (z .0) (z .1) (z .2) (z .3)) (e ∙ ap₂ _∷_ last (z .4)) (z .5) (z .6)
 
-      back : (s : Step) → Lawful p words s → Under 4 Kind (keyOf s) s
+      back : (s : Step) → Admissible p words s → Under 4 Kind (keyOf s) s
       back none h = absurd h
-      back (move false m n i) h = (0, _, refl, lit< tt, move-lawful false m n i h)
-      back (swap false m n i j) h = (1, _, refl, lit< tt, swap-lawful false m n i j h)
-      back (move true m n i) h = (2, _, refl, lit< tt, move-lawful true m n i h)
-      back (swap true m n i j) h = (3, _, refl, lit< tt, swap-lawful true m n i j h)
+      back (move false m n i) h = (0, _, refl, lit< tt, move-admissible false m n i h)
+      back (swap false m n i j) h = (1, _, refl, lit< tt, swap-admissible false m n i j h)
+      back (move true m n i) h = (2, _, refl, lit< tt, move-admissible true m n i h)
+      back (swap true m n i j) h = (3, _, refl, lit< tt, swap-admissible true m n i j h)
 
   -- A search over an index finds, at the first index where there is anything to find, what is first there; so nested searches find
   -- the step whose numbers are first, the outermost deciding before the inner ones. The kinds are the outermost index, then m, n, i
   -- and j.
   pub nextStep-laws : NextStepLaws p words
-  nextStep-laws = go (finds-same (Under 4 Kind) (λ a s. (a ≡ keyOf s) × Lawful p words s) (nextStep p words) kinds-lawful finds-next)
+  nextStep-laws = go (finds-same (Under 4 Kind) (λ a s. (a ≡ keyOf s) × Admissible p words s) (nextStep p words) kinds-admissible finds-next)
     where
-      go : Finds (λ a s. (a ≡ keyOf s) × Lawful p words s) (nextStep p words) → NextStepLaws p words
+      go : Finds (λ a s. (a ≡ keyOf s) × Admissible p words s) (nextStep p words) → NextStepLaws p words
       go (inl (e, empty)) =
           record {
-            lawful = inl e;
+            admissible = inl e;
             first = λ s h. absurd (empty (keyOf s) s (refl, h));
             none-before = λ s h before. empty (keyOf s) s (refl, h);
             rest = (λ q s h. empty (keyOf s) s (refl, h), λ h. e);
           }
       go (inr (a, (e, h), is, least)) =
-          let first : (s : Step) → Lawful p words s → (nextStep p words ≡ s) ⊎ Precedes (keyOf (nextStep p words)) (keyOf s) =
+          let first : (s : Step) → Admissible p words s → (nextStep p words ≡ s) ⊎ Precedes (keyOf (nextStep p words)) (keyOf s) =
           λ s l. rw e at (least (keyOf s) s (refl, l))
           in
           record {
-            lawful = inr h;
+            admissible = inr h;
             first = first;
             none-before = λ s l before. elim (first s l) [
               | inl same ↦ precedes-asym (keyOf s) (keyOf s) (rw same at before) (rw same at before)
               | inr later ↦ precedes-asym (keyOf s) (keyOf (nextStep p words)) before later
             ];
-            rest = (λ q. no-contradiction (sym is ∙ ap isStep q), λ none-lawful. absurd (none-lawful (nextStep p words) h));
+            rest = (λ q. no-contradiction (sym is ∙ ap isStep q), λ none-admissible. absurd (none-admissible (nextStep p words) h));
           }
 
-pub nextStep-lawful : (p : Plan) (words : List ℕ) → isStep (nextStep p words) ≡ true → Lawful p words (nextStep p words)
-nextStep-lawful p words is = elim (nextStep-laws p words .lawful) [
+pub nextStep-admissible : (p : Plan) (words : List ℕ) → isStep (nextStep p words) ≡ true → Admissible p words (nextStep p words)
+nextStep-admissible p words is = elim (nextStep-laws p words .admissible) [
   | inl e ↦ no-contradiction (sym is ∙ ap isStep e)
   | inr h ↦ h
 ]
@@ -265,7 +265,7 @@ nextStep-lawful p words is = elim (nextStep-laws p words .lawful) [
 pub nextStep-feasible : (p : Plan) (count : ℕ → ℕ) (words : List ℕ) → Feasible p count words
     → Feasible p count (after words (nextStep p words))
 unfolding after
-nextStep-feasible p count words feasible = elim (nextStep-laws p words .lawful) [
+nextStep-feasible p count words feasible = elim (nextStep-laws p words .admissible) [
   | inl e ↦ rw e feasible
   | inr h ↦ after-feasible p count words feasible (nextStep p words) h
 ]
@@ -283,7 +283,7 @@ nextStep-taken p words = go (bool-cases (isStep (nextStep p words)))
 pub taken-past : (p : Plan) {words later : List ℕ} {n : ℕ} → Taken p words n later
     → drop (blockCount p) later ≡ drop (blockCount p) words
 taken-past p none-taken = refl
-taken-past p (one-more {words} e more) = taken-past p more ∙ after-past p words (nextStep p words) (nextStep-lawful p words e)
+taken-past p (one-more {words} e more) = taken-past p more ∙ after-past p words (nextStep p words) (nextStep-admissible p words e)
 
 pub taken-feasible : (p : Plan) (count : ℕ → ℕ) {words later : List ℕ} {n : ℕ} → Taken p words n later
     → Feasible p count words → Feasible p count later

@@ -35,13 +35,13 @@ pub record LocalSwap (p : Plan) (words : List ℕ) (m n i j : ℕ) : Type 0 wher
   pub i-apart : isPaired p i ≡ true → (partner p i ≡ j → ⊥) → held words n (partner p i) ≡ 0
   pub j-apart : isPaired p j ≡ true → (partner p j ≡ i → ⊥) → held words m (partner p j) ≡ 0
 
--- A lawful step: its machines and blocks are the plan's, it passes its test, and Move and Swap are for one rack, RackMove and RackSwap
--- for two.
-abbrev pub Lawful : Plan → List ℕ → Step → Type 0
-Lawful p words none = ⊥
-Lawful p words (move racks m n i) =
+-- An admissible step, one that the document allows: its machines and blocks are the plan's, it passes its test, and Move and Swap are
+-- for one rack, RackMove and RackSwap for two.
+abbrev pub Admissible : Plan → List ℕ → Step → Type 0
+Admissible p words none = ⊥
+Admissible p words (move racks m n i) =
     (m < machines p) × (n < machines p) × (i < blockCount p) × (canMove p words m n i ≡ true) × (racks ≡ acrossRacks p m n)
-Lawful p words (swap racks m n i j) =
+Admissible p words (swap racks m n i j) =
     (m < machines p) × (n < machines p) × (i < blockCount p) × (j < blockCount p) × (canSwap p words m n i j ≡ true)
     × (racks ≡ acrossRacks p m n)
 
@@ -61,12 +61,12 @@ Precedes (a ∷ rest) (b ∷ others) = (a < b) ⊎ ((a ≡ b) × Precedes rest o
 
 -- The next step is the first lawful one.
 pub record NextStepLaws (p : Plan) (words : List ℕ) : Type 0 where
-  pub lawful : (nextStep p words ≡ none) ⊎ Lawful p words (nextStep p words)
+  pub admissible : (nextStep p words ≡ none) ⊎ Admissible p words (nextStep p words)
   -- every other lawful step comes after it, and none before it
-  pub first : (s : Step) → Lawful p words s → (nextStep p words ≡ s) ⊎ Precedes (keyOf (nextStep p words)) (keyOf s)
-  pub none-before : (s : Step) → Lawful p words s → Precedes (keyOf s) (keyOf (nextStep p words)) → ⊥
+  pub first : (s : Step) → Admissible p words s → (nextStep p words ≡ s) ⊎ Precedes (keyOf (nextStep p words)) (keyOf s)
+  pub none-before : (s : Step) → Admissible p words s → Precedes (keyOf s) (keyOf (nextStep p words)) → ⊥
   -- it is at rest exactly if there is none
-  pub rest : AtRest p words ↔ ((s : Step) → Lawful p words s → ⊥)
+  pub rest : AtRest p words ↔ ((s : Step) → Admissible p words s → ⊥)
 
 -- `Taken p first n last`: n next steps of the definition lead from `first` to `last`.
 pub data Taken (p : Plan) : List ℕ → ℕ → List ℕ → Type 0 where

@@ -1,4 +1,4 @@
--- Laws of one pair of machines: when a spread is kept, which blocks are candidates, and what passes the definition's tests there.
+-- Laws of one route of machines: when a spread is kept, which blocks are candidates, and what passes the definition's tests there.
 -- Assumes nothing.
 use mathlib.Core.Path.{_≡_, refl, ap, sym, _∙_}
 use mathlib.Core.Bool.{Bool, true, false, not}
@@ -28,33 +28,33 @@ use Rattle.cluster.specs.declared.Cluster.{Cluster}
 use Rattle.cluster.specs.Cluster.{machinesIn, ClusterOf}
 use Rattle.cluster.specs.Blocks.{linkedTo, shareIn, spreadIn, PlacementFits, PlacementOf}
 use Rattle.cluster.proofs.Laws.{cluster-blocks, cluster-racks, cluster-size, cluster-machines, mate-paired, mate-single, profiles-mate, placement-block, placement-share, placement-spread, placement-machine}
-use Rattle.index.specs.declared.Pair.{Pair}
+use Rattle.index.specs.declared.Route.{Route}
 use Rattle.index.specs.Index.{byNumber, spot, rankAt, NextOf}
-use Rattle.transfers.specs.Pair.{blockStep, pairStep, Shift, PairIn, BlockAsked, Lies, InMargin, Passable, Free, NoReturn, ReturnAsked, PairAsked, PairScene, Return, FreeReturn, CandidateAsked}
+use Rattle.transfers.specs.Route.{blockStep, routeStep, Shift, RouteIn, BlockAsked, Lies, InMargin, Passable, Free, NoReturn, ReturnAsked, RouteAsked, RouteScene, Return, FreeReturn, CandidateAsked}
 use Rattle.transfers.proofs.Searches.{step-found, none-found, test-found, test-none}
 
 -- ── BlockAsked: when a spread is kept ──────────────────────────────────────────────────────────────────────────────────
 
-module _ (p : Plan) (c : Cluster) (pair : Pair) (word profile : ℕ)
-    (lies : Lies p c word (spreadIn profile)) (asked : BlockAsked c pair word profile) where
-  m-lt : pair .m < machines p
-  m-lt = rw (cluster-machines p c (lies .cluster-of)) at (asked .pair-in .m-below)
+module _ (p : Plan) (c : Cluster) (route : Route) (word profile : ℕ)
+    (lies : Lies p c word (spreadIn profile)) (asked : BlockAsked c route word profile) where
+  m-lt : route .m < machines p
+  m-lt = rw (cluster-machines p c (lies .cluster-of)) at (asked .route-in .m-below)
 
-  n-lt : pair .n < machines p
-  n-lt = rw (cluster-machines p c (lies .cluster-of)) at (asked .pair-in .n-below)
+  n-lt : route .n < machines p
+  n-lt = rw (cluster-machines p c (lies .cluster-of)) at (asked .route-in .n-below)
 
   -- inside a rack, and with a spread of one, nothing can be lost
-  pub kept-inside : pair .across ≡ false → spreadIn profile ≤ domainsUsed p (shifted word (pair .m) (pair .n))
+  pub kept-inside : route .across ≡ false → spreadIn profile ≤ domainsUsed p (shifted word (route .m) (route .n))
   kept-inside inside =
-      let same : pair .m / c .«rack_size» ≡ pair .n / c .«rack_size» =
-      eqb-true _ _ (not-false _ (sym (asked .pair-in .across-is) ∙ inside))
+      let same : route .m / c .«rack_size» ≡ route .n / c .«rack_size» =
+      eqb-true _ _ (not-false _ (sym (asked .route-in .across-is) ∙ inside))
       in
-      rw (domainsUsed-shift-inside p word (pair .m) (pair .n) m-lt n-lt (asked .holds) (asked .lacks) (rw (cluster-size p c (lies .cluster-of)) at same))
+      rw (domainsUsed-shift-inside p word (route .m) (route .n) m-lt n-lt (asked .holds) (asked .lacks) (rw (cluster-size p c (lies .cluster-of)) at same))
       (lies .enough)
 
-  pub kept-one : spreadIn profile ≤ 1 → spreadIn profile ≤ domainsUsed p (shifted word (pair .m) (pair .n))
+  pub kept-one : spreadIn profile ≤ 1 → spreadIn profile ≤ domainsUsed p (shifted word (route .m) (route .n))
   kept-one low =
-      omega (arith, domainsUsed-shift-pos p word (pair .m) (pair .n) m-lt n-lt (asked .holds) (asked .lacks) (lies .cluster-of .valid .shaped))
+      omega (arith, domainsUsed-shift-pos p word (route .m) (route .n) m-lt n-lt (asked .holds) (asked .lacks) (lies .cluster-of .valid .shaped))
 
 -- the groups of bits are the racks
 pub groups-are : (p : Plan) (c : Cluster) (w : ℕ) → ClusterOf p c
@@ -70,26 +70,26 @@ pub linked-below : {c : Cluster} {words profiles : List ℕ} → PlacementFits c
     → (i : ℕ) → i < c .blocks → linkedTo (getD profiles i 0) i < c .blocks
 linked-below fits i l = let linked = fits .profiles-fit .linked i l in omega (arith, linked .some, linked .below)
 
--- ── PairAsked: the candidates, one after the other ─────────────────────────────────────────────────────────────────────
+-- ── RouteAsked: the candidates, one after the other ─────────────────────────────────────────────────────────────────────
 
 -- The search has come to i: every block before it fails, and it is on m and not on n, or past the last.
-pub record Passed (c : Cluster) (words : List ℕ) (pair : Pair) (Fails : ℕ → Type 0) (i : ℕ) : Type 0 where
+pub record Passed (c : Cluster) (words : List ℕ) (route : Route) (Fails : ℕ → Type 0) (i : ℕ) : Type 0 where
   pub before : (k : ℕ) → k < i → k < c .blocks → Fails k
-  pub holds : i < c .blocks → held words (pair .m) i ≡ 1
-  pub lacks : i < c .blocks → held words (pair .n) i ≡ 0
+  pub holds : i < c .blocks → held words (route .m) i ≡ 1
+  pub lacks : i < c .blocks → held words (route .n) i ≡ 0
 
-module _ {c : Cluster} {words profiles index : List ℕ} {pair : Pair} {Fails : ℕ → Type 0} (asked : PairAsked c words profiles index pair)
-    (others : (k : ℕ) → k < c .blocks → (held words (pair .m) k ≡ 1 → held words (pair .n) k ≡ 0 → ⊥) → Fails k) where
+module _ {c : Cluster} {words profiles index : List ℕ} {route : Route} {Fails : ℕ → Type 0} (asked : RouteAsked c words profiles index route)
+    (others : (k : ℕ) → k < c .blocks → (held words (route .m) k ≡ 1 → held words (route .n) k ≡ 0 → ⊥) → Fails k) where
   in-index : (k i : ℕ) → k < machinesIn c → i < c .blocks → spot index byNumber k i ≡ held words k i
-  in-index k i l b = asked .indexed .by-number k i (omega (arith, asked .pair-in .in-range .machines-max)) b
+  in-index k i l b = asked .indexed .by-number k i (omega (arith, asked .route-in .in-range .machines-max)) b
 
   from-on : (from : ℕ) {r : ℕ} → ((k : ℕ) → k < from → k < c .blocks → Fails k)
-      → NextOf index byNumber (pair .m) (pair .n) from c r → Passed c words pair Fails r
+      → NextOf index byNumber (route .m) (route .n) from c r → Passed c words route Fails r
   from-on from {r} early next =
-      let on = in-index (pair .m) in
-      let off = in-index (pair .n) in
-      let ml = asked .pair-in .m-below in
-      let nl = asked .pair-in .n-below in
+      let on = in-index (route .m) in
+      let off = in-index (route .n) in
+      let ml = asked .route-in .m-below in
+      let nl = asked .route-in .n-below in
       record {
         before = λ k l b. elim (decLt k from) [
           | yes h ↦ early k h b
@@ -99,51 +99,51 @@ module _ {c : Cluster} {words profiles index : List ℕ} {pair : Pair} {Fails : 
         lacks = λ b. sym (off r nl b) ∙ next .lacks b;
       }
 
-  pub passed-first : {r : ℕ} → NextOf index byNumber (pair .m) (pair .n) 0 c r → Passed c words pair Fails r
+  pub passed-first : {r : ℕ} → NextOf index byNumber (route .m) (route .n) 0 c r → Passed c words route Fails r
   passed-first next = from-on 0 (λ k l b. absurd (omega arith)) next
 
-  pub passed-next : {i r : ℕ} → Passed c words pair Fails i → Fails i
-      → NextOf index byNumber (pair .m) (pair .n) (i + 1) c r → Passed c words pair Fails r
+  pub passed-next : {i r : ℕ} → Passed c words route Fails i → Fails i
+      → NextOf index byNumber (route .m) (route .n) (i + 1) c r → Passed c words route Fails r
   passed-next {i} passed here next =
       from-on (i + 1) (rw add-one (below-suc i (λ k. k < c .blocks → Fails k) (λ b. here) (passed .before))) next
 
-pub passed-candidate : {c : Cluster} {words profiles index : List ℕ} {pair : Pair} {Fails : ℕ → Type 0} {i : ℕ}
-    → PairAsked c words profiles index pair → Passed c words pair Fails i → i < c .blocks → CandidateAsked c words profiles index pair i
+pub passed-candidate : {c : Cluster} {words profiles index : List ℕ} {route : Route} {Fails : ℕ → Type 0} {i : ℕ}
+    → RouteAsked c words profiles index route → Passed c words route Fails i → i < c .blocks → CandidateAsked c words profiles index route i
 passed-candidate asked passed l = record { asked = asked; i-below = l; holds = passed .holds l; lacks = passed .lacks l }
 
 -- a candidate's word and profile
-pub return-block : {c : Cluster} {words profiles : List ℕ} {pair : Pair} {j : ℕ}
-    → ReturnAsked c words profiles pair j → BlockAsked c pair (wordOf words j) (getD profiles j 0)
+pub return-block : {c : Cluster} {words profiles : List ℕ} {route : Route} {j : ℕ}
+    → ReturnAsked c words profiles route j → BlockAsked c route (wordOf words j) (getD profiles j 0)
 return-block {j} asked =
     record {
-      pair-in = asked .pair-in;
+      route-in = asked .route-in;
       holds = asked .holds;
       lacks = asked .lacks;
       share-narrow = asked .fits .profiles-fit .narrow j (asked .j-below);
     }
 
-pub candidate-return : {c : Cluster} {words profiles index : List ℕ} {pair : Pair} {i : ℕ}
-    → CandidateAsked c words profiles index pair i → ReturnAsked c words profiles pair i
+pub candidate-return : {c : Cluster} {words profiles index : List ℕ} {route : Route} {i : ℕ}
+    → CandidateAsked c words profiles index route i → ReturnAsked c words profiles route i
 candidate-return candidate =
     record {
       fits = candidate .asked .fits;
-      pair-in = candidate .asked .pair-in;
+      route-in = candidate .asked .route-in;
       j-below = candidate .i-below;
       holds = candidate .holds;
       lacks = candidate .lacks;
     }
 
-pub candidate-block : {c : Cluster} {words profiles index : List ℕ} {pair : Pair} {i : ℕ}
-    → CandidateAsked c words profiles index pair i → BlockAsked c pair (wordOf words i) (getD profiles i 0)
+pub candidate-block : {c : Cluster} {words profiles index : List ℕ} {route : Route} {i : ℕ}
+    → CandidateAsked c words profiles index route i → BlockAsked c route (wordOf words i) (getD profiles i 0)
 candidate-block candidate = return-block (candidate-return candidate)
 
-pub candidate-shift : {c : Cluster} {words profiles index : List ℕ} {pair : Pair} {i : ℕ}
-    → CandidateAsked c words profiles index pair i → Shift c words (pair .m) (pair .n) i
+pub candidate-shift : {c : Cluster} {words profiles index : List ℕ} {route : Route} {i : ℕ}
+    → CandidateAsked c words profiles index route i → Shift c words (route .m) (route .n) i
 candidate-shift candidate =
-    let pair-in = candidate .asked .pair-in in
+    let route-in = candidate .asked .route-in in
     record {
-      m-below = pair-in .m-below;
-      n-below = pair-in .n-below;
+      m-below = route-in .m-below;
+      n-below = route-in .n-below;
       i-below = candidate .i-below;
       holds = candidate .holds;
       lacks = candidate .lacks;
@@ -151,21 +151,21 @@ candidate-shift candidate =
 
 -- ── NoReturn: what the shares rule out ─────────────────────────────────────────────────────────────────────────────────
 
-pub noReturn-block : (p : Plan) {c : Cluster} {words profiles index : List ℕ} {pair : Pair} {given : ℕ}
-    → PairAsked c words profiles index pair → NoReturn c index pair given
-    → (k : ℕ) → k < c .blocks → Return p words profiles pair given k → ⊥
-noReturn-block p {index} {pair} asked ruled k l t =
+pub noReturn-block : (p : Plan) {c : Cluster} {words profiles index : List ℕ} {route : Route} {given : ℕ}
+    → RouteAsked c words profiles index route → NoReturn c index route given
+    → (k : ℕ) → k < c .blocks → Return p words profiles route given k → ⊥
+noReturn-block p {index} {route} asked ruled k l t =
     let indexed = asked .indexed in
-    let pair-in = asked .pair-in in
+    let route-in = asked .route-in in
     ruled (rankAt index k) (indexed .ordered .rank-below k l)
-    (indexed .by-rank (pair .m) k (omega (arith, pair-in .m-below, pair-in .in-range .machines-max)) l ∙ t .holds)
-    (indexed .by-rank (pair .n) k (omega (arith, pair-in .n-below, pair-in .in-range .machines-max)) l ∙ t .lacks)
+    (indexed .by-rank (route .m) k (omega (arith, route-in .m-below, route-in .in-range .machines-max)) l ∙ t .holds)
+    (indexed .by-rank (route .n) k (omega (arith, route-in .n-below, route-in .in-range .machines-max)) l ∙ t .lacks)
     (rw (indexed .ordered .rank-share k l) (t .test .in-margin))
 
--- ── Pair: the other way round ──────────────────────────────────────────────────────────────────────────────────────────
+-- ── Route: the other way round ──────────────────────────────────────────────────────────────────────────────────────────
 
-abbrev pub reversed : Pair → Pair
-reversed pair = record { across = pair .across; m = pair .n; n = pair .m; margin = pair .margin }
+abbrev pub reversed : Route → Route
+reversed route = record { across = route .across; m = route .n; n = route .m; margin = route .margin }
 
 -- whether two machines lie apart does not hang on their order
 apart-sym : (a b : ℕ) → not (eqb a b) ≡ not (eqb b a)
@@ -174,43 +174,43 @@ apart-sym a b = elim (ℕ-discrete a b) [
   | no d ↦ rw (ne-eqb a b d, ne-eqb b a (λ q. d (sym q)))
 ]
 
-pub reversed-asked : (c : Cluster) (words profiles index : List ℕ) (pair : Pair)
-    → PairAsked c words profiles index pair → PairAsked c words profiles index (reversed pair)
-reversed-asked c words profiles index pair asked =
-    let pair-in = asked .pair-in in
+pub reversed-asked : (c : Cluster) (words profiles index : List ℕ) (route : Route)
+    → RouteAsked c words profiles index route → RouteAsked c words profiles index (reversed route)
+reversed-asked c words profiles index route asked =
+    let route-in = asked .route-in in
     record {
       fits = asked .fits;
       indexed = asked .indexed;
-      pair-in =
+      route-in =
           record {
-            in-range = pair-in .in-range;
-            m-below = pair-in .n-below;
-            n-below = pair-in .m-below;
-            across-is = pair-in .across-is ∙ apart-sym (pair .m / c .«rack_size») (pair .n / c .«rack_size»);
-            margin-narrow = pair-in .margin-narrow;
+            in-range = route-in .in-range;
+            m-below = route-in .n-below;
+            n-below = route-in .m-below;
+            across-is = route-in .across-is ∙ apart-sym (route .m / c .«rack_size») (route .n / c .«rack_size»);
+            margin-narrow = route-in .margin-narrow;
           };
     }
 
--- ── blockStep, pairStep ────────────────────────────────────────────────────────────────────────────────────────────────
+-- ── blockStep, routeStep ────────────────────────────────────────────────────────────────────────────────────────────────
 
--- the pair's step is the first of its blocks' steps
+-- the route's step is the first of its blocks' steps
 blocks-first : (p : Plan) (words : List ℕ) (swapping across : Bool) (m n : ℕ)
-    → first (blockCount p) (blockStep p words swapping across m n) ≡ pairStep p words swapping across m n
-unfolding pairStep blockStep
+    → first (blockCount p) (blockStep p words swapping across m n) ≡ routeStep p words swapping across m n
+unfolding routeStep blockStep
 blocks-first p words false across m n = refl
 blocks-first p words true across m n = refl
 
 module _ (p : Plan) (words : List ℕ) (swapping across : Bool) (m n : ℕ) where
-  pub pairStep-found : (i : ℕ) (s : Step) → i < blockCount p
+  pub routeStep-found : (i : ℕ) (s : Step) → i < blockCount p
       → ((k : ℕ) → k < i → isStep (blockStep p words swapping across m n k) ≡ false)
-      → s ≡ blockStep p words swapping across m n i → isStep s ≡ true → s ≡ pairStep p words swapping across m n
-  pairStep-found i s l before here is =
+      → s ≡ blockStep p words swapping across m n i → isStep s ≡ true → s ≡ routeStep p words swapping across m n
+  routeStep-found i s l before here is =
       sym (step-found (blockCount p) i (blockStep p words swapping across m n) s l before (sym here) is)
       ∙ blocks-first p words swapping across m n
 
-  pub pairStep-none : ((k : ℕ) → k < blockCount p → isStep (blockStep p words swapping across m n k) ≡ false)
-      → none ≡ pairStep p words swapping across m n
-  pairStep-none each =
+  pub routeStep-none : ((k : ℕ) → k < blockCount p → isStep (blockStep p words swapping across m n k) ≡ false)
+      → none ≡ routeStep p words swapping across m n
+  routeStep-none each =
       sym (none-found (blockCount p) (blockStep p words swapping across m n) each) ∙ blocks-first p words swapping across m n
 
 module _ (p : Plan) (words : List ℕ) (across : Bool) (m n i : ℕ) where
@@ -233,7 +233,7 @@ module _ (p : Plan) (words : List ℕ) (across : Bool) (m n i : ℕ) where
   blockStep-swap swapping kind j l before here =
       rw kind (test-found (blockCount p) j (canSwap p words m n i) (swap across m n i) l before here refl)
 
--- ── PlacementOf, PairScene: the definition's tests ─────────────────────────────────────────────────────────────────────
+-- ── PlacementOf, RouteScene: the definition's tests ─────────────────────────────────────────────────────────────────────
 
 pub lies-at : (p : Plan) (count : ℕ → ℕ) (c : Cluster) (words profiles : List ℕ) → PlacementOf p count c words profiles
     → (i : ℕ) → i < c .blocks → Lies p c (wordOf words i) (spreadIn (getD profiles i 0))
@@ -272,38 +272,38 @@ module _ (p : Plan) (count : ℕ → ℕ) (c : Cluster) (words profiles : List �
     | inr single ↦ let same : i ≡ k = sym (linked-single i l single) ∙ e in rw (sym same) (linked-single i l single)
   ]
 
--- what the definition's exchange of i for j comes to: block i's own part, and block j's, seen from the pair the other way round; the
+-- what the definition's exchange of i for j comes to: block i's own part, and block j's, seen from the route the other way round; the
 -- partner of either is not where it goes, unless it is the other one
-pub record Exchange (p : Plan) (words profiles : List ℕ) (pair : Pair) (i j : ℕ) : Type 0 where
-  pub holds : held words (pair .m) i ≡ 1
-  pub lacks : held words (pair .n) i ≡ 0
-  pub kept : spreadIn (getD profiles i 0) ≤ domainsUsed p (shifted (wordOf words i) (pair .m) (pair .n))
-  pub back : Return p words profiles (reversed pair) (shareIn (getD profiles i 0)) j
-  pub i-free : (linkedTo (getD profiles i 0) i ≡ j → ⊥) → Free words profiles i (pair .n)
-  pub j-free : (linkedTo (getD profiles j 0) j ≡ i → ⊥) → Free words profiles j (pair .m)
+pub record Exchange (p : Plan) (words profiles : List ℕ) (route : Route) (i j : ℕ) : Type 0 where
+  pub holds : held words (route .m) i ≡ 1
+  pub lacks : held words (route .n) i ≡ 0
+  pub kept : spreadIn (getD profiles i 0) ≤ domainsUsed p (shifted (wordOf words i) (route .m) (route .n))
+  pub back : Return p words profiles (reversed route) (shareIn (getD profiles i 0)) j
+  pub i-free : (linkedTo (getD profiles i 0) i ≡ j → ⊥) → Free words profiles i (route .n)
+  pub j-free : (linkedTo (getD profiles j 0) j ≡ i → ⊥) → Free words profiles j (route .m)
 
 module _ (p : Plan) (count : ℕ → ℕ) (c : Cluster) (words profiles : List ℕ) (of : PlacementOf p count c words profiles)
-    (pair : Pair) (i j : ℕ) (x : Exchange p words profiles pair i j) where
+    (route : Route) (i j : ℕ) (x : Exchange p words profiles route i j) where
   -- where i's partner is not on n, j's is not on m
-  pub exchange-free : i < c .blocks → j < c .blocks → Free words profiles i (pair .n)
-      → FreeReturn p words profiles (reversed pair) (shareIn (getD profiles i 0)) j
+  pub exchange-free : i < c .blocks → j < c .blocks → Free words profiles i (route .n)
+      → FreeReturn p words profiles (reversed route) (shareIn (getD profiles i 0)) j
   exchange-free il jl free =
       record {
         back = x .back;
         free = x .j-free (λ e.
-            let back = ap (λ (k : ℕ). held words (pair .n) k) (linked-back p count c words profiles of j i jl il e) in
+            let back = ap (λ (k : ℕ). held words (route .n) k) (linked-back p count c words profiles of j i jl il e) in
             omega (arith, back, free, x .back .holds));
       }
 
   -- where it is, it is j
-  pub exchange-own : (Free words profiles i (pair .n) → ⊥) → linkedTo (getD profiles i 0) i ≡ j
+  pub exchange-own : (Free words profiles i (route .n) → ⊥) → linkedTo (getD profiles i 0) i ≡ j
   exchange-own bound = elim (ℕ-discrete (linkedTo (getD profiles i 0) i) j) [
     | yes e ↦ e
     | no other ↦ absurd (bound (x .i-free other))
   ]
 
-module _ (p : Plan) (count : ℕ → ℕ) (c : Cluster) (words profiles : List ℕ) (pair : Pair)
-    (scene : PairScene p count c words profiles pair) (pair-in : PairIn c pair) where
+module _ (p : Plan) (count : ℕ → ℕ) (c : Cluster) (words profiles : List ℕ) (route : Route)
+    (scene : RouteScene p count c words profiles route) (route-in : RouteIn c route) where
   share-is : (i : ℕ) → i < c .blocks → shareIn (getD profiles i 0) ≡ shareOf p words i
   share-is = placement-share p count c words profiles (scene .placement)
 
@@ -313,19 +313,19 @@ module _ (p : Plan) (count : ℕ → ℕ) (c : Cluster) (words profiles : List �
   in-plan : (i : ℕ) → i < c .blocks → i < blockCount p
   in-plan = placement-block p count c words profiles (scene .placement)
 
-  m-in : pair .m < machines p
-  m-in = placement-machine p count c words profiles (scene .placement) (pair .m) (pair-in .m-below)
+  m-in : route .m < machines p
+  m-in = placement-machine p count c words profiles (scene .placement) (route .m) (route-in .m-below)
 
-  n-in : pair .n < machines p
-  n-in = placement-machine p count c words profiles (scene .placement) (pair .n) (pair-in .n-below)
+  n-in : route .n < machines p
+  n-in = placement-machine p count c words profiles (scene .placement) (route .n) (route-in .n-below)
 
   abbrev of : PlacementOf p count c words profiles
   of = scene .placement
 
   module _ (i : ℕ) (il : i < c .blocks) where
-    local-move : (canMove p words (pair .m) (pair .n) i ≡ true) ↔ LocalMove p words (pair .m) (pair .n) i
+    local-move : (canMove p words (route .m) (route .n) i ≡ true) ↔ LocalMove p words (route .m) (route .n) i
     local-move =
-        canMove-local p (shaped p count c words profiles of) count words (of .feasible) (pair .m) (pair .n) i m-in n-in (in-plan i il)
+        canMove-local p (shaped p count c words profiles of) count words (of .feasible) (route .m) (route .n) i m-in n-in (in-plan i il)
 
     linked-is : isPaired p i ≡ true → linkedTo (getD profiles i 0) i ≡ partner p i
     linked-is = linked-paired p count c words profiles of i il
@@ -335,16 +335,16 @@ module _ (p : Plan) (count : ℕ → ℕ) (c : Cluster) (words profiles : List �
     free-paired n off apart = linked-all p count c words profiles of i il (λ k. held words n k ≡ 0) apart off
 
     -- the definition's move of a candidate, where n has room, told by the local tests
-    pub move-told : held words (pair .m) i ≡ 1 → held words (pair .n) i ≡ 0 → used p words (pair .n) < p .capacity
-        → (canMove p words (pair .m) (pair .n) i ≡ true)
-        ↔ (Passable p pair (wordOf words i) (spreadIn (getD profiles i 0)) (shareIn (getD profiles i 0)) 0 × Free words profiles i (pair .n))
+    pub move-told : held words (route .m) i ≡ 1 → held words (route .n) i ≡ 0 → used p words (route .n) < p .capacity
+        → (canMove p words (route .m) (route .n) i ≡ true)
+        ↔ (Passable p route (wordOf words i) (spreadIn (getD profiles i 0)) (shareIn (getD profiles i 0)) 0 × Free words profiles i (route .n))
     move-told holds lacks room =
         let share = share-is i il in
         let spread = spread-is i il in (
           λ e.
               let s = local-move .0 e in (
                 rw (share, spread) (record { in-margin = scene .margin-is _ _ .0 (s .lowers); spread-kept = s .spread }),
-                free-paired (pair .n) lacks (s .apart),
+                free-paired (route .n) lacks (s .apart),
               ),
           λ t.
               let test = rw (share, spread) at (t .0) in
@@ -361,13 +361,13 @@ module _ (p : Plan) (count : ℕ → ℕ) (c : Cluster) (words profiles : List �
 
     -- its exchange for j
     pub swap-exchange : (j : ℕ) → j < c .blocks
-        → (canSwap p words (pair .m) (pair .n) i j ≡ true) ↔ Exchange p words profiles pair i j
+        → (canSwap p words (route .m) (route .n) i j ≡ true) ↔ Exchange p words profiles route i j
     swap-exchange j jl =
         let local =
-        canSwap-local p (shaped p count c words profiles of) count words (of .feasible) (pair .m) (pair .n) i j m-in n-in (in-plan i il) (in-plan j jl)
+        canSwap-local p (shaped p count c words profiles of) count words (of .feasible) (route .m) (route .n) i j m-in n-in (in-plan i il) (in-plan j jl)
         in
-        let margin : Lowers p words (pair .m) (pair .n) (shareOf p words i) (shareOf p words j)
-        ↔ InMargin (pair .margin) (shareIn (getD profiles i 0)) (shareIn (getD profiles j 0)) =
+        let margin : Lowers p words (route .m) (route .n) (shareOf p words i) (shareOf p words j)
+        ↔ InMargin (route .margin) (shareIn (getD profiles i 0)) (shareIn (getD profiles j 0)) =
         rw (share-is i il, share-is j jl) (scene .margin-is _ _)
         in (
           λ e.
@@ -382,8 +382,8 @@ module _ (p : Plan) (count : ℕ → ℕ) (c : Cluster) (words profiles : List �
                       lacks = s .j-off;
                       test = record { in-margin = margin .0 (s .lowers); spread-kept = rw (spread-is j jl) (s .j-spread) };
                     };
-                i-free = λ other. free-paired (pair .n) (s .i-off) (λ own. s .i-apart own (λ q. other (linked-is own ∙ q)));
-                j-free = λ other. linked-all p count c words profiles of j jl (λ k. held words (pair .m) k ≡ 0)
+                i-free = λ other. free-paired (route .n) (s .i-off) (λ own. s .i-apart own (λ q. other (linked-is own ∙ q)));
+                j-free = λ other. linked-all p count c words profiles of j jl (λ k. held words (route .m) k ≡ 0)
                     (λ own. s .j-apart own (λ q. other (linked-paired p count c words profiles of j jl own ∙ q))) (s .j-off);
               },
           λ t. local .1
@@ -402,10 +402,10 @@ module _ (p : Plan) (count : ℕ → ℕ) (c : Cluster) (words profiles : List �
         )
 
     -- a block that is no candidate takes part in no step
-    pub blockStep-others : (swapping : Bool) → (held words (pair .m) i ≡ 1 → held words (pair .n) i ≡ 0 → ⊥)
-        → isStep (blockStep p words swapping (pair .across) (pair .m) (pair .n) i) ≡ false
+    pub blockStep-others : (swapping : Bool) → (held words (route .m) i ≡ 1 → held words (route .n) i ≡ 0 → ⊥)
+        → isStep (blockStep p words swapping (route .across) (route .m) (route .n) i) ≡ false
     blockStep-others swapping other =
-        ap isStep (blockStep-none p words (pair .across) (pair .m) (pair .n) i swapping
+        ap isStep (blockStep-none p words (route .across) (route .m) (route .n) i swapping
         (λ e. not-so _ (λ t. let s = local-move .0 t in other (s .on) (s .off)))
         (λ e j l. not-so _ (λ t.
         let s = swap-exchange j (rw (cluster-blocks p c (scene .placement .profiles-of .cluster)) l) .0 t in

@@ -4,12 +4,12 @@ use cluster::Cluster;
 use index::BY_NUMBER;
 use index::BY_RANK;
 use index::KEYS_AT;
-use index::Pair;
+use index::Route;
 ghost use mathlib.Core.Path.{_≡_};
 ghost use mathlib.Core.Bool.{Bool};
 ghost use Rattle.model.specs.Steps.{isStep};
 ghost use Rattle.cluster.specs.Blocks.{shareIn, spreadIn};
-ghost use Rattle.transfers.specs.Pair.{hitOf, pairStep, blockStep, BlockAsked, KeepsOf, PassableOf, FreeAsked, FreeOf, SharesAsked, NoReturn, ReturnAsked, ReturnOf, PairAsked, ReturnFound, OwnAsked, OwnFound, CandidateAsked, ExchangeFound, HitOf};
+ghost use Rattle.transfers.specs.Route.{hitOf, routeStep, blockStep, BlockAsked, KeepsOf, PassableOf, FreeAsked, FreeOf, SharesAsked, NoReturn, ReturnAsked, ReturnOf, RouteAsked, ReturnFound, OwnAsked, OwnFound, CandidateAsked, ExchangeFound, HitOf};
 
 // Block i from m to n, or that and block j from n to m.
 pub enum Hit {
@@ -44,49 +44,49 @@ pub fn is_found(hit: Hit) -> bool
 }
 
 // Whether a block still lies in as many racks as its spread once its copy on m is on n.
-fn keeps(word: u64, profile: u64, cluster: Cluster, pair: Pair) -> bool
-    requires { ⌜ BlockAsked cluster pair word profile ⌝ }
-    ensures { λ r. ⌜ KeepsOf cluster pair word (spreadIn profile) r ⌝ }
+fn keeps(word: u64, profile: u64, cluster: Cluster, route: Route) -> bool
+    requires { ⌜ BlockAsked cluster route word profile ⌝ }
+    ensures { λ r. ⌜ KeepsOf cluster route word (spreadIn profile) r ⌝ }
 {
-    if !pair.across {
+    if !route.across {
         return true;
     }
     let spread = cluster::spread_of(profile);
     if spread <= 1 {
         return true;
     }
-    let moved = bits::shift_bit(word, pair.m, pair.n);
+    let moved = bits::shift_bit(word, route.m, route.n);
     spread <= bits::groups_used(moved, cluster.racks, cluster.rack_size)
 }
 
 // Whether a block can move from m to n.
-fn movable(word: u64, profile: u64, cluster: Cluster, pair: Pair) -> bool
-    requires { ⌜ BlockAsked cluster pair word profile ⌝ }
-    ensures { λ r. ⌜ PassableOf cluster pair word (spreadIn profile) (shareIn profile) 0 r ⌝ }
+fn movable(word: u64, profile: u64, cluster: Cluster, route: Route) -> bool
+    requires { ⌜ BlockAsked cluster route word profile ⌝ }
+    ensures { λ r. ⌜ PassableOf cluster route word (spreadIn profile) (shareIn profile) 0 r ⌝ }
 {
     let share = cluster::share_of(profile);
     if share == 0 {
         return false;
     }
-    if pair.margin <= share {
+    if route.margin <= share {
         return false;
     }
-    keeps(word, profile, cluster, pair)
+    keeps(word, profile, cluster, route)
 }
 
 // Whether a block can go from m to n in return for one of the share `given`.
-fn returnable(word: u64, profile: u64, cluster: Cluster, pair: Pair, given: u64) -> bool
-    requires { ⌜ BlockAsked cluster pair word profile ⌝ }
-    ensures { λ r. ⌜ PassableOf cluster pair word (spreadIn profile) given (shareIn profile) r ⌝ }
+fn returnable(word: u64, profile: u64, cluster: Cluster, route: Route, given: u64) -> bool
+    requires { ⌜ BlockAsked cluster route word profile ⌝ }
+    ensures { λ r. ⌜ PassableOf cluster route word (spreadIn profile) given (shareIn profile) r ⌝ }
 {
     let share = cluster::share_of(profile);
     if given <= share {
         return false;
     }
-    if pair.margin + share <= given {
+    if route.margin + share <= given {
         return false;
     }
-    keeps(word, profile, cluster, pair)
+    keeps(word, profile, cluster, route)
 }
 
 // Whether n does not hold the block that block i is linked to: its partner, or i itself where it has none.
@@ -100,15 +100,15 @@ fn is_free(words: &[u64], profiles: &[u64], cluster: Cluster, i: usize, n: usize
 
 // Whether a block of m's that n lacks may go to n in return for one of the share `given`, as far as the shares tell; where it says no,
 // none can.
-fn may_return(index: &[u64], cluster: Cluster, pair: Pair, given: u64) -> bool
-    requires { ⌜ SharesAsked cluster (now index) pair ⌝ }
-    ensures { λ r. ⌜ (r ≡ Bool.false → NoReturn cluster (now (index .entry)) pair given) ⌝ }
+fn may_return(index: &[u64], cluster: Cluster, route: Route, given: u64) -> bool
+    requires { ⌜ SharesAsked cluster (now index) route ⌝ }
+    ensures { λ r. ⌜ (r ≡ Bool.false → NoReturn cluster (now (index .entry)) route given) ⌝ }
 {
-    if given < pair.margin {
+    if given < route.margin {
         return true;
     }
-    let from = index::first_above(index, given - pair.margin, cluster);
-    let rank = index::next(index, BY_RANK, pair.m, pair.n, from, cluster);
+    let from = index::first_above(index, given - route.margin, cluster);
+    let rank = index::next(index, BY_RANK, route.m, route.n, from, cluster);
     if cluster.blocks <= rank {
         return false;
     }
@@ -120,17 +120,17 @@ fn can_return(
     words: &[u64],
     profiles: &[u64],
     cluster: Cluster,
-    pair: Pair,
+    route: Route,
     given: u64,
     j: usize,
 ) -> bool
-    requires { ⌜ ReturnAsked cluster (now words) (now profiles) pair j ⌝ }
-    ensures { λ r. ⌜ ReturnOf cluster (now (words .entry)) (now (profiles .entry)) pair given j r ⌝ }
+    requires { ⌜ ReturnAsked cluster (now words) (now profiles) route j ⌝ }
+    ensures { λ r. ⌜ ReturnOf cluster (now (words .entry)) (now (profiles .entry)) route given j r ⌝ }
 {
-    if !returnable(words[j], profiles[j], cluster, pair, given) {
+    if !returnable(words[j], profiles[j], cluster, route, given) {
         return false;
     }
-    is_free(words, profiles, cluster, j, pair.n)
+    is_free(words, profiles, cluster, j, route.n)
 }
 
 // The first block of m's that can go to n in return for one of the share `given`; past the last block where there is none.
@@ -139,21 +139,21 @@ fn first_return(
     profiles: &[u64],
     index: &[u64],
     cluster: Cluster,
-    pair: Pair,
+    route: Route,
     given: u64,
 ) -> usize
-    requires { ⌜ PairAsked cluster (now words) (now profiles) (now index) pair ⌝ }
-    ensures { λ r. ⌜ ReturnFound cluster (now (words .entry)) (now (profiles .entry)) pair given r ⌝ }
+    requires { ⌜ RouteAsked cluster (now words) (now profiles) (now index) route ⌝ }
+    ensures { λ r. ⌜ ReturnFound cluster (now (words .entry)) (now (profiles .entry)) route given r ⌝ }
 {
-    if !may_return(index, cluster, pair, given) {
+    if !may_return(index, cluster, route, given) {
         return cluster.blocks;
     }
-    let mut j = index::next(index, BY_NUMBER, pair.m, pair.n, 0, cluster);
+    let mut j = index::next(index, BY_NUMBER, route.m, route.n, 0, cluster);
     while j < cluster.blocks {
-        if can_return(words, profiles, cluster, pair, given, j) {
+        if can_return(words, profiles, cluster, route, given, j) {
             return j;
         }
-        j = index::next(index, BY_NUMBER, pair.m, pair.n, j + 1, cluster);
+        j = index::next(index, BY_NUMBER, route.m, route.n, j + 1, cluster);
     }
     j
 }
@@ -163,18 +163,18 @@ fn own_return(
     words: &[u64],
     profiles: &[u64],
     cluster: Cluster,
-    pair: Pair,
+    route: Route,
     given: u64,
     i: usize,
 ) -> usize
-    requires { ⌜ OwnAsked cluster (now words) (now profiles) pair i ⌝ }
-    ensures { λ r. ⌜ OwnFound cluster (now (words .entry)) (now (profiles .entry)) pair given i r ⌝ }
+    requires { ⌜ OwnAsked cluster (now words) (now profiles) route i ⌝ }
+    ensures { λ r. ⌜ OwnFound cluster (now (words .entry)) (now (profiles .entry)) route given i r ⌝ }
 {
     let k = cluster::linked_to(profiles[i], i);
-    if bits::bit_at(words[k], pair.n) == 1 {
+    if bits::bit_at(words[k], route.n) == 1 {
         return cluster.blocks;
     }
-    if returnable(words[k], profiles[k], cluster, pair, given) {
+    if returnable(words[k], profiles[k], cluster, route, given) {
         return k;
     }
     cluster.blocks
@@ -186,26 +186,26 @@ fn first_exchange(
     profiles: &[u64],
     index: &[u64],
     cluster: Cluster,
-    pair: Pair,
+    route: Route,
     i: usize,
 ) -> usize
-    requires { ⌜ CandidateAsked cluster (now words) (now profiles) (now index) pair i ⌝ }
-    ensures { λ r. ⌜ ExchangeFound cluster (now (words .entry)) (now (profiles .entry)) pair i r ⌝ }
+    requires { ⌜ CandidateAsked cluster (now words) (now profiles) (now index) route i ⌝ }
+    ensures { λ r. ⌜ ExchangeFound cluster (now (words .entry)) (now (profiles .entry)) route i r ⌝ }
 {
     let given = cluster::share_of(profiles[i]);
     if given == 0 {
         return cluster.blocks;
     }
-    if !keeps(words[i], profiles[i], cluster, pair) {
+    if !keeps(words[i], profiles[i], cluster, route) {
         return cluster.blocks;
     }
-    let back = Pair {
-        across: pair.across,
-        m: pair.n,
-        n: pair.m,
-        margin: pair.margin,
+    let back = Route {
+        across: route.across,
+        m: route.n,
+        n: route.m,
+        margin: route.margin,
     };
-    if is_free(words, profiles, cluster, i, pair.n) {
+    if is_free(words, profiles, cluster, i, route.n) {
         return first_return(words, profiles, index, cluster, back, given);
     }
     own_return(words, profiles, cluster, back, given, i)
@@ -217,24 +217,24 @@ fn find_at(
     profiles: &[u64],
     index: &[u64],
     cluster: Cluster,
-    pair: Pair,
+    route: Route,
     swapping: bool,
     i: usize,
 ) -> Hit
-    requires { ⌜ CandidateAsked cluster (now words) (now profiles) (now index) pair i ⌝ }
-    ensures { λ r. ⌜ HitOf cluster (now (words .entry)) (now (profiles .entry)) pair swapping
-        (λ p. blockStep p (now (words .entry)) swapping (pair .across) (pair .m) (pair .n) i) r ⌝ }
+    requires { ⌜ CandidateAsked cluster (now words) (now profiles) (now index) route i ⌝ }
+    ensures { λ r. ⌜ HitOf cluster (now (words .entry)) (now (profiles .entry)) route swapping
+        (λ p. blockStep p (now (words .entry)) swapping (route .across) (route .m) (route .n) i) r ⌝ }
 {
-    let m = pair.m;
-    let n = pair.n;
+    let m = route.m;
+    let n = route.n;
     if swapping {
-        let j = first_exchange(words, profiles, index, cluster, pair, i);
+        let j = first_exchange(words, profiles, index, cluster, route, i);
         if j < cluster.blocks {
             return Hit::Swap { m, n, i, j };
         }
         return Hit::Nothing;
     }
-    if !movable(words[i], profiles[i], cluster, pair) {
+    if !movable(words[i], profiles[i], cluster, route) {
         return Hit::Nothing;
     }
     if !is_free(words, profiles, cluster, i, n) {
@@ -249,20 +249,20 @@ pub fn find(
     profiles: &[u64],
     index: &[u64],
     cluster: Cluster,
-    pair: Pair,
+    route: Route,
     swapping: bool,
 ) -> Hit
-    requires { ⌜ PairAsked cluster (now words) (now profiles) (now index) pair ⌝ }
-    ensures { λ r. ⌜ HitOf cluster (now (words .entry)) (now (profiles .entry)) pair swapping
-        (λ p. pairStep p (now (words .entry)) swapping (pair .across) (pair .m) (pair .n)) r ⌝ }
+    requires { ⌜ RouteAsked cluster (now words) (now profiles) (now index) route ⌝ }
+    ensures { λ r. ⌜ HitOf cluster (now (words .entry)) (now (profiles .entry)) route swapping
+        (λ p. routeStep p (now (words .entry)) swapping (route .across) (route .m) (route .n)) r ⌝ }
 {
-    let mut i = index::next(index, BY_NUMBER, pair.m, pair.n, 0, cluster);
+    let mut i = index::next(index, BY_NUMBER, route.m, route.n, 0, cluster);
     while i < cluster.blocks {
-        let hit = find_at(words, profiles, index, cluster, pair, swapping, i);
+        let hit = find_at(words, profiles, index, cluster, route, swapping, i);
         if is_found(hit) {
             return hit;
         }
-        i = index::next(index, BY_NUMBER, pair.m, pair.n, i + 1, cluster);
+        i = index::next(index, BY_NUMBER, route.m, route.n, i + 1, cluster);
     }
     Hit::Nothing
 }

@@ -39,9 +39,9 @@ stays : (p : Plan) (c : Cluster) (demands : List ℕ) → DemandsOf p c demands 
 stays p c demands of i wanted r next l found less =
     let block = cluster-block p c (of .cluster) i l in
     let here = need-of p c demands of i wanted r l found in
-    let lawful = rw (here .0) at (here .1) in
+    let in-upper = rw (here .0) at (here .1) in
     let less-here = rw (demands-popularity p c demands of i l, demands-least p c demands of i l, here .0) at less in
-    (lawful, λ f from end. need-same p i block wanted f from lawful (λ more. omega (arith, less-here more)))
+    (in-upper, λ f from end. need-same p i block wanted f from in-upper (λ more. omega (arith, less-here more)))
 
 abbrev Inv-loop : tie.InvT-loop
 Inv-loop demands cluster wanted quotients scale total₀ top₀ next₀ i₀ total top next i =
@@ -187,7 +187,7 @@ returns c =
           record {
             total-is = passed .0;
             top-is = passed .1;
-            lawful = λ i l. passed .2 i l .0;
+            in-upper = λ i l. passed .2 i l .0;
             same = λ f from below i l. passed .2 i l .1 f from below;
           },
     )

@@ -9,23 +9,23 @@ use native.Mathlib.Omega.{arith}
 use borrow.Author.Needs.{needs}
 use borrow.Author.Tests.{leb-true}
 use Rattle.cluster.specs.declared.Cluster.{Cluster}
-use Rattle.index.specs.declared.Pair.{Pair}
+use Rattle.index.specs.declared.Route.{Route}
 use Rattle.index.specs.Index.{byRank, shareAt, NextAsked}
 use Rattle.screen.specs.Screen.{ScreenAsked, rankedOn, Alone}
 use Rattle.screen.proofs.no_move.Statement.{statement}
 use Rattle.screen.proofs.no_move.Tie as tie
 
 abbrev Inv-loop : tie.InvT-loop
-Inv-loop index cluster pair k₀ k =
-    (x : ℕ) → x < k → x < cluster .blocks → Alone (rankedOn index (pair .m)) (rankedOn index (pair .n)) x → shareAt index x ≡ 0
+Inv-loop index cluster route k₀ k =
+    (x : ℕ) → x < k → x < cluster .blocks → Alone (rankedOn index (route .m)) (rankedOn index (route .n)) x → shareAt index x ≡ 0
 
 abbrev μ-loop : tie.MeasureT-loop
-μ-loop index cluster pair k₀ k = cluster .blocks - k
+μ-loop index cluster route k₀ k = cluster .blocks - k
 
 -- a search by rank from a place among the blocks
-asked-from : (c : Cluster) (index : List ℕ) (pair : Pair) → ScreenAsked c index pair → (from : ℕ) → from ≤ c .blocks
-    → NextAsked index byRank (pair .m) (pair .n) from c
-asked-from c index pair asked from l =
+asked-from : (c : Cluster) (index : List ℕ) (route : Route) → ScreenAsked c index route → (from : ℕ) → from ≤ c .blocks
+    → NextAsked index byRank (route .m) (route .n) from c
+asked-from c index route asked from l =
     record {
       sized = asked .sized;
       part-max = omega arith;
@@ -61,7 +61,7 @@ returns c ruled x h alone positive =
     let called = c .before .before in
     let at = called .before .before .before .before in
     let start = at .before .before .before in
-    let less = leb-true (start .args .pair .margin) (called .share-of .result) ruled in
+    let less = leb-true (start .args .route .margin) (called .share-of .result) ruled in
     elim (decLt x (at .loop .k)) [
       | yes m ↦ absurd (omega (arith, at .loop .inv x m h alone))
       | no m ↦ omega (arith, less, called .share-of .ensures, start .pre .rising (at .loop .k) x (omega arith) h)

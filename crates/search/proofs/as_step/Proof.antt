@@ -1,6 +1,6 @@
 -- `search::as_step` meets its contract, variant by variant.
 -- Assumes nothing.
-use Rattle.transfers.specs.Pair.{hitOf}
+use Rattle.transfers.specs.Route.{hitOf}
 use Rattle.search.specs.Scene.{stepOf}
 use borrow.Author.Needs.{needs}
 use Rattle.search.proofs.as_step.Statement.{statement}

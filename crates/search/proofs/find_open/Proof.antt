@@ -1,8 +1,8 @@
--- `search::find_open` meets its contract: where the screen rules out the pair, the definition finds nothing.
+-- `search::find_open` meets its contract: where the screen rules out the route, the definition finds nothing.
 -- Assumes nothing.
 use borrow.Author.Needs.{needs}
-use Rattle.transfers.specs.Pair.{hitOf}
-use Rattle.search.proofs.Pairs.{pairStep-ruled}
+use Rattle.transfers.specs.Route.{hitOf}
+use Rattle.search.proofs.Routes.{routeStep-ruled}
 use Rattle.search.proofs.find_open.Statement.{statement}
 use Rattle.search.proofs.find_open.Tie as tie
 
@@ -16,7 +16,7 @@ returns c =
     record {
       sound = tt;
       is = λ p count scene room.
-          pairStep-ruled (start .pre) p count scene (start .args .swapping) (c .before .rules-out .ensures (c .if1 .taken));
+          routeStep-ruled (start .pre) p count scene (start .args .swapping) (c .before .rules-out .ensures (c .if1 .taken));
     }
 
 find-requires : tie.Need-find-requires

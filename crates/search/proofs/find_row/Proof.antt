@@ -5,14 +5,14 @@ use Prim.Native.Nat.{_-_}
 use native.Mathlib.Omega.{arith}
 use borrow.Author.Needs.{needs}
 use Rattle.cluster.specs.Cluster.{machinesIn}
-use Rattle.search.specs.Scene.{pairOf, rowOf}
+use Rattle.search.specs.Scene.{routeOf, rowOf}
 use Rattle.search.proofs.Loops.{Passed, passed-first, passed-more, passed-found, passed-all}
 use Rattle.search.proofs.find_row.Statement.{statement}
 use Rattle.search.proofs.find_row.Tie as tie
 
 abbrev Inv-loop : tie.InvT-loop
 Inv-loop words profiles index loads copies cluster row machines n₀ n =
-    Passed cluster words profiles (λ p. pairOf p words (row .swapping) (row .across) (row .m)) n
+    Passed cluster words profiles (λ p. routeOf p words (row .swapping) (row .across) (row .m)) n
 
 abbrev μ-loop : tie.MeasureT-loop
 μ-loop words profiles index loads copies cluster row machines n₀ n = machinesIn cluster - n
@@ -23,8 +23,8 @@ machines-requires c κs = c .before .before .before .before .before .pre .all .f
 loop-holds : tie.Need-loop-holds Inv-loop μ-loop
 loop-holds c = passed-first
 
-find-pair-requires : tie.Need-find-pair-requires Inv-loop μ-loop
-find-pair-requires c κs =
+find-route-requires : tie.Need-find-route-requires Inv-loop μ-loop
+find-route-requires c κs =
     let start = c .before .before .before .before .before .before .before .before in
     record {
       all = start .pre .all;
@@ -38,7 +38,7 @@ is-found-requires c κs = search needs
 returns : tie.Need-returns Inv-loop μ-loop
 unfolding rowOf
 returns c =
-    passed-found (c .before .before .before .before .loop .inv) (omega (arith, c .before .before .before .before .before .machines .ensures, c .before .before .before .loop-test .taken)) (c .before .before .find-pair .ensures)
+    passed-found (c .before .before .before .before .loop .inv) (omega (arith, c .before .before .before .before .before .machines .ensures, c .before .before .before .loop-test .taken)) (c .before .before .find-route .ensures)
     (c .before .is-found .ensures _ ∙ c .if1 .taken)
 
 add-n : tie.Need-add-n Inv-loop μ-loop
@@ -49,7 +49,7 @@ loop-less c = omega (arith, c .before .before .before .before .before .machines 
 
 loop-again : tie.Need-loop-again Inv-loop μ-loop
 loop-again c =
-    passed-more (c .before .before .before .before .loop .inv) (omega (arith, c .before .before .before .before .before .machines .ensures, c .before .before .before .loop-test .taken)) (c .before .before .find-pair .ensures)
+    passed-more (c .before .before .before .before .loop .inv) (omega (arith, c .before .before .before .before .before .machines .ensures, c .before .before .before .loop-test .taken)) (c .before .before .find-route .ensures)
     (c .before .is-found .ensures _ ∙ c .if1 .left)
 
 returns-2 : tie.Need-returns-2 Inv-loop μ-loop
@@ -64,7 +64,7 @@ find-row-spec =
     μ-loop
     machines-requires
     loop-holds
-    find-pair-requires
+    find-route-requires
     is-found-requires
     returns
     add-n

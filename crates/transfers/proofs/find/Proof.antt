@@ -10,30 +10,30 @@ use Rattle.model.specs.Placement.{held}
 use Rattle.model.specs.Steps.{isStep}
 use Rattle.cluster.specs.declared.Cluster.{Cluster}
 use Rattle.cluster.proofs.Laws.{cluster-blocks, placement-block}
-use Rattle.index.specs.declared.Pair.{Pair}
-use Rattle.transfers.specs.Pair.{hitOf, blockStep, PairIn, PairScene, HasRoom}
-use Rattle.transfers.proofs.Laws.{Passed, passed-first, passed-next, passed-candidate, pairStep-found, pairStep-none, blockStep-others}
+use Rattle.index.specs.declared.Route.{Route}
+use Rattle.transfers.specs.Route.{hitOf, blockStep, RouteIn, RouteScene, HasRoom}
+use Rattle.transfers.proofs.Laws.{Passed, passed-first, passed-next, passed-candidate, routeStep-found, routeStep-none, blockStep-others}
 use borrow.Author.Needs.{needs}
 use Rattle.transfers.proofs.find.Statement.{statement}
 use Rattle.transfers.proofs.find.Tie as tie
 
 -- there is no step at block k
-abbrev Fails : Cluster → List ℕ → List ℕ → Pair → Bool → ℕ → Type 0
-Fails cluster words profiles pair swapping k =
-    (p : Plan) (count : ℕ → ℕ) → PairScene p count cluster words profiles pair → HasRoom p words swapping (pair .n)
-    → isStep (blockStep p words swapping (pair .across) (pair .m) (pair .n) k) ≡ false
+abbrev Fails : Cluster → List ℕ → List ℕ → Route → Bool → ℕ → Type 0
+Fails cluster words profiles route swapping k =
+    (p : Plan) (count : ℕ → ℕ) → RouteScene p count cluster words profiles route → HasRoom p words swapping (route .n)
+    → isStep (blockStep p words swapping (route .across) (route .m) (route .n) k) ≡ false
 
 -- nor at one that is no candidate
-others : {cluster : Cluster} {words profiles : List ℕ} {pair : Pair} {swapping : Bool} → PairIn cluster pair
-    → (k : ℕ) → k < cluster .blocks → (held words (pair .m) k ≡ 1 → held words (pair .n) k ≡ 0 → ⊥)
-    → Fails cluster words profiles pair swapping k
-others pair-in k l other p count scene room = blockStep-others p count _ _ _ _ scene pair-in k l _ other
+others : {cluster : Cluster} {words profiles : List ℕ} {route : Route} {swapping : Bool} → RouteIn cluster route
+    → (k : ℕ) → k < cluster .blocks → (held words (route .m) k ≡ 1 → held words (route .n) k ≡ 0 → ⊥)
+    → Fails cluster words profiles route swapping k
+others route-in k l other p count scene room = blockStep-others p count _ _ _ _ scene route-in k l _ other
 
 abbrev Inv-loop : tie.InvT-loop
-Inv-loop words profiles index cluster pair swapping i₀ i = Passed cluster words pair (Fails cluster words profiles pair swapping) i
+Inv-loop words profiles index cluster route swapping i₀ i = Passed cluster words route (Fails cluster words profiles route swapping) i
 
 abbrev μ-loop : tie.MeasureT-loop
-μ-loop words profiles index cluster pair swapping i₀ i = cluster .blocks - i
+μ-loop words profiles index cluster route swapping i₀ i = cluster .blocks - i
 
 next-requires : tie.Need-next-requires Inv-loop μ-loop
 next-requires c κs = search needs
@@ -41,7 +41,7 @@ next-requires c κs = search needs
 loop-holds : tie.Need-loop-holds Inv-loop μ-loop
 loop-holds c =
     let asked = c .before .before .before .before .pre in
-    passed-first asked (others (asked .pair-in)) (c .next .ensures)
+    passed-first asked (others (asked .route-in)) (c .next .ensures)
 
 find-at-requires : tie.Need-find-at-requires Inv-loop μ-loop
 find-at-requires c κs =
@@ -56,15 +56,15 @@ returns : tie.Need-returns Inv-loop μ-loop
 returns c =
     let at = c .before .before .before .before .before in
     let below = c .before .before .before .if1 .taken in
-    let pair = at .before .before .before .before .before .args .pair in
+    let route = at .before .before .before .before .before .args .route in
     let hit = c .before .before .find-at in
     record {
       sound = hit .ensures .sound;
       is = λ p count scene room.
-          pairStep-found p _ _ _ _ _ (at .loop .i) (hitOf (pair .across) (hit .result))
+          routeStep-found p _ _ _ _ _ (at .loop .i) (hitOf (route .across) (hit .result))
           (placement-block p count _ _ _ (scene .placement) (at .loop .i) below)
           (λ k l. at .loop .inv .before k l (omega arith) p count scene room)
-          (hit .ensures .is p count scene room) (c .before .is-found .ensures (pair .across) ∙ c .if2 .taken);
+          (hit .ensures .is p count scene room) (c .before .is-found .ensures (route .across) ∙ c .if2 .taken);
     }
 
 add-next : tie.Need-add-next Inv-loop μ-loop
@@ -81,10 +81,10 @@ loop-again c =
     let at = c .before .before .before .before .before .before in
     let start = at .before .before .before .before .before in
     let asked = start .pre in
-    passed-next asked (others (asked .pair-in)) (at .loop .inv)
+    passed-next asked (others (asked .route-in)) (at .loop .inv)
     (λ p count scene room.
     rw (c .before .before .before .find-at .ensures .is p count scene room)
-    at (c .before .before .is-found .ensures (start .args .pair .across) ∙ c .before .if2 .left))
+    at (c .before .before .is-found .ensures (start .args .route .across) ∙ c .before .if2 .left))
     (c .next2 .ensures)
 
 returns-2 : tie.Need-returns-2 Inv-loop μ-loop
@@ -95,7 +95,7 @@ returns-2 c =
       sound = tt;
       is = λ p count scene room.
           let blocks = cluster-blocks p _ (scene .placement .profiles-of .cluster) in
-          pairStep-none p _ _ _ _ _ (λ k l. at .loop .inv .before k (omega arith) (omega arith) p count scene room);
+          routeStep-none p _ _ _ _ _ (λ k l. at .loop .inv .before k (omega arith) (omega arith) p count scene room);
     }
 
 pub find-spec : {M : Type 1} → statement M

@@ -5,7 +5,7 @@ use native.Mathlib.Omega.{arith}
 use borrow.Author.Tests.{not-true, not-false}
 use Rattle.order.proofs.Booleans.{no-contradiction, not-so}
 use Rattle.cluster.proofs.Laws.{cluster-blocks, placement-block}
-use Rattle.transfers.specs.Pair.{hitOf}
+use Rattle.transfers.specs.Route.{hitOf}
 use Rattle.transfers.proofs.Laws.{candidate-block, candidate-shift, blockStep-none, blockStep-move, blockStep-swap, lies-at, move-told}
 use borrow.Author.Needs.{needs}
 use Rattle.transfers.proofs.find_at.Statement.{statement}
@@ -26,8 +26,8 @@ returns c =
       sound = (
         candidate-shift asked,
         record {
-          m-below = asked .asked .pair-in .n-below;
-          n-below = asked .asked .pair-in .m-below;
+          m-below = asked .asked .route-in .n-below;
+          n-below = asked .asked .route-in .m-below;
           i-below = jl;
           holds = found .holds jl;
           lacks = found .lacks jl;
@@ -77,7 +77,7 @@ returns-3 c =
     record {
       sound = tt;
       is = λ p count scene room.
-          let told = move-told p count _ _ _ _ scene (asked .asked .pair-in) i (asked .i-below) (asked .holds) (asked .lacks) (room moves) in
+          let told = move-told p count _ _ _ _ scene (asked .asked .route-in) i (asked .i-below) (asked .holds) (asked .lacks) (room moves) in
           let test = c .before .movable .ensures p (lies-at p count _ _ _ (scene .placement) i (asked .i-below)) in
           sym (blockStep-none p _ _ _ _ _ _
           (λ e. not-so _ (λ t. no-contradiction (sym (test .1 (told .0 t .0)) ∙ not-true _ (c .if3 .taken))))
@@ -97,7 +97,7 @@ returns-4 c =
     record {
       sound = tt;
       is = λ p count scene room.
-          let told = move-told p count _ _ _ _ scene (asked .asked .pair-in) i (asked .i-below) (asked .holds) (asked .lacks) (room moves) in
+          let told = move-told p count _ _ _ _ scene (asked .asked .route-in) i (asked .i-below) (asked .holds) (asked .lacks) (room moves) in
           sym (blockStep-none p _ _ _ _ _ _
           (λ e. not-so _ (λ t. no-contradiction (sym (c .before .is-free .ensures .1 (told .0 t .1)) ∙ not-true _ (c .if4 .taken))))
           (λ e. no-contradiction (sym e ∙ moves)));
@@ -113,7 +113,7 @@ returns-5 c =
     record {
       sound = candidate-shift asked;
       is = λ p count scene room.
-          let told = move-told p count _ _ _ _ scene (asked .asked .pair-in) i (asked .i-below) (asked .holds) (asked .lacks) (room moves) in
+          let told = move-told p count _ _ _ _ scene (asked .asked .route-in) i (asked .i-below) (asked .holds) (asked .lacks) (room moves) in
           let test = c .before .before .before .movable .ensures p (lies-at p count _ _ _ (scene .placement) i (asked .i-below)) in
           sym (blockStep-move p _ _ _ _ _ _ moves (told .1 (
             test .0 (not-false _ (c .before .before .if3 .left)),

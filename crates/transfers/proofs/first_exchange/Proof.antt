@@ -16,23 +16,23 @@ use Rattle.model.specs.Placement.{wordOf, held}
 use Rattle.theory.proofs.Placement.{bit-cases}
 use Rattle.cluster.specs.declared.Cluster.{Cluster}
 use Rattle.cluster.specs.Blocks.{linkedTo}
-use Rattle.index.specs.declared.Pair.{Pair}
-use Rattle.transfers.specs.Pair.{Free, FreeOf, PairScene, CandidateAsked, ExchangeFound}
+use Rattle.index.specs.declared.Route.{Route}
+use Rattle.transfers.specs.Route.{Free, FreeOf, RouteScene, CandidateAsked, ExchangeFound}
 use Rattle.transfers.proofs.Laws.{candidate-block, reversed-asked, lies-at, linked-back, Exchange, exchange-free, exchange-own, swap-exchange}
 use borrow.Author.Needs.{needs}
 use Rattle.transfers.proofs.first_exchange.Statement.{statement}
 use Rattle.transfers.proofs.first_exchange.Tie as tie
 
 -- where every exchange of i is ruled out, the answer is past the last block
-no-exchange : {c : Cluster} {words profiles index : List ℕ} {pair : Pair} {i : ℕ} → CandidateAsked c words profiles index pair i
-    → ((k : ℕ) (p : Plan) (count : ℕ → ℕ) → PairScene p count c words profiles pair → Exchange p words profiles pair i k → ⊥)
-    → ExchangeFound c words profiles pair i (c .blocks)
+no-exchange : {c : Cluster} {words profiles index : List ℕ} {route : Route} {i : ℕ} → CandidateAsked c words profiles index route i
+    → ((k : ℕ) (p : Plan) (count : ℕ → ℕ) → RouteScene p count c words profiles route → Exchange p words profiles route i k → ⊥)
+    → ExchangeFound c words profiles route i (c .blocks)
 no-exchange asked none =
     record {
       holds = λ b. absurd (omega arith);
       lacks = λ b. absurd (omega arith);
       passed = λ k l b p count scene. not-so _ (λ t.
-          none k p count scene (swap-exchange p count _ _ _ _ scene (asked .asked .pair-in) _ (asked .i-below) k b .0 t));
+          none k p count scene (swap-exchange p count _ _ _ _ scene (asked .asked .route-in) _ (asked .i-below) k b .0 t));
       found = λ b. absurd (omega arith);
     }
 
@@ -89,7 +89,7 @@ is-free-requires c κs = search needs
 first-return-requires : tie.Need-first-return-requires
 first-return-requires c κs =
     let start = c .before .before .before .before .before .before .before .before .before .before .before .before in
-    reversed-asked _ _ _ _ (start .args .pair) (start .pre .asked)
+    reversed-asked _ _ _ _ (start .args .route) (start .pre .asked)
 
 returns-3 : tie.Need-returns-3
 returns-3 c =
@@ -104,12 +104,12 @@ returns-3 c =
       holds = back .holds;
       lacks = back .lacks;
       passed = λ k l b p count scene. not-so _ (λ t.
-          let x = swap-exchange p count _ _ _ _ scene (asked .asked .pair-in) i (asked .i-below) k b .0 t in
-          let returns = exchange-free p count _ _ _ (scene .placement) (start .args .pair) i k x (asked .i-below) b free in
+          let x = swap-exchange p count _ _ _ _ scene (asked .asked .route-in) i (asked .i-below) k b .0 t in
+          let returns = exchange-free p count _ _ _ (scene .placement) (start .args .route) i k x (asked .i-below) b free in
           back .passed k l b p count (scene .placement) (rw (sym share) at returns));
       found = λ b p count scene.
           let returns = rw share at (back .found b p count (scene .placement)) in
-          swap-exchange p count _ _ _ _ scene (asked .asked .pair-in) i (asked .i-below) (c .first-return .result) b .1
+          swap-exchange p count _ _ _ _ scene (asked .asked .route-in) i (asked .i-below) (c .first-return .result) b .1
           (record {
             holds = asked .holds;
             lacks = asked .lacks;
@@ -127,9 +127,9 @@ own-return-requires c κs =
     let asked = start .pre in
     record {
       fits = asked .asked .fits;
-      pair-in = reversed-asked _ _ _ _ (start .args .pair) (asked .asked) .pair-in;
+      route-in = reversed-asked _ _ _ _ (start .args .route) (asked .asked) .route-in;
       i-below = asked .i-below;
-      holds = linked-held (args .words .now) (args .profiles .now) (args .i) (args .pair .n) (c .before .is-free .ensures) (c .if3 .left);
+      holds = linked-held (args .words .now) (args .profiles .now) (args .i) (args .route .n) (c .before .is-free .ensures) (c .if3 .left);
     }
 
 returns-4 : tie.Need-returns-4
@@ -145,17 +145,17 @@ returns-4 c =
     let own = c .own-return .ensures in
     let r = c .own-return .result in
     record {
-      holds = λ b. rw (own .is b) (linked-held (args .words .now) (args .profiles .now) i (args .pair .n) told taken);
+      holds = λ b. rw (own .is b) (linked-held (args .words .now) (args .profiles .now) i (args .route .n) told taken);
       lacks = own .lacks;
       passed = λ k l b p count scene. not-so _ (λ t.
-          let x = swap-exchange p count _ _ _ _ scene (asked .asked .pair-in) i (asked .i-below) k b .0 t in
-          let e = exchange-own p count _ _ _ (scene .placement) (args .pair) i k x (not-free (args .words .now) (args .profiles .now) i (args .pair .n) told taken) in
+          let x = swap-exchange p count _ _ _ _ scene (asked .asked .route-in) i (asked .i-below) k b .0 t in
+          let e = exchange-own p count _ _ _ (scene .placement) (args .route) i k x (not-free (args .words .now) (args .profiles .now) i (args .route .n) told taken) in
           elim (decLt r (args .cluster .blocks)) [
             | yes h ↦ omega (arith, own .is h, e)
             | no h ↦ own .passed (omega arith) p count (scene .placement) (rw (sym e, sym share) at (x .back))
           ]);
       found = λ b p count scene.
-          swap-exchange p count _ _ _ _ scene (asked .asked .pair-in) i (asked .i-below) r b .1
+          swap-exchange p count _ _ _ _ scene (asked .asked .route-in) i (asked .i-below) r b .1
           (record {
             holds = asked .holds;
             lacks = asked .lacks;

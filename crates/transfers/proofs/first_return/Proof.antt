@@ -10,28 +10,28 @@ use Rattle.model.specs.Plan.{Plan}
 use Rattle.model.specs.Placement.{held}
 use Rattle.cluster.specs.declared.Cluster.{Cluster}
 use Rattle.cluster.specs.Blocks.{PlacementOf}
-use Rattle.index.specs.declared.Pair.{Pair}
-use Rattle.transfers.specs.Pair.{FreeReturn}
+use Rattle.index.specs.declared.Route.{Route}
+use Rattle.transfers.specs.Route.{FreeReturn}
 use Rattle.transfers.proofs.Laws.{Passed, passed-first, passed-next, passed-candidate, candidate-return, noReturn-block}
 use borrow.Author.Needs.{needs}
 use Rattle.transfers.proofs.first_return.Statement.{statement}
 use Rattle.transfers.proofs.first_return.Tie as tie
 
 -- block k does not come back
-abbrev Fails : Cluster → List ℕ → List ℕ → Pair → ℕ → ℕ → Type 0
-Fails cluster words profiles pair given k =
-    (p : Plan) (count : ℕ → ℕ) → PlacementOf p count cluster words profiles → FreeReturn p words profiles pair given k → ⊥
+abbrev Fails : Cluster → List ℕ → List ℕ → Route → ℕ → ℕ → Type 0
+Fails cluster words profiles route given k =
+    (p : Plan) (count : ℕ → ℕ) → PlacementOf p count cluster words profiles → FreeReturn p words profiles route given k → ⊥
 
 -- nor does a block that is no candidate
-others : {cluster : Cluster} {words profiles : List ℕ} {pair : Pair} {given : ℕ} (k : ℕ) → k < cluster .blocks
-    → (held words (pair .m) k ≡ 1 → held words (pair .n) k ≡ 0 → ⊥) → Fails cluster words profiles pair given k
+others : {cluster : Cluster} {words profiles : List ℕ} {route : Route} {given : ℕ} (k : ℕ) → k < cluster .blocks
+    → (held words (route .m) k ≡ 1 → held words (route .n) k ≡ 0 → ⊥) → Fails cluster words profiles route given k
 others k l other p count of t = other (t .back .holds) (t .back .lacks)
 
 abbrev Inv-loop : tie.InvT-loop
-Inv-loop words profiles index cluster pair given j₀ j = Passed cluster words pair (Fails cluster words profiles pair given) j
+Inv-loop words profiles index cluster route given j₀ j = Passed cluster words route (Fails cluster words profiles route given) j
 
 abbrev μ-loop : tie.MeasureT-loop
-μ-loop words profiles index cluster pair given j₀ j = cluster .blocks - j
+μ-loop words profiles index cluster route given j₀ j = cluster .blocks - j
 
 may-return-requires : tie.Need-may-return-requires Inv-loop μ-loop
 may-return-requires c κs =
@@ -40,10 +40,10 @@ may-return-requires c κs =
       above-asked =
           record {
             sized = asked .indexed .ordered .sized;
-            blocks-max = asked .pair-in .in-range .blocks-max;
+            blocks-max = asked .route-in .in-range .blocks-max;
             rising = asked .indexed .ordered .rising;
           };
-      pair-in = asked .pair-in;
+      route-in = asked .route-in;
     }
 
 returns : tie.Need-returns Inv-loop μ-loop

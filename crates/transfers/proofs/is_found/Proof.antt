@@ -1,6 +1,6 @@
 -- `transfers::is_found` meets its contract, variant by variant.
 -- Assumes nothing.
-use Rattle.transfers.specs.Pair.{hitOf}
+use Rattle.transfers.specs.Route.{hitOf}
 use borrow.Author.Needs.{needs}
 use Rattle.transfers.proofs.is_found.Statement.{statement}
 use Rattle.transfers.proofs.is_found.Tie as tie

@@ -8,19 +8,19 @@ use native.Mathlib.Omega.{arith}
 use borrow.Author.Tests.{ltb-false}
 use Rattle.order.proofs.Booleans.{no-contradiction}
 use Rattle.cluster.specs.declared.Cluster.{Cluster}
-use Rattle.index.specs.declared.Pair.{Pair}
+use Rattle.index.specs.declared.Route.{Route}
 use Rattle.index.specs.Index.{byRank, spot, shareAt, NextOf, AboveOf}
-use Rattle.transfers.specs.Pair.{InMargin}
+use Rattle.transfers.specs.Route.{InMargin}
 use borrow.Author.Needs.{needs}
 use Rattle.transfers.proofs.may_return.Statement.{statement}
 use Rattle.transfers.proofs.may_return.Tie as tie
 
 -- no block that may come back stands before the one that is found
-not-before : {c : Cluster} {index : List ℕ} (pair : Pair) (given : ℕ) {from rank : ℕ} → pair .margin ≤ given
-    → AboveOf index (given - pair .margin) c from → NextOf index byRank (pair .m) (pair .n) from c rank
-    → (r : ℕ) → r < c .blocks → spot index byRank (pair .m) r ≡ 1 → spot index byRank (pair .n) r ≡ 0
-    → InMargin (pair .margin) given (shareAt index r) → rank ≤ r
-not-before pair given {from} {rank} few above next r l on off margin = elim (decLt r rank) [
+not-before : {c : Cluster} {index : List ℕ} (route : Route) (given : ℕ) {from rank : ℕ} → route .margin ≤ given
+    → AboveOf index (given - route .margin) c from → NextOf index byRank (route .m) (route .n) from c rank
+    → (r : ℕ) → r < c .blocks → spot index byRank (route .m) r ≡ 1 → spot index byRank (route .n) r ≡ 0
+    → InMargin (route .margin) given (shareAt index r) → rank ≤ r
+not-before route given {from} {rank} few above next r l on off margin = elim (decLt r rank) [
   | yes h ↦
       elim (decLt r from) [
         | yes low ↦ absurd (omega (arith, above .passed r low, margin .below))
@@ -44,7 +44,7 @@ returns-2 c =
     let found = c .before .before in
     let few = found .before .before .before .if1 .left in
     λ e r l on off margin.
-    omega (arith, c .if2 .taken, l, not-before (a .pair) (a .given) few (found .before .first-above .ensures) (found .next .ensures) r l on off margin)
+    omega (arith, c .if2 .taken, l, not-before (a .route) (a .given) few (found .before .first-above .ensures) (found .next .ensures) r l on off margin)
 
 add-share-of : tie.Need-add-share-of
 add-share-of c = search needs
@@ -65,7 +65,7 @@ returns-3 c =
     let start = c .before .before .before .before .before .before .before .before .before .before in
     let a = start .args in
     λ e r l on off margin.
-    let after = not-before (a .pair) (a .given) few (found .before .first-above .ensures) (found .next .ensures) r l on off margin in
+    let after = not-before (a .route) (a .given) few (found .before .first-above .ensures) (found .next .ensures) r l on off margin in
     omega (arith, ltb-false (c .share-of .result) (a .given) e, c .share-of .ensures, start .pre .above-asked .rising _ r after l, margin .gain)
 
 pub may-return-spec : {M : Type 1} → statement M

@@ -12,31 +12,31 @@ use Rattle.model.specs.Placement.{wordOf, held}
 use Rattle.theory.proofs.Placement.{bit-cases}
 use Rattle.cluster.specs.declared.Cluster.{Cluster}
 use Rattle.cluster.specs.Blocks.{linkedTo, PlacementOf}
-use Rattle.index.specs.declared.Pair.{Pair}
-use Rattle.transfers.specs.Pair.{ReturnAsked, Return, OwnAsked, OwnFound}
+use Rattle.index.specs.declared.Route.{Route}
+use Rattle.transfers.specs.Route.{ReturnAsked, Return, OwnAsked, OwnFound}
 use Rattle.transfers.proofs.Laws.{linked-below, return-block, lies-at}
 use borrow.Author.Needs.{needs}
 use Rattle.transfers.proofs.own_return.Statement.{statement}
 use Rattle.transfers.proofs.own_return.Tie as tie
 
 -- where the partner cannot come back, the answer is past the last block
-no-return : {c : Cluster} {words profiles : List ℕ} {pair : Pair} {given i : ℕ}
+no-return : {c : Cluster} {words profiles : List ℕ} {route : Route} {given i : ℕ}
     → ((p : Plan) (count : ℕ → ℕ) → PlacementOf p count c words profiles
-    → Return p words profiles pair given (linkedTo (getD profiles i 0) i) → ⊥)
-    → OwnFound c words profiles pair given i (c .blocks)
+    → Return p words profiles route given (linkedTo (getD profiles i 0) i) → ⊥)
+    → OwnFound c words profiles route given i (c .blocks)
 no-return none =
     record { is = λ b. absurd (omega arith); lacks = λ b. absurd (omega arith); passed = λ b. none; found = λ b. absurd (omega arith) }
 
 -- the partner k, whose bit n is not 1
-own-asked : {c : Cluster} {words profiles : List ℕ} {pair : Pair} {i b : ℕ} → OwnAsked c words profiles pair i
-    → (k : ℕ) → k ≡ linkedTo (getD profiles i 0) i → b ≡ held words (pair .n) k → (b ≡ 1 → ⊥) → ReturnAsked c words profiles pair k
-own-asked {words} {pair} {i} asked k e bit clear =
+own-asked : {c : Cluster} {words profiles : List ℕ} {route : Route} {i b : ℕ} → OwnAsked c words profiles route i
+    → (k : ℕ) → k ≡ linkedTo (getD profiles i 0) i → b ≡ held words (route .n) k → (b ≡ 1 → ⊥) → ReturnAsked c words profiles route k
+own-asked {words} {route} {i} asked k e bit clear =
     record {
       fits = asked .fits;
-      pair-in = asked .pair-in;
+      route-in = asked .route-in;
       j-below = rw e (linked-below (asked .fits) i (asked .i-below));
       holds = rw e (asked .holds);
-      lacks = elim (bit-cases (wordOf words k) (pair .n)) [ inl z ↦ z | inr o ↦ absurd (clear (bit ∙ o)) ];
+      lacks = elim (bit-cases (wordOf words k) (route .n)) [ inl z ↦ z | inr o ↦ absurd (clear (bit ∙ o)) ];
     }
 
 mul-linked-to : tie.Need-mul-linked-to
@@ -66,9 +66,9 @@ bit-at-requires c κs = search needs
 returns : tie.Need-returns
 returns c =
     let words = c .before .before .before .before .before .before .before .args .words .now in
-    let pair = c .before .before .before .before .before .before .before .args .pair in
+    let route = c .before .before .before .before .before .before .before .args .route in
     let k = c .before .before .before .linked-to .ensures in
-    let e = c .before .bit-at .ensures ∙ ap (λ (k : ℕ). held words (pair .n) k) k in
+    let e = c .before .bit-at .ensures ∙ ap (λ (k : ℕ). held words (route .n) k) k in
     no-return (λ p count of t. omega (arith, e, c .if1 .taken, t .lacks))
 
 mul-returnable : tie.Need-mul-returnable

@@ -1,4 +1,4 @@
--- Laws of a pair of machines: where the loads, the capacity or the shares rule it out the definition finds nothing there.
+-- Laws of a route of machines: where the loads, the capacity or the shares rule it out the definition finds nothing there.
 -- Assumes nothing.
 use mathlib.Core.Path.{_≡_, ap, sym, _∙_}
 use mathlib.Core.Bool.{Bool, true, false, not, Bool·beq}
@@ -21,18 +21,18 @@ use Rattle.cluster.specs.Cluster.{machinesIn}
 use Rattle.cluster.specs.Blocks.{PlacementOf}
 use Rattle.cluster.proofs.Laws.{cluster-size, cluster-capacity, cluster-blocks, placement-machine, placement-share}
 use Rattle.loads.proofs.Laws.{loads-narrow, copies-used, loads-load}
-use Rattle.index.specs.declared.Pair.{Pair}
+use Rattle.index.specs.declared.Route.{Route}
 use Rattle.index.specs.Index.{rankAt, shareAt}
 use Rattle.screen.specs.Screen.{Alone, rankedOn, RuledOut}
 use Rattle.transfers.specs.declared.Hit.{Hit}
 use Rattle.transfers.specs.declared.Hit.the-variants.{Nothing}
-use Rattle.transfers.specs.Pair.{hitOf, pairStep, PairAsked, PairScene, HitOf}
+use Rattle.transfers.specs.Route.{hitOf, routeStep, RouteAsked, RouteScene, HitOf}
 use Rattle.transfers.proofs.Searches.{none-found, test-none}
 use Rattle.search.specs.declared.Row.{Row}
-use Rattle.search.specs.Scene.{KindAsked, pairOf, PairAt, HitIs}
+use Rattle.search.specs.Scene.{KindAsked, routeOf, RouteAt, HitIs}
 use Rattle.search.proofs.Laws.{beq-same}
 
--- ── pairStep ───────────────────────────────────────────────────────────────────────────────────────────────────────────
+-- ── routeStep ───────────────────────────────────────────────────────────────────────────────────────────────────────────
 
 -- no block, or no two blocks, can pass between m and n
 abbrev pub Barren : Plan → List ℕ → Bool → ℕ → ℕ → Type 0
@@ -50,21 +50,21 @@ module _ (p : Plan) (count : ℕ → ℕ) (c : Cluster) (words profiles : List �
   n-in : n < machines p
   n-in = placement-machine p count c words profiles placement n nl
 
-  pub pairStep-none : (swapping across : Bool) → Barren p words swapping m n → none ≡ pairStep p words swapping across m n
-  unfolding pairStep
-  pairStep-none false across barren =
+  pub routeStep-none : (swapping across : Bool) → Barren p words swapping m n → none ≡ routeStep p words swapping across m n
+  unfolding routeStep
+  routeStep-none false across barren =
       sym (test-none (blockCount p) (canMove p words m n) (move across m n) (λ i l.
       not-so _ (λ t. barren i l (canMove-local p shaped count words (placement .feasible) m n i m-in n-in l .0 t))))
-  pairStep-none true across barren =
+  routeStep-none true across barren =
       sym (none-found (blockCount p) _ (λ i l.
       ap isStep (test-none (blockCount p) (canSwap p words m n i) (swap across m n i) (λ j h.
       not-so _ (λ t. barren i j l h (canSwap-local p shaped count words (placement .feasible) m n i j m-in n-in l h .0 t))))))
 
 -- ── what the screen rules out ──────────────────────────────────────────────────────────────────────────────────────────
 
-module _ {c : Cluster} {words profiles index : List ℕ} {pair : Pair} (at : PairAsked c words profiles index pair) where
+module _ {c : Cluster} {words profiles index : List ℕ} {route : Route} (at : RouteAsked c words profiles index route) where
   in-machines : (m : ℕ) → m < machinesIn c → m < maxMachines
-  in-machines m l = omega (arith, at .pair-in .in-range .machines-max)
+  in-machines m l = omega (arith, at .route-in .in-range .machines-max)
 
   -- a block on one machine alone is so at its rank
   alone : (a b i : ℕ) → a < machinesIn c → b < machinesIn c → i < c .blocks → held words a i ≡ 1 → held words b i ≡ 0
@@ -75,19 +75,19 @@ module _ {c : Cluster} {words profiles index : List ℕ} {pair : Pair} (at : Pai
         lacks = at .indexed .by-rank b i (in-machines b bl) l ∙ off;
       }
 
-  module _ (p : Plan) (count : ℕ → ℕ) (scene : PairScene p count c words profiles pair) where
+  module _ (p : Plan) (count : ℕ → ℕ) (scene : RouteScene p count c words profiles route) where
     below : (i : ℕ) → i < blockCount p → i < c .blocks
     below i l = rw (cluster-blocks p c (scene .placement .profiles-of .cluster)) l
 
     share-is : (i : ℕ) → i < c .blocks → shareAt index (rankAt index i) ≡ shareOf p words i
     share-is i l = at .indexed .ordered .rank-share i l ∙ placement-share p count c words profiles (scene .placement) i l
 
-    barren-ruled : (swapping : Bool) → RuledOut c index pair swapping → Barren p words swapping (pair .m) (pair .n)
+    barren-ruled : (swapping : Bool) → RuledOut c index route swapping → Barren p words swapping (route .m) (route .n)
     barren-ruled false ruled = λ i il s.
         let l = below i il in
         let margin = scene .margin-is _ _ .0 (s .lowers) in
         let far = ruled (rankAt index i) (at .indexed .ordered .rank-below i l)
-        (alone (pair .m) (pair .n) i (at .pair-in .m-below) (at .pair-in .n-below) l (s .on) (s .off))
+        (alone (route .m) (route .n) i (at .route-in .m-below) (at .route-in .n-below) l (s .on) (s .off))
         (rw (share-is i l) (margin .gain)) in
         omega (arith, share-is i l, margin .below)
     barren-ruled true ruled = λ i j il jl s.
@@ -95,21 +95,21 @@ module _ {c : Cluster} {words profiles index : List ℕ} {pair : Pair} (at : Pai
         let h = below j jl in
         let margin = scene .margin-is _ _ .0 (s .lowers) in
         let far = ruled (rankAt index i) (rankAt index j) (at .indexed .ordered .rank-below i l) (at .indexed .ordered .rank-below j h)
-        (alone (pair .m) (pair .n) i (at .pair-in .m-below) (at .pair-in .n-below) l (s .i-on) (s .i-off))
-        (alone (pair .n) (pair .m) j (at .pair-in .n-below) (at .pair-in .m-below) h (s .j-on) (s .j-off))
+        (alone (route .m) (route .n) i (at .route-in .m-below) (at .route-in .n-below) l (s .i-on) (s .i-off))
+        (alone (route .n) (route .m) j (at .route-in .n-below) (at .route-in .m-below) h (s .j-on) (s .j-off))
         (rw (share-is j h, share-is i l) (margin .gain)) in
         omega (arith, share-is i l, share-is j h, margin .below)
 
-    pub pairStep-ruled : (swapping : Bool) → RuledOut c index pair swapping
-        → none ≡ pairStep p words swapping (pair .across) (pair .m) (pair .n)
-    pairStep-ruled swapping ruled =
-        pairStep-none p count c words profiles (scene .placement) (pair .m) (pair .n) (at .pair-in .m-below) (at .pair-in .n-below)
-        swapping (pair .across) (barren-ruled swapping ruled)
+    pub routeStep-ruled : (swapping : Bool) → RuledOut c index route swapping
+        → none ≡ routeStep p words swapping (route .across) (route .m) (route .n)
+    routeStep-ruled swapping ruled =
+        routeStep-none p count c words profiles (scene .placement) (route .m) (route .n) (at .route-in .m-below) (at .route-in .n-below)
+        swapping (route .across) (barren-ruled swapping ruled)
 
--- ── the pair of a row's machine m and n ────────────────────────────────────────────────────────────────────────────────
+-- ── the route of a row's machine m and n ────────────────────────────────────────────────────────────────────────────────
 
 module _ {c : Cluster} {words profiles index loads copies : List ℕ} {row : Row} {n : ℕ}
-    (at : PairAt c words profiles index loads copies row n) where
+    (at : RouteAt c words profiles index loads copies row n) where
   m-max : row .m < maxMachines
   m-max = omega (arith, at .row-in .m-below, at .all .fits .profiles-fit .in-range .machines-max)
 
@@ -122,23 +122,23 @@ module _ {c : Cluster} {words profiles index loads copies : List ℕ} {row : Row
         size-max = omega (arith, mul-le-mul-right (c .«rack_size») (ranges .racks-pos), ranges .machines-max);
       }
 
-  -- whether the pair is of the row's kind
+  -- whether the route is of the row's kind
   abbrev pub kindHere : Bool
   kindHere = Bool·beq (row .across) (not (eqb (row .m / c .«rack_size») (n / c .«rack_size»)))
 
   -- the row's search at n
   abbrev wanted : Plan → Step
-  wanted p = pairOf p words (row .swapping) (row .across) (row .m) n
+  wanted p = routeOf p words (row .swapping) (row .across) (row .m) n
 
   pub nothing-other : false ≡ kindHere → HitIs c words profiles (row .across) wanted Nothing
-  unfolding hitOf pairOf
+  unfolding hitOf routeOf
   nothing-other e =
       record { sound = tt; is = λ p count placement. rw (sym (cluster-size p c (placement .profiles-of .cluster)), sym e) }
 
   module _ (kind : true ≡ kindHere) where
     this : (p : Plan) (count : ℕ → ℕ) → PlacementOf p count c words profiles
-        → pairStep p words (row .swapping) (row .across) (row .m) n ≡ wanted p
-    unfolding pairOf
+        → routeStep p words (row .swapping) (row .across) (row .m) n ≡ wanted p
+    unfolding routeOf
     this p count placement = rw (sym (cluster-size p c (placement .profiles-of .cluster)), sym kind)
 
     nothing-barren : ((p : Plan) (count : ℕ → ℕ) → PlacementOf p count c words profiles → Barren p words (row .swapping) (row .m) n)
@@ -148,7 +148,7 @@ module _ {c : Cluster} {words profiles index loads copies : List ℕ} {row : Row
         record {
           sound = tt;
           is = λ p count placement.
-              pairStep-none p count c words profiles placement (row .m) n (at .row-in .m-below) (at .n-below)
+              routeStep-none p count c words profiles placement (row .m) n (at .row-in .m-below) (at .n-below)
               (row .swapping) (row .across) (barren p count placement)
               ∙ this p count placement;
         }
@@ -173,16 +173,16 @@ module _ {c : Cluster} {words profiles index loads copies : List ℕ} {row : Row
     nothing-full moving l = nothing-barren (λ p count placement. rw moving (λ i h s. omega (arith, n-used p count placement, cluster-capacity p c (placement .profiles-of .cluster), s .room)))
 
     module _ (more : getD loads n 0 < getD loads (row .m) 0) where
-      -- the pair as it is handed on: what m has more than n is its margin
-      abbrev pub pairHere : Pair
-      pairHere = record { across = row .across; m = row .m; n = n; margin = getD loads (row .m) 0 - getD loads n 0 }
+      -- the route as it is handed on: what m has more than n is its margin
+      abbrev pub routeHere : Route
+      routeHere = record { across = row .across; m = row .m; n = n; margin = getD loads (row .m) 0 - getD loads n 0 }
 
-      pub pair-asked : PairAsked c words profiles index pairHere
-      pair-asked =
+      pub route-asked : RouteAsked c words profiles index routeHere
+      route-asked =
           record {
             fits = at .all .fits;
             indexed = at .all .indexed;
-            pair-in =
+            route-in =
                 record {
                   in-range = at .all .fits .profiles-fit .in-range;
                   m-below = at .row-in .m-below;
@@ -192,8 +192,8 @@ module _ {c : Cluster} {words profiles index loads copies : List ℕ} {row : Row
                 };
           }
 
-      pair-scene : (p : Plan) (count : ℕ → ℕ) → PlacementOf p count c words profiles → PairScene p count c words profiles pairHere
-      pair-scene p count placement =
+      route-scene : (p : Plan) (count : ℕ → ℕ) → PlacementOf p count c words profiles → RouteScene p count c words profiles routeHere
+      route-scene p count placement =
           let d = load-of p count placement (row .m) (at .row-in .m-below) in
           let e = load-of p count placement n (at .n-below) in
           record {
@@ -204,14 +204,14 @@ module _ {c : Cluster} {words profiles index loads copies : List ℕ} {row : Row
             );
           }
 
-      pub pair-found : (r : Hit) → (row .swapping ≡ false → getD copies n 0 < c .capacity)
-          → HitOf c words profiles pairHere (row .swapping) (λ p. pairStep p words (row .swapping) (row .across) (row .m) n) r
+      pub route-found : (r : Hit) → (row .swapping ≡ false → getD copies n 0 < c .capacity)
+          → HitOf c words profiles routeHere (row .swapping) (λ p. routeStep p words (row .swapping) (row .across) (row .m) n) r
           → HitIs c words profiles (row .across) wanted r
-      pair-found r room found =
+      route-found r room found =
           record {
             sound = found .sound;
             is = λ p count placement.
-                found .is p count (pair-scene p count placement)
+                found .is p count (route-scene p count placement)
                 (λ moving. omega (arith, room moving, n-used p count placement, cluster-capacity p c (placement .profiles-of .cluster)))
                 ∙ this p count placement;
           }

@@ -1,4 +1,4 @@
--- `search::find_pair` meets its contract: each early return is a pair at which the definition finds nothing.
+-- `search::find_route` meets its contract: each early return is a route at which the definition finds nothing.
 -- Assumes nothing.
 use mathlib.Core.Path.{_≡_, sym, _∙_}
 use mathlib.Core.Bool.{true}
@@ -6,11 +6,11 @@ use mathlib.Core.Logic.{⊎-elim}
 use borrow.Author.Needs.{needs}
 use borrow.Author.Tests.{not-true, not-false}
 use Rattle.order.proofs.Booleans.{no-contradiction}
-use Rattle.search.proofs.Pairs.{kind-asked, kindHere, nothing-other, nothing-level, nothing-full, pair-asked, pair-found}
-use Rattle.search.proofs.find_pair.Statement.{statement}
-use Rattle.search.proofs.find_pair.Tie as tie
+use Rattle.search.proofs.Routes.{kind-asked, kindHere, nothing-other, nothing-level, nothing-full, route-asked, route-found}
+use Rattle.search.proofs.find_route.Statement.{statement}
+use Rattle.search.proofs.find_route.Tie as tie
 
--- past the first test the pair is of the kind
+-- past the first test the route is of the kind
 kind-here : (c : tie.Else1) → true ≡ kindHere (c .before .before .before .before .before .before .before .pre)
 kind-here c =
     let start = c .before .before .before .before .before .before .before in
@@ -70,17 +70,17 @@ sub-margin c = search needs
 find-open-requires : tie.Need-find-open-requires
 find-open-requires c κs =
     let e = c .before .before .before .before .before .before .before in
-    pair-asked (e .before .before .before .before .before .before .before .pre) (kind-here e) (c .before .before .before .before .if2 .left)
+    route-asked (e .before .before .before .before .before .before .before .pre) (kind-here e) (c .before .before .before .before .if2 .left)
 
 returns-4 : tie.Need-returns-4
 returns-4 c =
     let e = c .before .before .before .before .before .before .before .before in
-    pair-found (e .before .before .before .before .before .before .before .pre) (kind-here e) (c .before .before .before .before .before .if2 .left) _
+    route-found (e .before .before .before .before .before .before .before .pre) (kind-here e) (c .before .before .before .before .before .if2 .left) _
     (λ moving. ⊎-elim (λ w. w .3 .left) (λ w. no-contradiction (sym (not-false _ (w .left)) ∙ moving)) (c .before .before .before .if3 .came))
     (c .find-open .ensures)
 
-pub find-pair-spec : {M : Type 1} → statement M
-find-pair-spec =
+pub find-route-spec : {M : Type 1} → statement M
+find-route-spec =
     tie.close
     (tie.spec
     of-kind-requires
