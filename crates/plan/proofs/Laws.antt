@@ -1,30 +1,28 @@
 -- What the header and the pass over the records say of the plan.
 -- Assumes nothing.
-use mathlib.Core.Path.{_≡_, refl, ap, sym, _∙_}
-use mathlib.Core.Bool.{true, false}
+use mathlib.Core.Path.{_≡_, ap, sym, _∙_}
 use mathlib.Core.List.{List}
-use Prim.Native.Nat.{ℕ, zero, suc, _+_, _*_, _-_, _<_, _≤_}
-use native.Mathlib.Nat.{mul-le-mul-left}
+use Prim.Native.Nat.{ℕ, _*_, _<_, _≤_}
 use native.Mathlib.Omega.{arith}
-use borrow.Author.Tests.{eq-eqb, ne-eqb}
 use lib.ListN.{length, getD}
 use Rattle.order.specs.Table.{filled}
-use Rattle.order.proofs.Searches.{first-none}
 use Rattle.order.proofs.Tables.{length-table, getD-filled}
-use Rattle.model.specs.Plan.{Plan, machines, domains, blockCount, blockOf, pairsNext, minTotal, field, commonLength, versionIn, Format, formatIn, recordLength, recordAt, blockIn, planIn}
-use Rattle.model.specs.Refusal.{isRefusal, check17, check10, check11, blocksRefusal, pairRefusal, pairsRefusal, planRefusal, refusal, judge, accepted}
+use Rattle.model.specs.Plan.{Plan, machines, domains, blockCount, blockOf, minTotal, commonLength, versionIn, Format, formatIn, recordAt, blockIn, planIn}
+use Rattle.model.specs.Refusal.{check10, check11, blocksRefusal, pairsRefusal, planRefusal, refusal, judge, accepted}
 use Rattle.theory.specs.Refusal.{Valid}
 use Rattle.theory.proofs.Plan.{planIn-blockCount, planIn-blockOf}
 use Rattle.theory.proofs.Refusal.{orElse-some, accepted-laws}
 use Rattle.cluster.specs.declared.Cluster.{Cluster}
 use Rattle.cluster.specs.Cluster.{machinesIn, InRange, ClusterOf}
-use Rattle.cluster.specs.Blocks.{linkOf, demandOf, DemandsOf}
-use Rattle.cluster.proofs.Laws.{cluster-range, linkOf-first, linkOf-back}
+use Rattle.cluster.specs.Blocks.{demandOf, DemandsOf}
+use Rattle.cluster.proofs.Laws.{cluster-range}
 use Rattle.header.specs.declared.Header.{Header}
 use Rattle.header.specs.Format.{FormatFits}
 use Rattle.header.specs.Header.{headerIn, PassedAs}
 use Rattle.header.proofs.Laws.{formatOf-fits}
-use Rattle.plan.specs.Reading.{planOf, RecordIn, RecordsIn, RecordsOf, AcceptedHeader}
+use Rattle.records.specs.Records.{RecordIn, RecordsIn, RecordsOf}
+use Rattle.records.proofs.Laws.{record-in}
+use Rattle.plan.specs.Reading.{planOf, AcceptedHeader}
 
 -- ── planOf ─────────────────────────────────────────────────────────────────────────────────────────────────────────────
 
@@ -100,19 +98,7 @@ pub demands-of : (p : Plan) (c : Cluster) (demands₀ demands : List ℕ) → Cl
 demands-of p c demands₀ demands of are =
     record { cluster = of; are = λ i l. ap (λ (d : List ℕ). getD d i 0) are ∙ getD-filled (c .blocks) (demandOf p) demands₀ i 0 l }
 
--- ── RecordIn ───────────────────────────────────────────────────────────────────────────────────────────────────────────
-
-pub record-in : (bytes : List ℕ) (f : Format) (blocks i : ℕ) → RecordsIn bytes f blocks → i < blocks → RecordIn bytes f i
-record-in bytes f blocks i all l =
-    let last : recordLength f * (i + 1) ≤ recordLength f * blocks = mul-le-mul-left _ (omega arith) in
-    record { fits = all .fits; below = omega (arith, all .blocks-max); room = omega (arith, all .room) }
-
--- a record has those before it
-pub record-before : (bytes : List ℕ) (f : Format) (i : ℕ) → RecordIn bytes f i → 1 ≤ i → RecordIn bytes f (i - 1)
-record-before bytes f i inside some =
-    record-in bytes f i (i - 1)
-    (record { fits = inside .fits; blocks-max = omega (arith, inside .below); room = omega (arith, inside .room) })
-    (omega arith)
+-- ── BlockAt ────────────────────────────────────────────────────────────────────────────────────────────────────────────
 
 -- Record i lies in the bytes, and is block i of the plan.
 pub record BlockAt (bytes : List ℕ) (f : Format) (i : ℕ) : Type 0 where
@@ -134,39 +120,6 @@ module _ (bytes : List ℕ) (h : Header) (of : HeaderOf bytes h) where
   block-at f e fits i l =
       let below : i < blockCount (planIn bytes) = rw (planIn-blocks bytes h of) at l in
       record { inside = record-in bytes f _ i (records-in f e fits) l; below = below; is = planIn-records bytes f e i below }
-
--- ── RecordsOf ──────────────────────────────────────────────────────────────────────────────────────────────────────────
-
--- a pair byte that was read says whether its block is paired with the next one
-module _ (p : Plan) (f : Format) (bytes : List ℕ) (of : RecordsOf p f bytes) (i byte : ℕ) (l : i < blockCount p)
-    (is : byte ≡ blockIn f bytes i .pairByte) where
-  pub marked-next : byte ≡ 1 → pairsNext p i ≡ true
-  unfolding pairsNext
-  marked-next e = rw (of i l) (eq-eqb _ 1 (sym is ∙ e))
-
-  pub unmarked-next : (byte ≡ 1 → ⊥) → pairsNext p i ≡ false
-  unfolding pairsNext
-  unmarked-next d = rw (of i l) (ne-eqb _ 1 (λ e. d (is ∙ e)))
-
--- where the format has no pair byte, no block is paired, and check 17 passes
-module _ (p : Plan) (f : Format) (bytes : List ℕ) (of : RecordsOf p f bytes) (without : f .pairByteWidth ≡ 0) where
-  unpaired-byte : (i : ℕ) → i < blockCount p → blockOf p i .pairByte ≡ 0
-  unfolding blockIn field
-  unpaired-byte i l = rw (of i l, without)
-
-  unpaired-next : (i : ℕ) → i < blockCount p → pairsNext p i ≡ false
-  unfolding pairsNext
-  unpaired-next i l = rw (unpaired-byte i l)
-
-  pub unpaired-link : (i : ℕ) → i < blockCount p → linkOf p i ≡ 1
-  unpaired-link zero l = linkOf-first p (unpaired-next 0 l)
-  unpaired-link (suc i) l =
-      linkOf-back p (suc i) (omega arith) (unpaired-next (suc i) l) ∙ (rw (unpaired-next (suc i - 1) (omega arith)))
-
-  pub unpaired-refusal : pairsRefusal p ≡ 0
-  unfolding pairsRefusal pairRefusal check17
-  unpaired-refusal =
-      first-none isRefusal 0 refl (pairRefusal p) (blockCount p) (λ i l. rw (unpaired-byte i l))
 
 -- ── refusal ────────────────────────────────────────────────────────────────────────────────────────────────────────────
 

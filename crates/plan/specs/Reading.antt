@@ -1,15 +1,14 @@
 -- What the reader's answers say, in the model's terms.
 use mathlib.Core.Path.{_≡_}
 use mathlib.Core.List.{List}
-use Prim.Native.Nat.{ℕ, _+_, _<_, _≤_}
+use Prim.Native.Nat.{ℕ, _≤_}
 use lib.ListN.{length}
 use Rattle.order.specs.Table.{table, filled}
-use Rattle.model.specs.Plan.{Plan, blockCount, blockOf, minTotal, Format, formatIn, recordLength, recordAt, blockIn, planIn}
-use Rattle.model.specs.Refusal.{blocksRefusal, maxBlocks, Verdict, refused, accepted, judge}
+use Rattle.model.specs.Plan.{Plan, minTotal, formatIn, recordAt, blockIn, planIn}
+use Rattle.model.specs.Refusal.{blocksRefusal, Verdict, refused, accepted, judge}
 use Rattle.cluster.specs.Cluster.{ClusterOf}
 use Rattle.cluster.specs.Blocks.{demandOf, DemandsFit}
 use Rattle.header.specs.declared.Header.{Header}
-use Rattle.header.specs.Format.{FormatFits}
 use Rattle.plan.specs.declared.Reading.{Reading}
 use Rattle.plan.specs.declared.Reading.the-variants.{Refused, Accepted}
 use Rattle.plan.specs.declared.Records.{Records}
@@ -31,22 +30,6 @@ planOf bytes h =
 unfoldable pub verdictOf : List ℕ → Reading → Verdict
 verdictOf bytes (Refused code) = refused code
 verdictOf bytes (Accepted h) = accepted (planOf bytes h)
-
--- Record i lies in the bytes.
-pub record RecordIn (bytes : List ℕ) (f : Format) (i : ℕ) : Type 0 where
-  pub fits : FormatFits f
-  pub below : i < maxBlocks
-  pub room : recordAt f i + recordLength f ≤ length bytes
-
--- So many records lie in the bytes.
-pub record RecordsIn (bytes : List ℕ) (f : Format) (blocks : ℕ) : Type 0 where
-  pub fits : FormatFits f
-  pub blocks-max : blocks ≤ maxBlocks
-  pub room : recordAt f blocks ≤ length bytes
-
--- They are the blocks of plan p.
-abbrev pub RecordsOf : Plan → Format → List ℕ → Type 0
-RecordsOf p f bytes = (i : ℕ) → i < blockCount p → blockOf p i ≡ blockIn f bytes i
 
 pub record FaultAs (bytes : List ℕ) (code : ℕ) : Type 0 where
   pub is : blocksRefusal (planIn bytes) ≡ code

@@ -10,7 +10,8 @@ use denote.Ref.{now}
 use Rattle.order.proofs.Searches.{first-none, first-at}
 use Rattle.model.specs.Plan.{blockCount, planIn}
 use Rattle.model.specs.Refusal.{isRefusal, pairRefusal, pairsRefusal}
-use Rattle.plan.proofs.Laws.{passed-of, planIn-blocks, planIn-records, common-in, records-in, unpaired-refusal}
+use Rattle.records.proofs.Laws.{unpaired-refusal}
+use Rattle.plan.proofs.Laws.{passed-of, planIn-blocks, planIn-records, common-in, records-in}
 use Rattle.plan.proofs.scan_pairs.Statement.{statement}
 use Rattle.plan.proofs.scan_pairs.Tie as tie
 

@@ -1,9 +1,9 @@
--- `plan::block_refusal` meets its contract: each return rewrites with the tests that led there.
+-- `records::block_refusal` meets its contract: each return rewrites with the tests that led there.
 -- Assumes nothing.
 use borrow.Author.Tests.{eq-eqb, ne-eqb, lt-ltb, le-ltb}
 use Rattle.model.specs.Refusal.{check8, check9}
-use Rattle.plan.proofs.block_refusal.Statement.{statement}
-use Rattle.plan.proofs.block_refusal.Tie as tie
+use Rattle.records.proofs.block_refusal.Statement.{statement}
+use Rattle.records.proofs.block_refusal.Tie as tie
 
 returns : tie.Need-returns
 unfolding check8

@@ -1,10 +1,10 @@
--- `plan::are_alike` meets its contract: each return rewrites with the numbers read.
+-- `records::are_alike` meets its contract: each return rewrites with the numbers read.
 -- Assumes nothing.
 use borrow.Author.Needs.{needs}
 use borrow.Author.Tests.{eq-eqb, ne-eqb}
 use Rattle.model.specs.Refusal.{alike}
-use Rattle.plan.proofs.are_alike.Statement.{statement}
-use Rattle.plan.proofs.are_alike.Tie as tie
+use Rattle.records.proofs.are_alike.Statement.{statement}
+use Rattle.records.proofs.are_alike.Tie as tie
 
 popularity-requires : tie.Need-popularity-requires
 popularity-requires c κs = search needs

@@ -1,11 +1,11 @@
--- `plan::min_racks` meets its contract: it is the field after the least copies.
+-- `records::min_racks` meets its contract: it is the field after the least copies.
 -- Assumes nothing.
 use native.Mathlib.Nat.{add-assoc}
 use borrow.Author.Needs.{needs}
 use Rattle.model.specs.Plan.{blockIn}
 use Rattle.header.proofs.Laws.{field-narrow}
-use Rattle.plan.proofs.min_racks.Statement.{statement}
-use Rattle.plan.proofs.min_racks.Tie as tie
+use Rattle.records.proofs.min_racks.Statement.{statement}
+use Rattle.records.proofs.min_racks.Tie as tie
 
 record-at-requires : tie.Need-record-at-requires
 record-at-requires c κs = search needs

@@ -1,4 +1,4 @@
--- `plan::pair_refusal` meets its contract: each return rewrites with the tests that led there.
+-- `records::pair_refusal` meets its contract: each return rewrites with the tests that led there.
 -- Assumes nothing.
 use mathlib.Core.Path.{_≡_}
 use mathlib.Core.Bool.{false}
@@ -11,10 +11,10 @@ use borrow.Author.Needs.{needs}
 use borrow.Author.Tests.{eq-eqb, ne-eqb, lt-ltb}
 use Rattle.model.specs.Plan.{Plan, blockCount, Format, blockIn}
 use Rattle.model.specs.Refusal.{alike, check17, pairRefusal}
-use Rattle.plan.specs.Reading.{RecordsOf}
-use Rattle.plan.proofs.Laws.{record-in}
-use Rattle.plan.proofs.pair_refusal.Statement.{statement}
-use Rattle.plan.proofs.pair_refusal.Tie as tie
+use Rattle.records.specs.Records.{RecordsOf}
+use Rattle.records.proofs.Laws.{record-in}
+use Rattle.records.proofs.pair_refusal.Statement.{statement}
+use Rattle.records.proofs.pair_refusal.Tie as tie
 
 -- what is judged of a block that is not the last one
 not-last : (p : Plan) (f : Format) (bytes : List ℕ) (i : ℕ) → RecordsOf p f bytes → suc i < blockCount p

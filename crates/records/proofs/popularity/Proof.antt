@@ -1,10 +1,10 @@
--- `plan::popularity` meets its contract: it is the field at the record's start.
+-- `records::popularity` meets its contract: it is the field at the record's start.
 -- Assumes nothing.
 use borrow.Author.Needs.{needs}
 use Rattle.model.specs.Plan.{blockIn}
 use Rattle.header.proofs.Laws.{field-narrow}
-use Rattle.plan.proofs.popularity.Statement.{statement}
-use Rattle.plan.proofs.popularity.Tie as tie
+use Rattle.records.proofs.popularity.Statement.{statement}
+use Rattle.records.proofs.popularity.Tie as tie
 
 record-at-requires : tie.Need-record-at-requires
 record-at-requires c κs = search needs

@@ -1,12 +1,12 @@
--- `plan::machines_for` meets its contract: a link is 1 exactly if the block is not paired.
+-- `records::machines_for` meets its contract: a link is 1 exactly if the block is not paired.
 -- Assumes nothing.
 use mathlib.Core.Path.{ap, _∙_}
 use Prim.Native.Nat.{ℕ, _/_}
 use native.Mathlib.Omega.{arith}
 use borrow.Author.Needs.{needs}
 use Rattle.cluster.proofs.Laws.{linkOf-single, linkOf-paired}
-use Rattle.plan.proofs.machines_for.Statement.{statement}
-use Rattle.plan.proofs.machines_for.Tie as tie
+use Rattle.records.proofs.machines_for.Statement.{statement}
+use Rattle.records.proofs.machines_for.Tie as tie
 
 machines-requires : tie.Need-machines-requires
 machines-requires c κs = search needs

@@ -1,11 +1,11 @@
--- `plan::pair_byte` meets its contract: it is the record's last field.
+-- `records::pair_byte` meets its contract: it is the record's last field.
 -- Assumes nothing.
 use Prim.Native.Nat.{_+_}
 use native.Mathlib.Nat.{add-assoc}
 use borrow.Author.Needs.{needs}
 use Rattle.model.specs.Plan.{blockIn}
-use Rattle.plan.proofs.pair_byte.Statement.{statement}
-use Rattle.plan.proofs.pair_byte.Tie as tie
+use Rattle.records.proofs.pair_byte.Statement.{statement}
+use Rattle.records.proofs.pair_byte.Tie as tie
 
 record-at-requires : tie.Need-record-at-requires
 record-at-requires c κs = search needs

@@ -1,4 +1,4 @@
--- `plan::link` meets its contract: each return goes by the bytes that led there.
+-- `records::link` meets its contract: each return goes by the bytes that led there.
 -- Assumes nothing.
 use mathlib.Core.Path.{_≡_, ap, sym, _∙_}
 use mathlib.Core.Bool.{false}
@@ -11,10 +11,10 @@ use Rattle.model.specs.Plan.{Plan, blockCount, pairsNext}
 use Rattle.cluster.specs.Blocks.{linkOf}
 use Rattle.cluster.proofs.Laws.{linkOf-next, linkOf-first, linkOf-back}
 use Rattle.header.specs.Format.{asFormat}
-use Rattle.plan.specs.Reading.{RecordsOf}
-use Rattle.plan.proofs.Laws.{record-before, marked-next, unmarked-next, unpaired-link}
-use Rattle.plan.proofs.link.Statement.{statement}
-use Rattle.plan.proofs.link.Tie as tie
+use Rattle.records.specs.Records.{RecordsOf}
+use Rattle.records.proofs.Laws.{record-before, marked-next, unmarked-next, unpaired-link}
+use Rattle.records.proofs.link.Statement.{statement}
+use Rattle.records.proofs.link.Tie as tie
 
 -- a block that is not paired with the next one
 unmarked : (c : tie.Else2) (p : Plan)

@@ -1,10 +1,10 @@
--- `plan::upper_count` meets its contract.
+-- `records::upper_count` meets its contract.
 -- Assumes nothing.
 use native.Mathlib.Omega.{arith}
 use borrow.Author.Needs.{needs}
 use Rattle.model.specs.Plan.{upper}
-use Rattle.plan.proofs.upper_count.Statement.{statement}
-use Rattle.plan.proofs.upper_count.Tie as tie
+use Rattle.records.proofs.upper_count.Statement.{statement}
+use Rattle.records.proofs.upper_count.Tie as tie
 
 machines-for-requires : tie.Need-machines-for-requires
 machines-for-requires c κs = search needs

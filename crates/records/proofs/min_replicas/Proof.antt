@@ -1,10 +1,10 @@
--- `plan::min_replicas` meets its contract: it is the field after the popularity.
+-- `records::min_replicas` meets its contract: it is the field after the popularity.
 -- Assumes nothing.
 use borrow.Author.Needs.{needs}
 use Rattle.model.specs.Plan.{blockIn}
 use Rattle.header.proofs.Laws.{field-narrow}
-use Rattle.plan.proofs.min_replicas.Statement.{statement}
-use Rattle.plan.proofs.min_replicas.Tie as tie
+use Rattle.records.proofs.min_replicas.Statement.{statement}
+use Rattle.records.proofs.min_replicas.Tie as tie
 
 record-at-requires : tie.Need-record-at-requires
 record-at-requires c κs = search needs
