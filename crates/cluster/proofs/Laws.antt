@@ -1,6 +1,6 @@
 -- The numbers of a valid plan are in range, and its blocks' words give back what was put into them.
 -- Assumes nothing.
-use mathlib.Core.Path.{_≡_, refl, ap, sym, _∙_}
+use mathlib.Core.Path.{_≡_, refl, ap, _∙_}
 use mathlib.Core.Bool.{Bool, true, false, cond, _||_}
 use mathlib.Core.List.{List}
 use mathlib.Core.Logic.{inl, inr}
@@ -8,7 +8,7 @@ use Prim.Native.Nat.{ℕ, zero, suc, _+_, _-_, _≤_, _<_}
 use native.Mathlib.Nat.{le-trans}
 use native.Mathlib.Omega.{arith}
 use lib.ListN.{getD}
-use Rattle.order.proofs.Booleans.{no-contradiction, bool-cases}
+use Rattle.order.proofs.Booleans.{bool-cases}
 use Rattle.model.specs.Plan.{Plan, machines, maxReplicas, blockCount, blockOf, pairsNext, pairsBack, isPaired, partner, upper}
 use Rattle.model.specs.Replication.{FeasibleCounts, share}
 use Rattle.model.specs.Placement.{shareOf}

@@ -1,17 +1,16 @@
 -- Laws of the choice of counts that several of its functions cite.
 -- Assumes nothing.
-use mathlib.Core.Path.{_≡_, refl, ap, sym, _∙_}
+use mathlib.Core.Path.{_≡_, refl, sym}
 use mathlib.Core.Bool.{Bool, true}
 use mathlib.Core.List.{List, [], _∷_}
 use Prim.Native.Nat.{ℕ, suc, _/_, _<_, _≤_}
 use native.Mathlib.Nat.{le-trans, le-of-eq}
-use native.Mathlib.Omega.{arith}
 use borrow.Author.Tests.{eqb-true}
 use lib.Dec.{eqb}
 use lib.ListN.{getD}
 use Rattle.order.specs.Search.{allb}
 use Rattle.order.proofs.Extremes.{allb-at}
-use Rattle.model.specs.Plan.{Plan, maxReplicas, blockCount, upper}
+use Rattle.model.specs.Plan.{Plan, maxReplicas, upper}
 use Rattle.model.specs.Replication.{limit as limitOf, unit, share, largestShare, need, reachable}
 use Rattle.theory.proofs.Replication.{need-is, reachable-parts, largestShare-term}
 use Rattle.cluster.specs.declared.Cluster.{Cluster}

@@ -1,22 +1,21 @@
 -- A version 2 plan without pairs answers as the same plan in version 1: the two read as plans that are equal but for the version, and
 -- no definition above the reading looks at it.
 -- Assumes nothing.
-use mathlib.Core.Path.{_≡_, refl, ap, sym, _∙_}
+use mathlib.Core.Path.{_≡_, refl, sym, _∙_}
 use mathlib.Core.List.{List}
-use Prim.Native.Nat.{ℕ, zero, suc, _≤_}
+use Prim.Native.Nat.{ℕ, zero, suc}
 use native.Mathlib.Omega.{arith}
 use borrow.Author.Tests.{le-ltb, eq-eqb}
 use lib.ListN.{length}
-use Rattle.order.specs.Table.{table}
 use Rattle.order.proofs.Tables.{table-cong}
 use Rattle.model.specs.Plan.{Plan, upper, isPaired, pairsBack, pairsNext, partner, minTotal, markIn, versionIn, racksIn, rackSizeIn, capacityIn, blockCountIn, formatOf, recordAt, blockIn, planIn}
 use Rattle.model.specs.Refusal.{check1, check2, check3, check4, check5, check6, check7, blockRefusal, blocksRefusal, pairRefusal, pairsRefusal, planRefusal, refusal, Verdict, refused, accepted, verdict, judge}
 use Rattle.model.specs.Replication.{limit, largestShare, need, reachable, figure, chosen}
 use Rattle.model.specs.Placement.{replicas, replicasIn, domainsUsed, used, allWithin, allSpread, allFit, keptApart, allApart, countsFeasible, isFeasible, position, laidWord, firstWord, firstPlacement, shareOf, load, maxLoad, minLoad, totalLoad, maxShare}
-use Rattle.model.specs.Steps.{after, improves, canMove, canSwap, routes, nextMove, nextSwap, nextStep, isStep, Run, run}
-use Rattle.model.specs.Calls.{Outcome, onPlan, unless, bufferRefusal, allCounted, placementRefusal, onPlacement, reportOf, countsCall, firstCall, checkCall, reportCall, stepCall, runCall}
+use Rattle.model.specs.Steps.{after, improves, canMove, canSwap, routes, nextMove, nextSwap, nextStep, run}
+use Rattle.model.specs.Calls.{Outcome, onPlan, bufferRefusal, allCounted, placementRefusal, onPlacement, reportOf, countsCall, firstCall, checkCall, reportCall, stepCall, runCall}
 use Rattle.model.specs.Listing.{planLine, blockLine, lastLine, listingOf, printedOf, printed}
-use Rattle.theorems.specs.Versions.{withVersion, verdictWith, VersionFree, SameFields, SameAnswers, Versions}
+use Rattle.theorems.specs.Versions.{withVersion, verdictWith, VersionFree, SameFields, Versions}
 
 -- ── VersionFree ──────────────────────────────────────────────────────────────────────────────────
 module _ (version : ℕ) (p : Plan) where

@@ -17,7 +17,7 @@ use Rattle.order.proofs.Sums.{sum-suc, sum-cong, sum-ones, delta-same, delta-if
 use Rattle.order.proofs.Ranges.{sum-append, sum-pieces, sum-image}
 use Rattle.order.proofs.Residues.{residue-bound, residue-once, residues-met}
 use Rattle.order.proofs.Tables.{getD-table}
-use Rattle.model.specs.Plan.{Plan, machines, domain, domains, blockCount, blockOf, pairsNext, isPaired, partner, upper}
+use Rattle.model.specs.Plan.{Plan, machines, domain, domains, blockCount, blockOf, pairsNext, isPaired, partner}
 use Rattle.model.specs.Replication.{limit, FeasibleCounts, chosen}
 use Rattle.model.specs.Placement.{bit, wordOf, held, replicas, replicasIn, domainsUsed, used, Feasible, position, laidWord, firstWord, firstPlacement}
 use Rattle.theory.specs.Refusal.{Shaped}

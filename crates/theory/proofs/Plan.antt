@@ -5,7 +5,7 @@ use mathlib.Core.Path.{_≡_, refl, ap, ap₂, sym, _∙_}
 use mathlib.Core.Bool.{Bool, true, false, cond, _||_}
 use mathlib.Core.List.{List}
 use mathlib.Core.Logic.{_⊎_, inl, inr}
-use Prim.Native.Nat.{ℕ, zero, suc, _+_, _*_, _/_, _%_, _^_, _≤_, _<_, min}
+use Prim.Native.Nat.{ℕ, zero, suc, _+_, _*_, _/_, _%_, _^_, _≤_, _<_}
 use native.Mathlib.Nat.{one-le-mul, div-lt-iff-lt-mul, mod-mod-of-dvd, dvd-mul-right, min-le-left, min-le-right, le-trans, mul-le-mul, pow-suc}
 use native.Mathlib.Omega.{arith}
 use lib.Dec.{ltb}
@@ -13,7 +13,7 @@ use lib.Arith.{digits-div, digits-lt}
 use lib.ListN.{getD, take}
 use lib.Seq.{getD-take}
 use Rattle.order.specs.Sum.{sum, delta}
-use Rattle.order.proofs.Booleans.{no-contradiction, bool-cases, cond-all}
+use Rattle.order.proofs.Booleans.{no-contradiction, cond-all}
 use Rattle.order.proofs.Ranges.{sum-group}
 use Rattle.order.proofs.Tables.{length-table, getD-table}
 use Rattle.model.specs.Plan.{Plan, machines, domains, domain, domainSize, blockCount, noBlock, blockOf, pairsNext, pairsBack, isPaired, partner, maxReplicas, upper, field, latestVersion, formatOf, formatIn, recordAt, blockIn, blockCountIn, planIn}

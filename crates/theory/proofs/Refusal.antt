@@ -12,7 +12,7 @@ use native.Mathlib.Omega.{arith}
 use borrow.Author.Tests.{ltb-false, lt-ltb, le-ltb, eqb-true, eqb-false, not-false}
 use lib.Dec.{ltb, eqb, lit<, lit≤}
 use lib.ListN.{length}
-use Rattle.order.proofs.Booleans.{no-contradiction, not-so, and-iff, eqb-iff, or3-false, in-range}
+use Rattle.order.proofs.Booleans.{no-contradiction, and-iff, eqb-iff, or3-false, in-range}
 use Rattle.order.proofs.Searches.{none-below, first-all}
 use Rattle.model.specs.Plan.{Block, Plan, machines, domains, blockCount, blockOf, marksPair, pairsNext, upper, minTotal, commonLength, latestVersion, Format, formatIn, recordAt, planIn, markIn, versionIn, racksIn, rackSizeIn, capacityIn, blockCountIn}
 use Rattle.model.specs.Refusal.{refuseIf, orElse, isRefusal, mark, maxMachines, maxCapacity, maxBlocks, check1, check2, check3, check4, check5, check6, check7, check8, check9, alike, check17, check10, check11, check12, blockRefusal, blocksRefusal, pairRefusal, pairsRefusal, planRefusal, refusal, refused, accepted, verdict, judge}

@@ -1,10 +1,8 @@
 -- `index::first_above` meets its contract. The loop's invariant: the shares below `low` are at most the limit, and those from `high` on
 -- above it.
 -- Assumes nothing.
-use mathlib.Core.Path.{sym}
 use Prim.Native.Nat.{ℕ, _-_, _<_, _≤_}
 use native.Mathlib.Nat.{le-trans}
-use native.Mathlib.Decide.{decLt}
 use native.Mathlib.Omega.{arith}
 use borrow.Author.Needs.{needs}
 use Rattle.index.specs.Index.{shareAt}

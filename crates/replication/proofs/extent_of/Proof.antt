@@ -1,6 +1,6 @@
 -- `replication::extent_of` meets its contract. The loop's invariant: the largest shares and the sums of the blocks passed.
 -- Assumes nothing.
-use mathlib.Core.Path.{_≡_, ap, ap₂, sym, _∙_}
+use mathlib.Core.Path.{_≡_, ap₂, sym, _∙_}
 use Prim.Native.Nat.{ℕ, _+_, _-_, _*_, _<_, _≤_, max}
 use native.Mathlib.Omega.{arith}
 use Rattle.order.specs.Search.{largest}

@@ -2,9 +2,7 @@
 -- needs change; any other is, and so is the largest share of its needs.
 -- Assumes nothing.
 use borrow.Author.Needs.{needs}
-use mathlib.Core.Path.{_≡_, sym}
-use Prim.Native.Nat.{ℕ, _<_, _≤_}
-use native.Mathlib.Nat.{le-refl, le-trans}
+use native.Mathlib.Nat.{le-refl}
 use native.Mathlib.Omega.{arith}
 use Rattle.model.specs.Replication.{need}
 use Rattle.theory.proofs.Replication.{reachable-none, reachable-counts, reachable-feasible}

@@ -6,7 +6,7 @@ use native.Mathlib.Nat.{mul-le-mul, mul-le-mul-left, mul-le-mul-right, lt-of-not
 use native.Mathlib.Decide.{decLt, decLe}
 use native.Mathlib.Omega.{arith}
 use Rattle.model.specs.Plan.{maxReplicas}
-use Rattle.model.specs.Replication.{unit, share}
+use Rattle.model.specs.Replication.{unit}
 use Rattle.theory.proofs.Replication.{share-within}
 use Rattle.cluster.specs.Blocks.{popularityIn, leastIn, mostIn}
 use Rattle.replication.specs.Choice.{parts, ScaleOf, NeedAsked}

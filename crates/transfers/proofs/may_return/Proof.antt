@@ -1,6 +1,6 @@
 -- `transfers::may_return` meets its contract: of the blocks whose shares are near enough to `given`, the first by rank has the smallest.
 -- Assumes nothing.
-use mathlib.Core.Path.{_≡_, sym}
+use mathlib.Core.Path.{_≡_}
 use mathlib.Core.List.{List}
 use Prim.Native.Nat.{ℕ, _-_, _<_, _≤_}
 use native.Mathlib.Decide.{decLt}
