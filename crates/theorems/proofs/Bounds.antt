@@ -16,10 +16,11 @@ use Rattle.model.specs.Replication.{share}
 use Rattle.model.specs.Placement.{wordOf, held, replicasIn, domainsUsed, used, Feasible, shareOf, load, maxLoad, totalLoad, maxShare}
 use Rattle.model.specs.Steps.{shifted}
 use Rattle.theory.specs.Refusal.{Shaped, Valid}
+use Rattle.theory.specs.Replication.{EvenPairs}
 use Rattle.theory.proofs.Placement.{bit-le, replicasIn-members, shareOf-feasible, load-domain}
 use Rattle.theory.proofs.Plan.{isPaired-first, partner-first, domain-lt, domainSize-pos, member, member-lt, member-domain}
 use Rattle.theory.proofs.Steps.{domainsUsed-shift-inside, domainsUsed-shift-pos, domainsUsed-shift-across}
-use Rattle.theorems.specs.Bounds.{Settled, EvenPairs, OneSpread, LargerSpreads}
+use Rattle.theorems.specs.Bounds.{Settled, OneSpread, LargerSpreads}
 use Rattle.theorems.proofs.TotalLoad.{loads-total}
 use Rattle.theorems.proofs.TwoMachines.{two-machines}
 use Rattle.theorems.proofs.Items.{item, item-sum, item-cong, item-weight, item-exchange, Within, item-more, within-below, within-same, within-clear, item-bit}

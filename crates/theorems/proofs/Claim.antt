@@ -19,7 +19,7 @@ use Rattle.model.specs.Claims.{Request, askCheck, askStep, askRun, Call, Reply,
 use Rattle.theory.specs.Refusal.{Valid}
 use Rattle.theory.specs.Steps.{Taken, none-taken}
 use Rattle.theory.proofs.Refusal.{accepted-laws}
-use Rattle.theory.proofs.Replication.{chosen-partner}
+use Rattle.theory.proofs.Replication.{chosen-laws}
 use Rattle.theory.proofs.StepsNext.{taken-past, taken-feasible, nextStep-taken, run-laws}
 use Rattle.theory.proofs.Placement.{feasible-length}
 use Rattle.theory.proofs.Calls.{placementRefusal-passes, onPlan-made}
@@ -31,7 +31,7 @@ use Rattle.theorems.proofs.Agreement.{Agree, agree-feasible, agree-rest
 rest-bounded : (p : Plan) → Valid p → (words : List ℕ) → Feasible p (chosen p) words → AtRest p words → Bounded p words
 rest-bounded p valid words f rest =
     let count = chosen p in
-    let even = chosen-partner p valid in
+    let even = chosen-laws p valid .even in
     let settled = rest-settled p (valid .shaped) count words f rest in
     record {
       one-spread = λ count' other f' one.

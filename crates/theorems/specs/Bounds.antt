@@ -8,6 +8,7 @@ use Rattle.model.specs.Plan.{Plan, machines, blockCount, blockOf, isPaired, par
 use Rattle.model.specs.Placement.{wordOf, held, domainsUsed, used, Feasible, shareOf, load, maxLoad, maxShare}
 use Rattle.model.specs.Steps.{shifted}
 use Rattle.theory.specs.Refusal.{Valid}
+use Rattle.theory.specs.Replication.{EvenPairs}
 
 -- No transfer that the spreads and pairs allow lowers the higher load by more than the slack.
 pub record Settled (p : Plan) (words : List ℕ) (slack : ℕ) : Type 0 where
@@ -26,11 +27,7 @@ pub record Settled (p : Plan) (words : List ℕ) (slack : ℕ) : Type 0 where
       → (isPaired p j ≡ true → (partner p j ≡ i → ⊥) → held words m (partner p j) ≡ 0)
       → load p words m + shareOf p words j ≤ load p words n + shareOf p words i + slack
 
--- The two blocks of a pair have as many copies, as they have at the chosen counts.
-abbrev pub EvenPairs : Plan → (ℕ → ℕ) → Type 0
-EvenPairs p count = (i : ℕ) → i < blockCount p → isPaired p i ≡ true → count (partner p i) ≡ count i
-
--- Where every spread is one. The other placement's pairs need not be even.
+-- Where every spread is one, and the two blocks of a pair have as many copies, as at the chosen counts; the other placement's need not.
 abbrev pub OneSpread : Type 0
 OneSpread =
     (p : Plan) (words other : List ℕ) (count count' : ℕ → ℕ) (slack : ℕ)

@@ -20,7 +20,7 @@ use Rattle.model.specs.Refusal.{maxMachines, maxCapacity}
 use Rattle.model.specs.Replication.{limit, FeasibleCounts, unit, share, largestShare, need, reachable, figure, chosen}
 use Rattle.theory.specs.Widths.{popularityBound, shareBound}
 use Rattle.theory.specs.Refusal.{ValidBlock, Shaped, Valid}
-use Rattle.theory.specs.Replication.{ShareLaws, ChosenLaws, ChosenUnique}
+use Rattle.theory.specs.Replication.{ShareLaws, EvenPairs, ChosenLaws, ChosenUnique}
 use Rattle.theory.proofs.Plan.{partner-paired, partner-popularity, partner-minReplicas, upper-max, upper-same}
 
 -- ── limit ────────────────────────────────────────────────────────────────────────────────────────
@@ -306,6 +306,14 @@ module _ (p : Plan) (v : Valid p) where
 
 -- ── chosen ───────────────────────────────────────────────────────────────────────────────────────
 module _ (p : Plan) (v : Valid p) where
+  -- the two blocks of a pair have the same count
+  chosen-even : EvenPairs p (chosen p)
+  unfolding chosen
+  chosen-even i l paired =
+      need-alike p (figure p) (partner p i) i (partner-popularity p (v .shaped) i l paired)
+      (partner-minReplicas p (v .shaped) i l paired)
+      (upper-same p (partner p i) i (partner-paired p (v .shaped) i l paired ∙ sym paired))
+
   -- The chosen counts are optimal. Let lawful counts keep every share within some figure f. The need of a block at f is the first
   -- lawful count whose share is within f, so it is at most the block's count. Then every need is at most the upper count, and the
   -- needs sum to no more than the counts do, which is within the limit: f is reachable. So no lawful counts have a largest share
@@ -328,15 +336,8 @@ module _ (p : Plan) (v : Valid p) where
             le-antisymm
             (need-first p i b (figure p) (blockOf p i .minReplicas) (le-refl _) (b .min-upper) (rw (none, share-none) (omega arith)))
             (need-min p i b (figure p));
+        even = chosen-even;
       }
-
-  -- the two blocks of a pair have the same count
-  pub chosen-partner : (i : ℕ) → i < blockCount p → isPaired p i ≡ true → chosen p (partner p i) ≡ chosen p i
-  unfolding chosen
-  chosen-partner i l paired =
-      need-alike p (figure p) (partner p i) i (partner-popularity p (v .shaped) i l paired)
-      (partner-minReplicas p (v .shaped) i l paired)
-      (upper-same p (partner p i) i (partner-paired p (v .shaped) i l paired ∙ sym paired))
 
   -- Other counts with these laws have the same largest share, the figure, and each count is at most the other.
   pub chosen-unique : ChosenUnique p

@@ -1,8 +1,9 @@
 -- Document 01, "Counts and shares": what is claimed of shares and of the chosen counts.
 use mathlib.Core.Path.{_≡_}
+use mathlib.Core.Bool.{true}
 use Prim.Native.Nat.{ℕ, _*_, _<_, _≤_}
 use Rattle.order.specs.Sum.{sum}
-use Rattle.model.specs.Plan.{Plan, maxReplicas, blockCount, blockOf, upper}
+use Rattle.model.specs.Plan.{Plan, maxReplicas, blockCount, blockOf, isPaired, partner, upper}
 use Rattle.model.specs.Replication.{FeasibleCounts, unit, share, largestShare, figure, chosen}
 use Rattle.theory.specs.Refusal.{Valid}
 
@@ -27,6 +28,10 @@ Smallest p bound count =
     → share (blockOf p i .popularity) k ≤ bound
     → count i ≤ k
 
+-- Document 02, U1: the two blocks of a pair have as many copies.
+abbrev pub EvenPairs : Plan → (ℕ → ℕ) → Type 0
+EvenPairs p count = (i : ℕ) → i < blockCount p → isPaired p i ≡ true → count (partner p i) ≡ count i
+
 -- The chosen counts are lawful, and among the lawful counts the document's choice.
 pub record ChosenLaws (p : Plan) : Type 0 where
   pub feasible : FeasibleCounts p (chosen p)
@@ -37,6 +42,7 @@ pub record ChosenLaws (p : Plan) : Type 0 where
   pub smallest-count : Smallest p (figure p) (chosen p)
   -- A block with P = 0 has its least copies.
   pub unpopular : (i : ℕ) → i < blockCount p → blockOf p i .popularity ≡ 0 → chosen p i ≡ blockOf p i .minReplicas
+  pub even : EvenPairs p (chosen p)
 
 -- No other counts are the document's choice.
 abbrev pub ChosenUnique : Plan → Type 0
