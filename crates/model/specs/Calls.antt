@@ -18,16 +18,19 @@ pub data Answer (A : Type 0) : Type 0 where
   turnedBack : ℕ → Answer A
   answered : A → Answer A
 
--- The answer, and every item of the lent buffer at exit.
-pub record Outcome (A : Type 0) : Type 0 where
+-- The answer, and every item of the lent buffer at exit; the items are numbers but where another type is named.
+pub record OutcomeOver (I A : Type 0) : Type 0 where
   pub answer : Answer A
-  pub items : List ℕ
+  pub items : List I
 
-abbrev pub refuse : {A : Type 0} → ℕ → List ℕ → Outcome A
+abbrev pub Outcome : Type 0 → Type 0
+Outcome A = OutcomeOver ℕ A
+
+abbrev pub refuse : {I A : Type 0} → ℕ → List I → OutcomeOver I A
 refuse code items = record { answer = turnedBack code; items = items }
 
 -- The call where the code is 0, otherwise that refusal.
-unfoldable pub unless : {A : Type 0} → ℕ → List ℕ → Outcome A → Outcome A
+unfoldable pub unless : {I A : Type 0} → ℕ → List I → OutcomeOver I A → OutcomeOver I A
 unless zero items call = call
 unless (suc code) items call = refuse (suc code) items
 
@@ -37,7 +40,7 @@ callRefusal (refused code) rows = code
 callRefusal (accepted p) rows = rows p
 
 -- A call that is made where neither the plan nor the call's own rows are refused.
-unfoldable pub onPlan : {A : Type 0} → Verdict → List ℕ → (Plan → ℕ) → (Plan → Outcome A) → Outcome A
+unfoldable pub onPlan : {I A : Type 0} → Verdict → List I → (Plan → ℕ) → (Plan → OutcomeOver I A) → OutcomeOver I A
 onPlan (refused code) items rows call = refuse code items
 onPlan (accepted p) items rows call = unless (rows p) items (call p)
 

@@ -7,3 +7,5 @@ pub mod Steps
 pub mod Calls
 pub mod Claims
 pub mod Listing
+pub mod ReadLog
+pub mod Histories

@@ -2,3 +2,4 @@
 pub mod Sum
 pub mod Table
 pub mod Search
+pub mod Select

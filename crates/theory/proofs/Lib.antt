@@ -9,4 +9,5 @@ pub mod Steps
 pub mod StepsLocal
 pub mod StepsNext
 pub mod Calls
+pub mod ReadLog
 pub mod Listing

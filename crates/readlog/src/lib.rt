@@ -1,0 +1,66 @@
+// A lent list of entries: the last tick, the number of a block's entries, old ones dropped, a new one appended. These functions only go over
+// the records; what becomes of each is decided in `window`.
+use model::Entry;
+ghost use mathlib.Core.Path.{_≡_};
+ghost use Prim.Native.Nat.{_≤_};
+ghost use lib.ListN.{length, take};
+ghost use Rattle.model.specs.ReadLog.{entry, readsOf};
+ghost use Rattle.readlog.specs.Records.{lastOr, CompactedAs, appended};
+
+// The tick of the last of `count` entries; `tick` where there is none.
+pub fn last_tick(list: &[Entry], count: usize, tick: u32) -> u32
+    requires { ⌜ count ≤ length (now list) ⌝ }
+    ensures { λ r. ⌜ r ≡ lastOr (now (list .entry)) count tick ⌝ }
+{
+    if count == 0 {
+        return tick;
+    }
+    list[count - 1].tick
+}
+
+// The number of a block's entries among the first `count` records.
+pub fn reads_of(list: &[Entry], count: usize, block: u32) -> usize
+    requires { ⌜ count ≤ length (now list) ⌝ }
+    ensures { λ r. ⌜ r ≡ readsOf block (take count (now (list .entry))) ⌝ }
+{
+    let mut found: usize = 0;
+    let mut i: usize = 0;
+    while i < count {
+        found = window::tally(found, list[i].block, block);
+        i += 1;
+    }
+    found
+}
+
+// Drops the entries that are too old: the others move to the front in order, and the later records below `limit` are cleared. Answers how
+// many are kept.
+pub fn drop_old(list: &mut [Entry], limit: usize, count: usize, tick: u32) -> usize
+    requires { ⌜ (limit ≤ length (now list)) × (count ≤ limit) ⌝ }
+    ensures { λ r. ⌜ CompactedAs tick limit count (now (list .entry)) (now (list .exit)) r ⌝ }
+{
+    let mut kept: usize = 0;
+    let mut i: usize = 0;
+    while i < limit {
+        let e = list[i];
+        list[i] = Entry { block: 0, tick: 0 };
+        let s = window::sift(e, i, count, tick, kept);
+        let at = s.at;
+        list[at] = s.entry;
+        kept = s.kept;
+        i += 1;
+    }
+    kept
+}
+
+// Stores an entry at a place below `limit`; nothing where the place is not.
+pub fn append(list: &mut [Entry], at: usize, limit: usize, block: u32, tick: u32)
+    requires { ⌜ limit ≤ length (now list) ⌝ }
+    ensures { λ r. ⌜ now (list .exit) ≡ appended (entry block tick) at limit (now (list .entry)) ⌝ }
+{
+    if at < limit {
+        list[at] = Entry {
+            block: block,
+            tick: tick,
+        };
+    }
+}

@@ -1,0 +1,2 @@
+-- Laws of an age, and of what the functions on numbers say.
+-- Assumes nothing.

@@ -1,0 +1,31 @@
+-- What becomes of each record of a list, one after the other, and of a call's refusal code.
+use mathlib.Core.Bool.{Bool, cond, not, _&&_}
+use Prim.Native.Nat.{ℕ, _+_}
+use lib.Dec.{ltb, eqb}
+use Rattle.model.specs.declared.Entry.{Entry}
+use Rattle.model.specs.Refusal.{refuseIf, orElse}
+use Rattle.model.specs.ReadLog.{noEntry, age, inWindow, longestGap}
+use Rattle.window.specs.declared.Sifted.{Sifted}
+
+-- The code so far, else 20 where the last tick's age is 2 to the power 31 or more.
+unfoldable pub gapCode : ℕ → ℕ → ℕ → ℕ
+gapCode code tick last = orElse code (refuseIf (not (ltb (age tick last) longestGap)) 20 0)
+
+-- So many where the code is 0, else none.
+unfoldable pub unrefused : ℕ → ℕ → ℕ
+unrefused code n = cond (eqb code 0) n 0
+
+-- Whether record i is an entry that is kept.
+unfoldable pub isKept : Entry → ℕ → ℕ → ℕ → Bool
+isKept e i count tick = ltb i count && inWindow tick e
+
+-- The record stored and its place: an entry that is kept behind those kept before, else a cleared record where it stood.
+unfoldable pub sifted : Entry → ℕ → ℕ → ℕ → ℕ → Sifted
+sifted e i count tick kept =
+    cond (isKept e i count tick)
+    (record { entry = e; at = kept; kept = kept + 1 })
+    (record { entry = noEntry; at = i; kept = kept })
+
+-- The number of a block's entries, with the next record's.
+unfoldable pub tallied : ℕ → ℕ → ℕ → ℕ
+tallied before found block = cond (eqb found block) (before + 1) before

@@ -1,0 +1,107 @@
+// The reads of the last two hours, on numbers: ages, how far a lent list is used, and what becomes of each of its records.
+use model::Entry;
+ghost use mathlib.Core.Path.{_≡_};
+ghost use Prim.Native.Nat.{_≤_, _<_, _^_};
+ghost use Rattle.model.specs.ReadLog.{age, usable, standing};
+ghost use Rattle.window.specs.Window.{gapCode, unrefused, sifted, tallied};
+
+// The most records of a list that are used.
+const MAX_ENTRIES: usize = 4096;
+
+// A read counts while its age is below this.
+const WINDOW: u32 = 7200000;
+
+// The last tick's age from which a read is refused 20.
+const LONGEST_GAP: u32 = 2147483648;
+
+// What becomes of a record while a list is compacted: the entry to store, where, and how many are kept so far.
+pub struct Sifted {
+    pub entry: Entry,
+    pub at: usize,
+    pub kept: usize,
+}
+
+// The age of a tick: the difference modulo 2^32.
+fn age(now: u32, tick: u32) -> u32
+    ensures { λ r. ⌜ r ≡ age now tick ⌝ }
+{
+    std::num::wrapping_sub_u32(now, tick)
+}
+
+// The usable length of a list.
+pub fn usable(lent: usize) -> usize
+    ensures { λ r. ⌜ r ≡ usable lent ⌝ }
+{
+    if lent < MAX_ENTRIES {
+        return lent;
+    }
+    MAX_ENTRIES
+}
+
+// The entries that stand in a list: the count handed in, or the usable length if that is smaller.
+pub fn standing(lent: usize, count: u64) -> usize
+    ensures { λ r. ⌜ r ≡ standing lent count ⌝ }
+{
+    let room = usable(lent);
+    if count < room as u64 {
+        return count as usize;
+    }
+    room
+}
+
+// Check 20 after another one's code: the last tick's age.
+pub fn gap_refusal(code: u8, tick: u32, last: u32) -> u8
+    ensures { λ r. ⌜ r ≡ gapCode code tick last ⌝ }
+{
+    if code != 0 {
+        return code;
+    }
+    if age(tick, last) < LONGEST_GAP {
+        return 0;
+    }
+    20
+}
+
+// How many records a call works on: so many where nothing is refused, else none.
+pub fn unrefused(code: u8, n: usize) -> usize
+    ensures { λ r. ⌜ r ≡ unrefused code n ⌝ }
+{
+    if code == 0 {
+        return n;
+    }
+    0
+}
+
+// What becomes of record i of a list with `count` entries: an entry of the window moves behind those kept, any other record is cleared.
+pub fn sift(e: Entry, i: usize, count: usize, tick: u32, kept: usize) -> Sifted
+    requires { ⌜ kept ≤ i ⌝ }
+    ensures { λ r. ⌜ r ≡ sifted e i count tick kept ⌝ }
+{
+    let cleared = Sifted {
+        entry: Entry { block: 0, tick: 0 },
+        at: i,
+        kept: kept,
+    };
+    if i >= count {
+        return cleared;
+    }
+    if age(tick, e.tick) >= WINDOW {
+        return cleared;
+    }
+    Sifted {
+        entry: e,
+        at: kept,
+        kept: kept + 1,
+    }
+}
+
+// The number of a block's entries, one record further.
+pub fn tally(before: usize, found: u32, block: u32) -> usize
+    requires { ⌜ before < 2 ^ 63 ⌝ }
+    ensures { λ r. ⌜ r ≡ tallied before found block ⌝ }
+{
+    if found == block {
+        return before + 1;
+    }
+    before
+}
