@@ -79,6 +79,10 @@ linkOf-cases p (suc i) = go (pairsNext p (suc i)) (pairsNext p i)
 pub linkOf-narrow : (p : Plan) (i : ℕ) → linkOf p i < 4
 linkOf-narrow p i = linkOf-cases p i .0
 
+-- it leads to the partner, or to the block itself
+pub linkOf-mate : (p : Plan) (i : ℕ) → (1 ≤ i + linkOf p i) × (i + linkOf p i - 1 ≡ mate p i)
+linkOf-mate p i = (linkOf-cases p i .1, linkOf-cases p i .2)
+
 -- it goes by the block's byte, and then by the preceding one's
 pub linkOf-next : (p : Plan) (i : ℕ) → pairsNext p i ≡ true → linkOf p i ≡ 2
 unfolding linkOf

@@ -1,7 +1,7 @@
 -- What the reader's answers say, in the model's terms.
 use mathlib.Core.Path.{_≡_}
 use mathlib.Core.List.{List}
-use Prim.Native.Nat.{ℕ, _≤_}
+use Prim.Native.Nat.{ℕ, _<_, _≤_}
 use lib.ListN.{length}
 use Rattle.order.specs.Table.{table, filled}
 use Rattle.model.specs.Plan.{Plan, minTotal, formatIn, recordAt, blockIn, planIn}
@@ -53,6 +53,11 @@ pub record DecodeAsked (bytes : List ℕ) (h : Header) (demands : List ℕ) : Ty
 pub record Decoded (bytes : List ℕ) (h : Header) (demands₀ demands : List ℕ) : Type 0 where
   pub are : demands ≡ filled (h .cluster .blocks) (demandOf (planOf bytes h)) demands₀
   pub fit : DemandsFit (h .cluster) demands
+
+-- What looking for a block's partner is given: an accepted plan's bytes with its header, and one of its blocks.
+pub record MateAsked (bytes : List ℕ) (h : Header) (i : ℕ) : Type 0 where
+  pub accepts : judge bytes ≡ accepted (planOf bytes h)
+  pub below : i < h .cluster .blocks
 
 -- What holds of a header that was accepted with its bytes.
 pub record AcceptedHeader (bytes : List ℕ) (h : Header) : Type 0 where

@@ -2,10 +2,12 @@
 use header::Header;
 use header::HeaderAnswer;
 ghost use mathlib.Core.Path.{_≡_};
+ghost use Prim.Native.Nat.{_<_};
 ghost use Rattle.model.specs.Plan.{planIn};
 ghost use Rattle.model.specs.Refusal.{pairsRefusal, judge};
 ghost use Rattle.header.specs.Header.{PassedAs};
-ghost use Rattle.plan.specs.Reading.{verdictOf, RecordsRead, TotalAs, DecodeAsked, Decoded};
+ghost use Rattle.cluster.specs.Blocks.{mate};
+ghost use Rattle.plan.specs.Reading.{planOf, verdictOf, RecordsRead, TotalAs, DecodeAsked, Decoded, MateAsked};
 
 // What a plan's bytes are: refused with its number, or accepted with the header's fields.
 pub enum Reading {
@@ -125,4 +127,13 @@ pub fn decode(bytes: &[u8], h: Header, demands: &mut [u64])
         );
         i += 1;
     }
+}
+
+// The partner of block i of an accepted plan; i itself where it has none.
+pub fn mate(bytes: &[u8], h: Header, i: usize) -> usize
+    requires { ⌜ MateAsked (now bytes) h i ⌝ }
+    ensures { λ r. ⌜ (r ≡ mate (planOf (now (bytes .entry)) h) i) × (r < 2048) ⌝ }
+{
+    let format = header::format_in(bytes);
+    i + records::link(bytes, format, i) - 1
 }

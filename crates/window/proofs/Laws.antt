@@ -1,2 +1,11 @@
--- Laws of an age, and of what the functions on numbers say.
+-- Laws of the answers.
 -- Assumes nothing.
+use mathlib.Core.Path.{_≡_, refl}
+use Prim.Native.Nat.{ℕ, zero, suc}
+use Rattle.window.specs.declared.ReadsAnswer.{ReadsAnswer}
+use Rattle.window.specs.declared.ReadsAnswer.the-variants.{Refused}
+use Rattle.window.specs.Window.{numberUnless}
+
+pub numberUnless-some : (code : ℕ) (answer : ReadsAnswer) → (code ≡ 0 → ⊥) → numberUnless code answer ≡ Refused code
+numberUnless-some zero answer some = absurd (some refl)
+numberUnless-some (suc code) answer some = refl

@@ -1,0 +1,32 @@
+// The calls on reads: a read noted in a lent list of entries, and a block's popularity counted there. Both take a plan's bytes, the list and
+// the count of its entries; what they do with them is decided in `window` and done in `readlog`.
+use model::Entry;
+use window::ReadsAnswer;
+ghost use mathlib.Core.Path.{_≡_};
+ghost use Rattle.model.specs.ReadLog.{readCall, popularityCall};
+ghost use Rattle.reads.specs.Answers.{readsOutcome};
+
+// A read of a block at a tick. Entries that are too old are dropped and the read is appended; the new count is answered. Nothing is written
+// where it is refused.
+pub fn read(plan: &[u8], block: u32, tick: u32, list: &mut [Entry], count: u64) -> ReadsAnswer
+    ensures { λ r. ⌜ readsOutcome r (now (list .exit)) ≡ readCall (now (plan .entry)) block tick (now (list .entry)) count ⌝ }
+{
+    let lent = list.len();
+    let standing = window::standing(lent, count);
+    let last = readlog::last_tick(list, standing, tick);
+    let judged = window::judge_read(plan, block, tick, last, lent, standing);
+    let kept = readlog::drop_old(list, judged.limit, judged.count, tick);
+    readlog::append(list, kept, judged.limit, block, tick);
+    window::read_answer(judged.code, kept, judged.limit)
+}
+
+// A block's popularity: the number of its entries, of a paired block the larger of the two. Nothing is written.
+pub fn popularity(plan: &[u8], block: u32, list: &[Entry], count: u64) -> ReadsAnswer
+    ensures { λ r. ⌜ readsOutcome r (now (list .entry)) ≡ popularityCall (now (plan .entry)) block (now (list .entry)) count ⌝ }
+{
+    let lent = list.len();
+    let searched = window::search(plan, block, lent, count);
+    let own = readlog::reads_of(list, searched.own, block);
+    let other = readlog::reads_of(list, searched.other, searched.mate);
+    window::popularity_answer(searched.code, own, other)
+}
