@@ -6,5 +6,6 @@ pub mod SumChanges
 pub mod Ranges
 pub mod Residues
 pub mod Tables
+pub mod Selects
 pub mod Searches
 pub mod Extremes

@@ -1,0 +1,5 @@
+pub mod Entries
+pub mod Prelude
+pub mod CountLaws
+pub mod SweptLaws
+pub mod CompactLaws

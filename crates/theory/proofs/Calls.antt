@@ -1,10 +1,10 @@
 -- Laws of the calls: how a call's outcome follows from the verdict and the code of its own checks, and that rows 12 to 16 and 18 pass
 -- exactly the lawful placements with the chosen counts.
 -- Assumes nothing.
-use mathlib.Core.Path.{_≡_, ap, sym, _∙_}
+use mathlib.Core.Path.{_≡_, refl, ap, sym, _∙_}
 use mathlib.Core.Bool.{Bool, true, not}
 use mathlib.Core.List.{List}
-use mathlib.Core.Logic.{_↔_}
+use mathlib.Core.Logic.{_↔_, _⊎_, inl, inr}
 use Prim.Native.Nat.{ℕ, zero, suc, _<_, _≤_}
 use native.Mathlib.Decide.{decLt}
 use native.Mathlib.Omega.{arith}
@@ -17,19 +17,19 @@ use Rattle.model.specs.Plan.{Plan, blockCount}
 use Rattle.model.specs.Refusal.{refuseIf, check12, Verdict, refused, accepted}
 use Rattle.model.specs.Replication.{chosen}
 use Rattle.model.specs.Placement.{countOf, Feasible, allWithin, allSpread, allFit, allApart}
-use Rattle.model.specs.Calls.{Outcome, refuse, unless, callRefusal, onPlan, allCounted, placementRefusal}
+use Rattle.model.specs.Calls.{OutcomeOver, refuse, unless, callRefusal, onPlan, allCounted, placementRefusal}
 use Rattle.theory.specs.Refusal.{Valid}
 use Rattle.theory.proofs.Refusal.{refuseIf-zero, refuseIf-all, check12-zero, check12-short, check12-enough}
 use Rattle.theory.proofs.Replication.{chosen-laws}
 use Rattle.theory.proofs.Placement.{feasible-length, allWithin-iff, allSpread-iff, allFit-iff, allApart-iff}
 
 -- ── unless ───────────────────────────────────────────────────────────────────────────────────────
-module _ {A : Type 0} (items : List ℕ) where
-  pub unless-none : (code : ℕ) (call : Outcome A) → code ≡ 0 → unless code items call ≡ call
+module _ {I A : Type 0} (items : List I) where
+  pub unless-none : (code : ℕ) (call : OutcomeOver I A) → code ≡ 0 → unless code items call ≡ call
   unfolding unless
   unless-none code call e = ap (λ (n : ℕ). unless n items call) e
 
-  pub unless-some : (code n : ℕ) (call : Outcome A) → n ≡ code → 1 ≤ code → unless n items call ≡ refuse code items
+  pub unless-some : (code n : ℕ) (call : OutcomeOver I A) → n ≡ code → 1 ≤ code → unless n items call ≡ refuse code items
   unfolding unless
   unless-some zero n call e l = absurd (omega arith)
   unless-some (suc code) n call e l = ap (λ (m : ℕ). unless m items call) e
@@ -55,7 +55,7 @@ callRefusal-short (accepted p) lent code later e some = elim (decLt lent (blockC
 
 -- ── onPlan ───────────────────────────────────────────────────────────────────────────────────────
 -- a call is refused with the code of its checks, or made
-module _ {A : Type 0} (items : List ℕ) (rows : Plan → ℕ) (call : Plan → Outcome A) where
+module _ {I A : Type 0} (items : List I) (rows : Plan → ℕ) (call : Plan → OutcomeOver I A) where
   pub onPlan-verdict : (v : Verdict) (code : ℕ) → v ≡ refused code → onPlan v items rows call ≡ refuse code items
   unfolding onPlan
   onPlan-verdict v code e = ap (λ (w : Verdict). onPlan w items rows call) e
@@ -68,6 +68,25 @@ module _ {A : Type 0} (items : List ℕ) (rows : Plan → ℕ) (call : Plan → 
   pub onPlan-made : (v : Verdict) (p : Plan) → v ≡ accepted p → rows p ≡ 0 → onPlan v items rows call ≡ call p
   unfolding onPlan
   onPlan-made v p e none = ap (λ (w : Verdict). onPlan w items rows call) e ∙ unless-none items (rows p) (call p) none
+
+  -- A call that was refused, or made.
+  abbrev pub Refuses : Verdict → Type 0
+  Refuses v = (code : ℕ) × (onPlan v items rows call ≡ refuse code items)
+
+  pub record Makes (v : Verdict) : Type 0 where
+    pub plan : Plan
+    pub accepts : v ≡ accepted plan
+    pub passes : rows plan ≡ 0
+    pub is : onPlan v items rows call ≡ call plan
+
+  pub onPlan-cases : (v : Verdict) → Refuses v ⊎ Makes v
+  unfolding onPlan unless
+  onPlan-cases (refused code) = inl (code, refl)
+  onPlan-cases (accepted p) = go (rows p) refl
+    where
+      go : (code : ℕ) → rows p ≡ code → Refuses (accepted p) ⊎ Makes (accepted p)
+      go zero e = inr (record { plan = p; accepts = refl; passes = e; is = unless-none items (rows p) (call p) e })
+      go (suc code) e = inl (suc code, unless-some items (suc code) (rows p) (call p) e (omega arith))
 
 -- ── allCounted ───────────────────────────────────────────────────────────────────────────────────
 allCounted-iff : (p : Plan) (words : List ℕ)
