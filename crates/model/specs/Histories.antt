@@ -1,15 +1,11 @@
--- Document 02, U2: what the list holds after any sequence of calls from an empty one.
+-- Document 02, U2: sequences of calls on reads, the reads that they accept, and which of these are of the last two hours.
 use mathlib.Core.Bool.{Bool, true, cond, _&&_}
-use mathlib.Core.Path.{_≡_}
 use mathlib.Core.List.{List, [], _∷_, _++_}
-use Prim.Native.Nat.{ℕ, _+_, _<_, _≤_}
+use Prim.Native.Nat.{ℕ, _+_, _<_}
 use lib.Dec.{ltb}
-use lib.ListN.{length, drop}
 use Rattle.model.specs.declared.Entry.{Entry}
-use Rattle.model.specs.Plan.{Plan, blockCount}
-use Rattle.model.specs.Refusal.{judge, accepted}
-use Rattle.model.specs.Calls.{Answer, turnedBack, answered, OutcomeOver}
-use Rattle.model.specs.ReadLog.{entry, tickBound, age, window, inWindow, usable, entriesIn, longestGap, readCall, popularityOf, popularityCall}
+use Rattle.model.specs.Calls.{Answer, turnedBack, answered}
+use Rattle.model.specs.ReadLog.{entry, tickBound, age, window, inWindow, longestGap, readCall, popularityCall}
 
 -- A call on reads: the bytes that it gets for the plan, and a read of a block at a tick, or a block's popularity.
 pub data ReadRequest : Type 0 where
@@ -94,22 +90,6 @@ unfoldable pub AllTicks : List ReadsCall → Type 0
 AllTicks [] = Unit {0}
 AllTicks (call ∷ calls) = Ticks (call .request) × AllTicks calls
 
--- What holds after the calls, of the list lent before them and the reads accepted.
-pub record Counted (list : List Entry) (reads : List Entry) (log : Log) : Type 0 where
-  pub count-max : log .count ≤ usable (length list)
-  pub beyond : drop (usable (length list)) (log .list) ≡ drop (usable (length list)) list
-  pub entries-are : entriesIn (log .list) (log .count) ≡ stillCounted reads
-  pub close : Successive reads
-  pub in-time : entriesIn (log .list) (log .count) ≡ recent reads
-  pub popularity-is : (bytes : List ℕ) (p : Plan) (block : ℕ) → judge bytes ≡ accepted p → block < blockCount p
-      → popularityCall bytes block (log .list) (log .count) .answer ≡ answered (popularityOf p block (recent reads))
-
 -- An empty list has no entries, whatever its records hold.
 abbrev pub emptyLog : List Entry → Log
 emptyLog list = record { list = list; count = 0 }
-
--- The claim: from an empty list, after every sequence of calls.
-abbrev pub ReadsClaim : Type 0
-ReadsClaim =
-    (list : List Entry) (calls : List ReadsCall) → AllTicks calls
-    → Counted list (acceptedReads calls (emptyLog list)) (playReads calls (emptyLog list))

@@ -4,6 +4,7 @@ pub mod Exact
 pub mod Potential
 pub mod Bounds
 pub mod Claim
+pub mod Histories
 pub mod Trials
 pub mod RowExamples
 pub mod Versions
