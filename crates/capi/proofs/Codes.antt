@@ -5,18 +5,22 @@ use mathlib.Core.Bool.{Bool, true, false}
 use mathlib.Core.Logic.{_⊎_, _↔_, inl, inr}
 use mathlib.Core.List.{List, []}
 use Prim.Native.Nat.{ℕ, zero, suc, _≤_}
+use native.Mathlib.Nat.{le-trans}
 use native.Mathlib.Decide.{decLe}
 use native.Mathlib.Omega.{arith}
 use lib.Dec.{ltb, lit≤}
 use lib.ListN.{length}
 use Rattle.model.specs.Plan.{Plan, blockCount, planIn}
 use Rattle.model.specs.Refusal.{refuseIf, check12, refusal, accepted, verdict, judge, verdictCode}
-use Rattle.model.specs.Calls.{Answer, turnedBack, answered, Outcome, onPlan, unless, bufferRefusal, placementRefusal, onPlacement, countsCall, firstCall, checkCall, reportCall, stepCall, runCall}
+use Rattle.model.specs.Calls.{Answer, turnedBack, answered, Outcome, OutcomeOver, onPlan, unless, bufferRefusal, placementRefusal, onPlacement, countsCall, firstCall, checkCall, reportCall, stepCall, runCall}
 use Rattle.model.specs.Listing.{listingRoom, roomRefusal, wrote, listingCall}
 use Rattle.theory.proofs.Refusal.{refuseIf-all, refusal-le}
+use Rattle.model.specs.declared.Entry.{Entry}
+use Rattle.model.specs.ReadLog.{readCall, popularityCall}
 use Rattle.theory.proofs.Calls.{placementRefusal-le}
+use Rattle.theory.proofs.ReadLog.{check19-le, readRefusal-le}
 use Rattle.capi.specs.Interface.{shortOut, replied}
-use Rattle.capi.specs.Codes.{lastRow, RefusalCode, Tells, EffectTells, Codes}
+use Rattle.capi.specs.Codes.{lastRow, RefusalCode, Tells, EffectTells, Codes, ReadCodes}
 use Rattle.capi.proofs.Laws.{out-short, out-enough}
 
 -- row 12 alone
@@ -29,35 +33,36 @@ abbrev Told : {A : Type 0} → Answer A → Type 0
 Told (turnedBack code) = RefusalCode code
 Told (answered a) = Unit
 
-module _ {A : Type 0} (items : List ℕ) where
-  unless-told : (code : ℕ) (call : Outcome A) → (code ≤ lastRow) ⊎ (code ≡ shortOut) → Told (call .answer)
+module _ {I A : Type 0} (items : List I) where
+  unless-told : (code : ℕ) (call : OutcomeOver I A) → (code ≤ lastRow) ⊎ (code ≡ shortOut) → Told (call .answer)
       → Told (unless code items call .answer)
   unfolding unless
   unless-told zero call row told = told
   unless-told (suc code) call row told = record { some = omega arith; row = row }
 
-  verdict-told : (code : ℕ) (p : Plan) (rows : Plan → ℕ) (call : Plan → Outcome A) → code ≤ 17
+  verdict-told : (code : ℕ) (p : Plan) (rows : Plan → ℕ) (call : Plan → OutcomeOver I A) → code ≤ 17
       → (rows p ≤ lastRow) ⊎ (rows p ≡ shortOut) → Told (call p .answer) → Told (onPlan (verdict code p) items rows call .answer)
   unfolding onPlan
   verdict-told zero p rows call l row told = unless-told (rows p) (call p) row told
   verdict-told (suc code) p rows call l row told = record { some = omega arith; row = inl (omega arith) }
 
-  plan-told : (bytes : List ℕ) (rows : Plan → ℕ) (call : Plan → Outcome A) → rows (planIn bytes) ≤ lastRow → Told (call (planIn bytes) .answer)
+  plan-told : (bytes : List ℕ) (rows : Plan → ℕ) (call : Plan → OutcomeOver I A) → rows (planIn bytes) ≤ lastRow → Told (call (planIn bytes) .answer)
       → Told (onPlan (judge bytes) items rows call .answer)
   unfolding judge
   plan-told bytes rows call row told = verdict-told (refusal bytes) (planIn bytes) rows call (refusal-le bytes) (inl row) told
 
-  placement-told : (bytes : List ℕ) (call : Plan → Outcome A) → Told (call (planIn bytes) .answer)
-      → Told (onPlacement bytes items call .answer)
-  unfolding onPlacement
-  placement-told bytes call told = plan-told bytes (placementRefusal items) call (placementRefusal-le (planIn bytes) items) told
+placement-told : {A : Type 0} (items bytes : List ℕ) (call : Plan → Outcome A) → Told (call (planIn bytes) .answer)
+    → Told (onPlacement bytes items call .answer)
+unfolding onPlacement
+placement-told items bytes call told =
+    plan-told items bytes (placementRefusal items) call (le-trans (placementRefusal-le (planIn bytes) items) (lit≤ tt)) told
 
 -- two constructors
 clash : _≡_ {A = ℕ} 0 1 → ⊥
 clash e = omega arith
 
 -- the code of an effect tells what the answer is
-replied-tells : {A : Type 0} (need : ℕ) (numbers : A → List ℕ) (items out : List ℕ) → need ≤ length out
+replied-tells : {I A : Type 0} (need : ℕ) (numbers : A → List ℕ) (items : List I) (out : List ℕ) → need ≤ length out
     → (answer : Answer A) → Told answer → Tells need out answer (replied numbers answer items out .code)
 unfolding replied
 replied-tells need numbers items out l (turnedBack code) told =
@@ -68,7 +73,7 @@ replied-tells need numbers items out l (turnedBack code) told =
 replied-tells need numbers items out l (answered a) told =
     record { known = inl refl; done = (λ e. record { room = l; given = (a, refl) }, λ d. refl) }
 
-effect-tells : {A : Type 0} (need : ℕ) (numbers : A → List ℕ) (items out : List ℕ) (call : Outcome A) → Told (call .answer)
+effect-tells : {I A : Type 0} (need : ℕ) (numbers : A → List ℕ) (items : List I) (out : List ℕ) (call : OutcomeOver I A) → Told (call .answer)
     → EffectTells need numbers items out call
 effect-tells need numbers items out call told =
     elim (decLe need (length out)) [
@@ -138,3 +143,16 @@ module _ (plan items out : List ℕ) (budget : ℕ) where
         run-tells = effect-tells _ _ items out _ run-told;
         listing-tells = effect-tells _ _ items out _ listing-told;
       }
+
+-- the calls on reads
+module _ (plan : List ℕ) (list : List Entry) (out : List ℕ) (block tick count : ℕ) where
+  read-told : Told (readCall plan block tick list count .answer)
+  unfolding readCall
+  read-told = plan-told list plan _ _ (readRefusal-le block tick list count (planIn plan)) tt
+
+  popularity-told : Told (popularityCall plan block list count .answer)
+  unfolding popularityCall
+  popularity-told = plan-told list plan _ _ (check19-le block (blockCount (planIn plan)) 0 (lit≤ tt)) tt
+
+  pub read-codes : ReadCodes plan list out block tick count
+  read-codes = record { read-tells = effect-tells _ _ list out _ read-told; popularity-tells = effect-tells _ _ list out _ popularity-told }

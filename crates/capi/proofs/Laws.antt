@@ -10,10 +10,14 @@ use lib.Seq.{ext-getD}
 use Rattle.order.specs.Table.{table, filled}
 use Rattle.order.proofs.Tables.{length-table, getD-table, filled-none, filled-more}
 use Rattle.model.specs.Steps.{Step, none, move, swap}
-use Rattle.model.specs.Calls.{Outcome, answered, refuse}
-use Rattle.capi.specs.Interface.{effectOf, shortOut, over, replied, effect, stepNumbers}
+use Rattle.model.specs.Calls.{OutcomeOver, answered, refuse}
+use Rattle.model.specs.declared.Entry.{Entry}
+use Rattle.window.specs.declared.ReadsAnswer.{ReadsAnswer}
+use Rattle.window.specs.declared.ReadsAnswer.the-variants.{Refused, Number}
+use Rattle.reads.specs.Answers.{readsOutcome}
+use Rattle.capi.specs.Interface.{effectOf, shortOut, over, replied, effect, stepNumbers, oneNumber, toldCode, toldOut}
 
-module _ {A : Type 0} (need : ℕ) (numbers : A → List ℕ) (items out : List ℕ) (call : Outcome A) where
+module _ {I A : Type 0} (need : ℕ) (numbers : A → List ℕ) (items : List I) (out : List ℕ) (call : OutcomeOver I A) where
   pub out-short : length out < need → effectOf shortOut items out ≡ effect need numbers items out call
   unfolding effect
   out-short l = rw (lt-ltb (length out) need l)
@@ -22,7 +26,7 @@ module _ {A : Type 0} (need : ℕ) (numbers : A → List ℕ) (items out : List 
   unfolding effect
   out-enough l = rw (le-ltb (length out) need l)
 
-  pub turned-back : (code number : ℕ) (later : List ℕ) → need ≤ length out → code ≡ number → refuse number later ≡ call
+  pub turned-back : (code number : ℕ) (later : List I) → need ≤ length out → code ≡ number → refuse number later ≡ call
       → effectOf code later out ≡ effect need numbers items out call
   unfolding replied
   turned-back code number later l named same =
@@ -30,7 +34,7 @@ module _ {A : Type 0} (need : ℕ) (numbers : A → List ℕ) (items out : List 
       ∙ (λ i. replied numbers (same i .answer) (same i .items) out)
       ∙ sym (out-enough l)
 
-  pub answers : (a : A) (later now : List ℕ) → need ≤ length out → now ≡ over (numbers a) out
+  pub answers : (a : A) (later : List I) (now : List ℕ) → need ≤ length out → now ≡ over (numbers a) out
       → record { answer = answered a; items = later } ≡ call → effectOf 0 later now ≡ effect need numbers items out call
   unfolding replied
   answers a later now l wrote same =
@@ -70,3 +74,10 @@ unfolding stepNumbers
 stepNumbers-six none = refl
 stepNumbers-six (move racks m n i) = refl
 stepNumbers-six (swap racks m n i j) = refl
+
+-- an answer of the calls on reads, told, is the call's effect
+pub reads-told : (answer : ReadsAnswer) (list list' : List Entry) (out : List ℕ) (call : OutcomeOver Entry ℕ) → 1 ≤ length out
+    → readsOutcome answer list' ≡ call → effectOf (toldCode answer) list' (toldOut answer out) ≡ effect 1 oneNumber list out call
+unfolding readsOutcome toldCode toldOut
+reads-told (Refused code) list list' out call room same = turned-back 1 oneNumber list out call code code list' room refl same
+reads-told (Number n) list list' out call room same = answers 1 oneNumber list out call n list' _ room refl same

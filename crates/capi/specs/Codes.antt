@@ -6,13 +6,15 @@ use Prim.Native.Nat.{ℕ, _≤_}
 use lib.ListN.{length}
 use Rattle.model.specs.Plan.{Plan}
 use Rattle.model.specs.Refusal.{accepted, judge, verdictCode}
-use Rattle.model.specs.Calls.{Answer, answered, Outcome, countsCall, firstCall, checkCall, reportCall, stepCall, runCall}
+use Rattle.model.specs.Calls.{Answer, answered, OutcomeOver, countsCall, firstCall, checkCall, reportCall, stepCall, runCall}
 use Rattle.model.specs.Listing.{listingCall}
-use Rattle.capi.specs.Interface.{shortOut, effect, noNumbers, reportNumbers, stepNumbers, runNumbers, sizeNumber}
+use Rattle.model.specs.declared.Entry.{Entry}
+use Rattle.model.specs.ReadLog.{readCall, popularityCall}
+use Rattle.capi.specs.Interface.{shortOut, effect, noNumbers, reportNumbers, stepNumbers, runNumbers, oneNumber}
 
 -- The last row of the table of refusals.
 abbrev pub lastRow : ℕ
-lastRow = 18
+lastRow = 21
 
 -- The code of a refusal.
 pub record RefusalCode (code : ℕ) : Type 0 where
@@ -28,7 +30,7 @@ pub record Tells {A : Type 0} (need : ℕ) (out : List ℕ) (answer : Answer A) 
   pub known : (code ≡ 0) ⊎ RefusalCode code
   pub done : (code ≡ 0) ↔ Done need out answer
 
-abbrev pub EffectTells : {A : Type 0} → ℕ → (A → List ℕ) → List ℕ → List ℕ → Outcome A → Type 0
+abbrev pub EffectTells : {I A : Type 0} → ℕ → (A → List ℕ) → List I → List ℕ → OutcomeOver I A → Type 0
 EffectTells need numbers items out call = Tells need out (call .answer) (effect need numbers items out call .code)
 
 -- Of every exported function that makes one call, whatever it is lent. Playing a script is never refused: it is short of `out`, or done.
@@ -41,4 +43,9 @@ pub record Codes (plan items out : List ℕ) (budget : ℕ) : Type 0 where
   pub report-tells : EffectTells 4 reportNumbers items out (reportCall plan items)
   pub step-tells : EffectTells 6 stepNumbers items out (stepCall plan items)
   pub run-tells : EffectTells 2 runNumbers items out (runCall plan items budget)
-  pub listing-tells : EffectTells 1 sizeNumber items out (listingCall plan budget items)
+  pub listing-tells : EffectTells 1 oneNumber items out (listingCall plan budget items)
+
+-- And of those on reads.
+pub record ReadCodes (plan : List ℕ) (list : List Entry) (out : List ℕ) (block tick count : ℕ) : Type 0 where
+  pub read-tells : EffectTells 1 oneNumber list out (readCall plan block tick list count)
+  pub popularity-tells : EffectTells 1 oneNumber list out (popularityCall plan block list count)

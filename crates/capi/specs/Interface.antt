@@ -6,15 +6,17 @@ use lib.Dec.{ltb}
 use lib.ListN.{length, drop}
 use Rattle.model.specs.Steps.{Step, none, move, swap}
 use Rattle.model.specs.Claims.{Reply, refusedBy, checked, stepped, ran}
-use Rattle.model.specs.Calls.{Answer, turnedBack, answered, Outcome, Report, RunReply}
+use Rattle.window.specs.declared.ReadsAnswer.{ReadsAnswer}
+use Rattle.window.specs.declared.ReadsAnswer.the-variants.{Refused, Number}
+use Rattle.model.specs.Calls.{Answer, turnedBack, answered, OutcomeOver, Report, RunReply}
 
 -- The code returned, and every item at exit of the buffer that the call works on and of `out`.
-pub record Effect : Type 0 where
+pub record Effect (I : Type 0) : Type 0 where
   pub code : ℕ
-  pub items : List ℕ
+  pub items : List I
   pub out : List ℕ
 
-abbrev pub effectOf : ℕ → List ℕ → List ℕ → Effect
+abbrev pub effectOf : {I : Type 0} → ℕ → List I → List ℕ → Effect I
 effectOf code items out = record { code = code; items = items; out = out }
 
 -- The code for an `out` that is shorter than what the call writes there, above all refusal numbers.
@@ -26,12 +28,12 @@ unfoldable pub over : List ℕ → List ℕ → List ℕ
 over numbers old = numbers ++ drop (length numbers) old
 
 -- A refusal: its number, and `out` as it was. An answer: 0, and its numbers over `out`.
-unfoldable pub replied : {A : Type 0} → (A → List ℕ) → Answer A → List ℕ → List ℕ → Effect
+unfoldable pub replied : {I A : Type 0} → (A → List ℕ) → Answer A → List I → List ℕ → Effect I
 replied numbers (turnedBack code) items out = effectOf code items out
 replied numbers (answered a) items out = effectOf 0 items (over (numbers a) out)
 
 -- An `out` of fewer than `need` words is judged first of all, and nothing is written; otherwise the call's outcome.
-unfoldable pub effect : {A : Type 0} → ℕ → (A → List ℕ) → List ℕ → List ℕ → Outcome A → Effect
+unfoldable pub effect : {I A : Type 0} → ℕ → (A → List ℕ) → List I → List ℕ → OutcomeOver I A → Effect I
 effect need numbers items out outcome =
     cond (ltb (length out) need) (effectOf shortOut items out) (replied numbers (outcome .answer) (outcome .items) out)
 
@@ -60,9 +62,9 @@ stepNumbers (swap racks m n i j) = 1 ∷ swapKind racks ∷ m ∷ n ∷ i ∷ j 
 unfoldable pub runNumbers : RunReply → List ℕ
 runNumbers r = cond (r .rested) 1 0 ∷ r .steps ∷ []
 
--- Of a listing: the number of bytes written.
-abbrev pub sizeNumber : ℕ → List ℕ
-sizeNumber size = size ∷ []
+-- Of a listing the number of bytes written, of a read the new count, of a popularity the popularity.
+abbrev pub oneNumber : ℕ → List ℕ
+oneNumber n = n ∷ []
 
 -- Of a reply: its kind (0 refused, 1 checked, 2 a step, 3 a run), then its own numbers.
 unfoldable pub replyNumbers : Reply → List ℕ
@@ -70,3 +72,12 @@ replyNumbers (refusedBy code) = 0 ∷ code ∷ 0 ∷ 0 ∷ 0 ∷ 0 ∷ 0 ∷ []
 replyNumbers checked = 1 ∷ 0 ∷ 0 ∷ 0 ∷ 0 ∷ 0 ∷ 0 ∷ []
 replyNumbers (stepped step) = 2 ∷ stepNumbers step
 replyNumbers (ran r) = 3 ∷ cond (r .rested) 1 0 ∷ r .steps ∷ 0 ∷ 0 ∷ 0 ∷ 0 ∷ []
+
+-- An answer of the calls on reads, as the code returned and as `out` at exit.
+unfoldable pub toldCode : ReadsAnswer → ℕ
+toldCode (Refused code) = code
+toldCode (Number n) = 0
+
+unfoldable pub toldOut : ReadsAnswer → List ℕ → List ℕ
+toldOut (Refused code) out = out
+toldOut (Number n) out = over (oneNumber n) out

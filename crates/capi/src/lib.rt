@@ -1,6 +1,7 @@
 // The functions that the archive exports to C: thin wrappers over the public entries, on numbers and slices alone.
 // Each returns 0 or the number of a refusal, and writes only where it returns 0.
 use listing::ListingAnswer;
+use model::Entry;
 use plan::Reading;
 use script::LastReply;
 use search::Step;
@@ -10,6 +11,7 @@ use service::FirstAnswer;
 use service::ReportAnswer;
 use service::RunAnswer;
 use service::StepAnswer;
+use window::ReadsAnswer;
 ghost use mathlib.Core.List.{[]};
 ghost use mathlib.Core.Path.{_≡_};
 ghost use Prim.Native.Nat.{_≤_};
@@ -17,9 +19,10 @@ ghost use lib.ListN.{length};
 ghost use Rattle.model.specs.Refusal.{verdictCode, judge};
 ghost use Rattle.model.specs.Calls.{countsCall, firstCall, checkCall, reportCall, stepCall, runCall};
 ghost use Rattle.model.specs.Listing.{listingCall};
+ghost use Rattle.model.specs.ReadLog.{readCall, popularityCall};
 ghost use Rattle.search.specs.Scene.{stepOf};
 ghost use Rattle.script.specs.Script.{replyIs};
-ghost use Rattle.capi.specs.Interface.{effectOf, effect, over, noNumbers, reportNumbers, stepNumbers, runNumbers, sizeNumber, replyNumbers};
+ghost use Rattle.capi.specs.Interface.{effectOf, effect, over, noNumbers, reportNumbers, stepNumbers, runNumbers, oneNumber, replyNumbers, toldCode, toldOut};
 ghost use Rattle.capi.specs.Script.{PlayedInto};
 
 // The code for an `out` that is shorter than what the call writes there, above all refusal numbers.
@@ -177,7 +180,7 @@ pub extern "C" fn bpl_run(plan: &[u8], words: &mut [u64], budget: u32, out: &mut
 #[no_mangle]
 pub extern "C" fn bpl_listing(plan: &[u8], budget: u32, text: &mut [u8], out: &mut [u64]) -> u32
     ensures { λ r. ⌜ effectOf r (now (text .exit)) (now (out .exit))
-        ≡ effect 1 sizeNumber (now (text .entry)) (now (out .entry)) (listingCall (now (plan .entry)) budget (now (text .entry))) ⌝ }
+        ≡ effect 1 oneNumber (now (text .entry)) (now (out .entry)) (listingCall (now (plan .entry)) budget (now (text .entry))) ⌝ }
 {
     if out.len() < 1 {
         return SHORT_OUT;
@@ -228,4 +231,58 @@ pub extern "C" fn bpl_play(
     let numbers = reply_numbers(reply);
     write_numbers(out, &numbers);
     0
+}
+
+// An answer of the calls on reads: its code, and its number into the first word of out.
+fn tell_reads(answer: ReadsAnswer, out: &mut [u64]) -> u32
+    requires { ⌜ 1 ≤ length (now out) ⌝ }
+    ensures { λ r. ⌜ (r ≡ toldCode answer) × (now (out .exit) ≡ toldOut answer (now (out .entry))) ⌝ }
+{
+    match answer {
+        ReadsAnswer::Refused(number) => code_of(number),
+        ReadsAnswer::Number(n) => {
+            let numbers = [n];
+            write_numbers(out, &numbers);
+            0
+        }
+    }
+}
+
+// Notes a read of a block at a tick in a lent list of entries, and answers the new count.
+#[no_mangle]
+pub extern "C" fn bpl_read(
+    plan: &[u8],
+    block: u32,
+    tick: u32,
+    list: &mut [Entry],
+    count: u64,
+    out: &mut [u64],
+) -> u32
+    ensures { λ r. ⌜ effectOf r (now (list .exit)) (now (out .exit))
+        ≡ effect 1 oneNumber (now (list .entry)) (now (out .entry)) (readCall (now (plan .entry)) block tick (now (list .entry)) count) ⌝ }
+{
+    if out.len() < 1 {
+        return SHORT_OUT;
+    }
+    let answer = reads::read(plan, block, tick, list, count);
+    tell_reads(answer, out)
+}
+
+// Counts a block's popularity in a lent list of entries. The list is never written.
+#[no_mangle]
+pub extern "C" fn bpl_popularity(
+    plan: &[u8],
+    block: u32,
+    list: &[Entry],
+    count: u64,
+    out: &mut [u64],
+) -> u32
+    ensures { λ r. ⌜ effectOf r (now (list .entry)) (now (out .exit))
+        ≡ effect 1 oneNumber (now (list .entry)) (now (out .entry)) (popularityCall (now (plan .entry)) block (now (list .entry)) count) ⌝ }
+{
+    if out.len() < 1 {
+        return SHORT_OUT;
+    }
+    let answer = reads::popularity(plan, block, list, count);
+    tell_reads(answer, out)
 }

@@ -7,7 +7,7 @@ use mathlib.Core.List.{List, [], _∷_, _++_, append-assoc}
 use Prim.Native.Nat.{ℕ, _+_, _-_, _%_, _<_, _≤_, min}
 use native.Mathlib.Omega.{arith}
 use borrow.Author.Tests.{ltb-true}
-use lib.Dec.{ltb}
+use lib.Dec.{ltb, lit≤}
 use lib.ListN.{length, take, drop, replicate, length-append, length-replicate, length-drop}
 use lib.Seq.{take-at, drop-at}
 use Rattle.order.proofs.Booleans.{no-contradiction}
@@ -15,7 +15,7 @@ use Rattle.model.specs.declared.Entry.{Entry}
 use Rattle.model.specs.Plan.{Plan, blockCount}
 use Rattle.model.specs.Refusal.{refuseIf}
 use Rattle.model.specs.ReadLog.{noEntry, tickBound, age, usable, entriesIn, current, lastTick, longestGap, check19, check20, check21, readRefusal, relisted}
-use Rattle.theory.proofs.Refusal.{refuseIf-zero}
+use Rattle.theory.proofs.Refusal.{refuseIf-zero, refuseIf-all}
 
 -- ── age ────────────────────────────────────────────────────────────────────────────────────────────────────────────────
 
@@ -43,6 +43,22 @@ unfolding age
 age-adds first second third h1 h2 h3 l = omega (arith, l)
 
 -- ── readRefusal ────────────────────────────────────────────────────────────────────────────────────────────────────────
+
+pub check19-le : (block blocks later : ℕ) → later ≤ 21 → check19 block blocks later ≤ 21
+unfolding check19
+check19-le block blocks later = refuseIf-all (λ n. n ≤ 21) (not (ltb block blocks)) 19 later (lit≤ tt)
+
+check20-le : (tick : ℕ) (last : Option ℕ) (later : ℕ) → later ≤ 21 → check20 tick last later ≤ 21
+unfolding check20
+check20-le tick none later l = l
+check20-le tick (some last) later l = refuseIf-all (λ n. n ≤ 21) (not (ltb (age tick last) longestGap)) 20 later (lit≤ tt) l
+
+pub readRefusal-le : (block tick : ℕ) (list : List Entry) (count : ℕ) (p : Plan) → readRefusal block tick list count p ≤ 21
+unfolding readRefusal check21
+readRefusal-le block tick list count p =
+    check19-le block (blockCount p) _
+    (check20-le tick (lastTick (entriesIn list count)) _
+    (refuseIf-all (λ n. n ≤ 21) (not (ltb (length (current tick (entriesIn list count))) (usable (length list)))) 21 0 (lit≤ tt) (lit≤ tt)))
 
 -- What an accepted read has passed: checks 19, 20 and 21.
 pub record ReadPassed (block tick : ℕ) (list : List Entry) (count : ℕ) (p : Plan) : Type 0 where

@@ -2,13 +2,13 @@
 -- Assumes nothing.
 use borrow.Author.Needs.{needs}
 use Rattle.listing.specs.Entries.{listingOutcome}
-use Rattle.capi.specs.Interface.{sizeNumber}
+use Rattle.capi.specs.Interface.{oneNumber}
 use Rattle.capi.proofs.Laws.{out-short, turned-back, answers}
 use Rattle.capi.proofs.bpl_listing.Statement.{statement}
 use Rattle.capi.proofs.bpl_listing.Tie as tie
 
 returns : tie.Need-returns
-returns c = out-short 1 sizeNumber _ _ _ (c .if1 .taken)
+returns c = out-short 1 oneNumber _ _ _ (c .if1 .taken)
 
 listing-requires : tie.Need-listing-requires
 listing-requires c κs = search needs
@@ -36,7 +36,7 @@ unfolding listingOutcome
 returns-2 c =
     let told = c .before .before in
     let entry = told .before .before .before .before in
-    turned-back 1 sizeNumber _ _ _ _ _ _ (entry .before .before .if1 .left) (c .code-of .ensures)
+    turned-back 1 oneNumber _ _ _ _ _ _ (entry .before .before .if1 .left) (c .code-of .ensures)
     (rw (told .answer .given .1) at (entry .listing .ensures))
 
 same-length-2 : tie.Need-same-length-2
@@ -51,7 +51,7 @@ returns-3 c =
     let wrote = c .before .before in
     let told = wrote .before .before .before .before in
     let entry = told .before .before .before .before in
-    answers 1 sizeNumber _ _ _ _ _ _ (entry .before .before .if1 .left) (wrote .write-numbers .ensures)
+    answers 1 oneNumber _ _ _ _ _ _ (entry .before .before .if1 .left) (wrote .write-numbers .ensures)
     (rw (told .answer2 .given .1) at (entry .listing .ensures))
 
 pub bpl-listing-spec : {M : Type 1} → statement M
