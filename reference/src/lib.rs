@@ -11,6 +11,7 @@ pub mod listing;
 pub mod lists;
 pub mod placement;
 pub mod plan;
+pub mod reads;
 pub mod samples;
 pub mod steps;
 pub mod stream;
