@@ -7,6 +7,7 @@ pub mod calls;
 pub mod counts;
 pub mod damage;
 pub mod gen;
+pub mod histories;
 pub mod listing;
 pub mod lists;
 pub mod placement;
