@@ -5,7 +5,7 @@
  *
  * Results
  *   0         done: what is written below is written.
- *   1 to 18   refused, by the table below: nothing is written to any buffer.
+ *   1 to 21   refused, by the table below: nothing is written to any buffer.
  *   255       a lent buffer for results is too short (`out`, or the text of bpl_listing): nothing is written. A short
  *             `out` is judged first of all, before the plan is looked at.
  *   No other value is returned (proved: crates/capi/specs/Codes.antt, and for bpl_play by its contract).
@@ -21,17 +21,20 @@
  *    8  least copies 0 or above min(8, M), of a         1, or two successive blocks have, or a pair differs
  *       paired block above min(8, M / 2)                in popularity, least copies or spread
  *    9  a spread is 0, above the least copies, or   18  a machine holds both blocks of a pair
- *       above R
+ *       above R                                     19  the block is not in the plan: its number is B or above
+ *                                                   20  the last entry's tick has an age of 2^31 or more
+ *                                                   21  the list is full after the dropping
  *
  *   The checks go in numerical order, but 8 and 9 are made block by block, 8 first, and 17 directly after them. 13 to
  *   16 and 18 are made on a placement handed in (bpl_check, bpl_report, bpl_step, bpl_run, the calls of bpl_play), each
- *   over all blocks or machines before the next.
+ *   over all blocks or machines before the next. 19 is made by bpl_read and bpl_popularity, after 1 to 11 and 17, and
+ *   then 20 and 21 by bpl_read.
  *   In version 2 a record has a sixth byte: 1 pairs the block with the next one, and no machine holds copies of both.
  *   M / 2 is rounded down. Both of a pair are paired for 8, and so is every block behind a byte of 1.
  *
  * Buffers
- *   A buffer is a pointer and then the number of its items (bytes for uint8_t, words for uint64_t; not the size in
- *   bytes). What every caller has to keep, since no function can test it:
+ *   A buffer is a pointer and then the number of its items (bytes for uint8_t, words for uint64_t, records for struct
+ *   bpl_entry; not the size in bytes). What every caller has to keep, since no function can test it:
  *   - The pointer is not null, also where the number is 0, and it is aligned for its type.
  *   - All items are readable for the whole call, and writable where the pointer is not const.
  *   - The buffers of one call do not overlap, and no other thread writes to one of them during the call, or reads one
@@ -40,6 +43,9 @@
  *   - `plan` is a plan file's bytes.
  *   - `words` is a placement: word i is block i, its bit m is set where machine m holds a copy. Words past the first
  *     B are never read or written.
+ *   - `list` takes the reads that count, and `count` says how many: the entries are the first `count` records. Start
+ *     with a count of 0, and hand in the list and the count that the last accepted read left. Records past the usable
+ *     length, the smaller of list_len and BPL_MAX_ENTRIES, are never read or written; a count above it is taken as it.
  *   - `out` takes numbers. Its items past those named are never written.
  *
  * The functions keep no state and use no memory but the lent buffers and the stack (120 KiB were enough where it was
@@ -60,12 +66,18 @@ extern "C" {
 #define BPL_MAX_BLOCKS 1024
 #define BPL_MAX_PLAN_BYTES (15 + 6 * BPL_MAX_BLOCKS)
 
+/* The records of a list that are used at most, and the milliseconds that a read counts: two hours. */
+#define BPL_MAX_ENTRIES 4096
+#define BPL_READ_WINDOW_MS 7200000
+
 /* Items of `out` that a call writes, and has to be lent. */
 #define BPL_REPORT_NUMBERS 4
 #define BPL_STEP_NUMBERS 6
 #define BPL_RUN_NUMBERS 2
 #define BPL_LISTING_NUMBERS 1
 #define BPL_PLAY_NUMBERS 7
+#define BPL_READ_NUMBERS 1
+#define BPL_POPULARITY_NUMBERS 1
 
 /* Bytes of text that bpl_listing has to be lent: every listing fits. */
 #define BPL_LISTING_ROOM 65536
@@ -172,6 +184,36 @@ uint32_t bpl_listing(const uint8_t *plan, size_t plan_len, uint32_t budget, uint
 uint32_t bpl_play(const uint8_t *plan, size_t plan_len, const uint8_t *other, size_t other_len,
                   uint64_t *words, size_t words_len, const uint64_t *script, size_t script_len,
                   uint64_t *out, size_t out_len);
+
+/* A record of a list of reads: the block that was read, and the millisecond tick at which it was. */
+struct bpl_entry {
+    uint32_t block;
+    uint32_t tick;
+};
+
+/*
+ * Enters a read of a block at a millisecond tick of 32 bits, which starts over: refusals 1 to 11, 17 and 19 to 21, and
+ * 255 where out_len is below 1. 12 is not tested.
+ * The age of an entry is `tick` minus its own, modulo 2^32. Entries of age BPL_READ_WINDOW_MS and more are dropped,
+ * those kept move to the front in order, the new one follows, and the later records of the usable length become 0.
+ * Writes the new count, of the entries kept and the new one, to out[0].
+ *
+ * The claim, over any sequence of calls that starts with a count of 0, each given the list and the count that the last
+ * one left, nobody else writing to the list and each number keeping its block: if successive accepted reads are less
+ * than 2^31 ms apart, the entries are exactly the accepted reads that were in the window at every accepted tick since.
+ * After 2^31 ms (24.8 days) without an accepted read every read is refused with 20 until the tick has gone round. All
+ * entries are too old by then: a count of 0 starts anew.
+ */
+uint32_t bpl_read(const uint8_t *plan, size_t plan_len, uint32_t block, uint32_t tick,
+                  struct bpl_entry *list, size_t list_len, uint64_t count, uint64_t *out, size_t out_len);
+
+/*
+ * The popularity of a block, for the next plan file: refusals 1 to 11, 17 and 19, and 255 where out_len is below 1.
+ * Writes the number of the block's entries to out[0], for both blocks of a pair the larger of their numbers. The list
+ * is not written: only bpl_read drops entries.
+ */
+uint32_t bpl_popularity(const uint8_t *plan, size_t plan_len, uint32_t block,
+                        const struct bpl_entry *list, size_t list_len, uint64_t count, uint64_t *out, size_t out_len);
 
 #ifdef __cplusplus
 }

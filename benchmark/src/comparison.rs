@@ -2,6 +2,7 @@
 
 use crate::optimised::State;
 use crate::plans::{Pairs, Size, LARGEST};
+use crate::reads::{full_list, tick_that_drops, Call};
 use crate::sides::{compared, first_words, run_timed, step_timed, Side, LIBRARY};
 use crate::table::Table;
 use crate::timing::{ratio, shown, timed};
@@ -183,6 +184,45 @@ pub fn at_rest() {
             times,
         );
     }
+    table.print();
+}
+
+/// The calls on reads with a plan of so many blocks.
+fn reads_rows(table: &mut Table, bytes: &[u8], blocks: u16) {
+    let list = &full_list(blocks)[..];
+    let mut add = |call: &str, dropped: &str, times: [f64; 3]| {
+        let own = [blocks.to_string(), call.to_string(), dropped.to_string()];
+        row(table, &own, times);
+    };
+    let call = |tick| Call {
+        bytes,
+        block: u32::from(blocks) - 1,
+        tick,
+        list,
+    };
+    for number in [1, list.len() as u32 / 2] {
+        let call = call(tick_that_drops(number));
+        let (times, (count, _)) = compared("read", |side| (side.read)(&call));
+        assert_eq!(count, list.len() as u64 - u64::from(number) + 1);
+        add("read", &number.to_string(), times);
+    }
+    let (times, _) = compared("popularity", |side| (side.popularity)(&call(0)));
+    add("popularity", "none", times);
+}
+
+/// A read and a popularity on a full list.
+pub fn reads() {
+    println!("## Reads\n");
+    println!("A full list of 4,096 entries. A read that drops the oldest entry, a read that drops half of them, and a popularity,");
+    println!("with plan H and with 64 machines and 1,024 blocks, half of them in pairs. Each call reads the plan; before each read");
+    println!("the list is put in place, a copy of 32 KiB on all sides.\n");
+    let largest = Size {
+        pairs: Pairs::Half,
+        ..LARGEST
+    };
+    let mut table = table(&["blocks", "call", "entries dropped"]);
+    reads_rows(&mut table, &h().bytes(), 3);
+    reads_rows(&mut table, &largest.fine(), largest.blocks);
     table.print();
 }
 

@@ -7,6 +7,7 @@ pub mod machine;
 pub mod memory;
 pub mod optimised;
 pub mod plans;
+pub mod reads;
 pub mod sides;
 pub mod table;
 pub mod timing;

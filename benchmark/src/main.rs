@@ -52,6 +52,7 @@ fn all(mode: &Mode) {
     comparison::windows(mode.after);
     comparison::at_rest();
     comparison::pairs(mode.steps.min(3000));
+    comparison::reads();
     growth::growth();
     comparison::smallest();
     memory::memory(mode.program);

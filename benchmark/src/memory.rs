@@ -2,6 +2,7 @@
 
 use crate::machine::line_of;
 use crate::plans::{Size, LARGEST};
+use crate::reads::{full_list, tick_that_drops, Call};
 use crate::sides::{Side, LIBRARY, SIDES};
 use crate::table::Table;
 use crate::timing::shown;
@@ -114,6 +115,14 @@ fn on_small_stack() {
         (side.run)(&bytes, &mut words, STEPS).expect("words of this plan");
         (side.step)(&bytes, &mut words).expect("words of this plan");
         (side.report)(&bytes, &words).expect("words of this plan");
+        let read = Call {
+            bytes: &bytes,
+            block: 0,
+            tick: tick_that_drops(1),
+            list: &full_list(LARGEST.blocks),
+        };
+        (side.read)(&read);
+        (side.popularity)(&read);
         (side.listing)(&bytes, STEPS)
     };
     let thread = std::thread::Builder::new().stack_size(STACK);

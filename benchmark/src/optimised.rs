@@ -2,13 +2,14 @@
 //!
 //! Loads and lists of blocks per machine are carried from step to step, pairs of machines with Lm <= Ln are passed
 //! over, and the racks of a block are counted only where it changes racks and its spread is above one. The other block of
-//! a pair is looked up in a table. Reading a plan, counts and the first placement are the reference's, which are quick
-//! already.
+//! a pair is looked up in a table. Reads are entered in place. Reading a plan, counts, the first placement and
+//! popularities are the reference's, which are quick already.
 
 use placement_reference::calls::Report;
 use placement_reference::counts::{chosen, share};
 use placement_reference::placement::{copies_of, first, holds};
 use placement_reference::plan::{read, Plan, Refusal};
+use placement_reference::reads::{Entry, HALF_TURN, MOST_ENTRIES, WINDOW};
 use placement_reference::steps::{End, Kind, Step, KINDS};
 use std::fmt::Write;
 
@@ -288,6 +289,47 @@ pub fn enter_report(bytes: &[u8], lent: &[u64]) -> Result<Report, Refusal> {
     let plan = read(bytes)?;
     check(&plan, lent)?;
     Ok(State::new(&plan, &lent[..plan.blocks.len()]).report())
+}
+
+/// Moves the entries that still count to the front; answers their number.
+fn close_up(entries: &mut [Entry], tick: u32) -> usize {
+    let mut kept = 0;
+    for i in 0..entries.len() {
+        let entry = entries[i];
+        if tick.wrapping_sub(entry.tick) < WINDOW {
+            entries[kept] = entry;
+            kept += 1;
+        }
+    }
+    kept
+}
+
+/// Enters a read in place; answers the new count.
+pub fn enter_read(
+    bytes: &[u8],
+    block: u32,
+    tick: u32,
+    list: &mut [Entry],
+    count: u64,
+) -> Result<u64, Refusal> {
+    let blocks = read(bytes)?.blocks.len();
+    let usable = list.len().min(MOST_ENTRIES);
+    let number = count.min(usable as u64) as usize;
+    let age = |entry: &Entry| tick.wrapping_sub(entry.tick);
+    let entries = &mut list[..number];
+    if block as usize >= blocks {
+        return Err(19);
+    }
+    if entries.last().is_some_and(|last| age(last) >= HALF_TURN) {
+        return Err(20);
+    }
+    if number == usable && entries.iter().all(|entry| age(entry) < WINDOW) {
+        return Err(21);
+    }
+    let kept = close_up(entries, tick);
+    list[kept] = Entry { block, tick };
+    list[kept + 1..usable].fill(Entry::default());
+    Ok(kept as u64 + 1)
 }
 
 /// The line of one block: number, count, share, machines rising.

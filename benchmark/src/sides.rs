@@ -1,10 +1,12 @@
 //! The three sides that are compared, with the same calls.
 
 use crate::optimised;
+use crate::reads::{popularity_timed, read_timed, Call};
 use crate::timing::timed;
 use placement_reference::calls::{self, Report};
 use placement_reference::listing;
 use placement_reference::plan::Refusal;
+use placement_reference::reads::{enter_popularity, enter_read, Entry};
 use placement_reference::steps::{End, Kind, Step};
 
 /// What a call answers.
@@ -13,7 +15,10 @@ type Answer<T> = Result<T, Refusal>;
 /// How a run ended, and the steps taken.
 type Ended = (End, u32);
 
-/// The calls of one side; each takes the plan's bytes and makes all checks.
+/// A read's seconds, and the new count and the list after it.
+type ReadTimed = (f64, (u64, Vec<Entry>));
+
+/// The calls of one side; each takes the plan's bytes and makes all checks. Those on reads are timed.
 pub struct Side {
     pub name: &'static str,
     pub plan: fn(&[u8]) -> Answer<()>,
@@ -24,6 +29,8 @@ pub struct Side {
     pub step: fn(&[u8], &mut [u64]) -> Answer<Option<Step>>,
     pub run: fn(&[u8], &mut [u64], u32) -> Answer<Ended>,
     pub listing: fn(&[u8], u32) -> String,
+    pub read: fn(&Call) -> ReadTimed,
+    pub popularity: fn(&Call) -> (f64, u64),
 }
 
 /// The plain reference.
@@ -37,9 +44,11 @@ pub const REFERENCE: Side = Side {
     step: calls::enter_step,
     run: calls::enter_run,
     listing: listing::text,
+    read: |call| read_timed(call, Entry::clone, Entry::clone, enter_read),
+    popularity: |call| popularity_timed(call, Entry::clone, enter_popularity),
 };
 
-/// The optimised version; plan, counts and first placement are the reference's.
+/// The optimised version; plan, counts, first placement and popularity are the reference's.
 pub const OPTIMISED: Side = Side {
     name: "optimised",
     check: |bytes, lent| optimised::check(&calls::enter_plan(bytes)?, lent),
@@ -47,6 +56,7 @@ pub const OPTIMISED: Side = Side {
     step: optimised::enter_step,
     run: optimised::enter_run,
     listing: optimised::listing,
+    read: |call| read_timed(call, Entry::clone, Entry::clone, optimised::enter_read),
     ..REFERENCE
 };
 
@@ -73,6 +83,21 @@ pub const LIBRARY: Side = Side {
         Ok(text) => text,
         Err(refusal) => format!("refused {}\n", refusal.number()),
     },
+    read: |call| {
+        read_timed(
+            call,
+            own_entry,
+            entry_of,
+            |bytes, block, tick, list, count| {
+                bpl::read(bytes, block, tick, list, count).map_err(bpl::Refusal::number)
+            },
+        )
+    },
+    popularity: |call| {
+        popularity_timed(call, own_entry, |bytes, block, list, count| {
+            bpl::popularity(bytes, block, list, count).map_err(bpl::Refusal::number)
+        })
+    },
 };
 
 pub const SIDES: [Side; 3] = [REFERENCE, OPTIMISED, LIBRARY];
@@ -96,6 +121,22 @@ fn step_of(step: bpl::Step) -> Step {
         bpl::Step::RackSwap { m, n, i, j } => (Kind::RackSwap, m, n, i, Some(j)),
     };
     Step { kind, m, n, i, j }
+}
+
+/// The reference's record in the library's form.
+fn own_entry(entry: &Entry) -> bpl::Entry {
+    bpl::Entry {
+        block: entry.block,
+        tick: entry.tick,
+    }
+}
+
+/// The library's record in the reference's form.
+fn entry_of(entry: &bpl::Entry) -> Entry {
+    Entry {
+        block: entry.block,
+        tick: entry.tick,
+    }
 }
 
 /// The library's end of a run in the reference's form.

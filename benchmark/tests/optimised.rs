@@ -1,9 +1,12 @@
-//! The optimised version against the reference on random plans: step by step, whole runs, checks and listings.
+//! The optimised version against the reference on random plans: step by step, whole runs, checks, listings and reads.
 
-use placement_benchmark::optimised::{check, enter_report, enter_run, enter_step, listing, State};
+use placement_benchmark::optimised::{
+    check, enter_read, enter_report, enter_run, enter_step, listing, State,
+};
 use placement_reference::calls;
 use placement_reference::damage::{any_row, broken, flawed, mispaired, MISPAIRINGS};
 use placement_reference::gen::*;
+use placement_reference::histories::{history, manner, Caller, Event};
 use placement_reference::listing::text;
 use placement_reference::placement::{first, loads};
 use placement_reference::samples::*;
@@ -179,6 +182,25 @@ fn listings() {
     for how in MISPAIRINGS {
         if let Some(draft) = mispaired(&mut rng, SMALL.paired(), how) {
             assert_eq!(listing(&draft.bytes(), 20), "refused 17\n");
+        }
+    }
+}
+
+/// Every read of random histories: the same answer, and the same list afterwards.
+#[test]
+fn histories_of_reads() {
+    for seed in 0..5000 {
+        let rng = &mut Rng::new(seed);
+        let manner = manner(rng);
+        let mut theirs = Caller::default();
+        for event in history(rng, manner) {
+            let mut ours = theirs.clone();
+            let said = theirs.does(&event);
+            if let Event::Read { block, tick } = event {
+                let answer = enter_read(&ours.plan, block, tick, &mut ours.list, ours.count);
+                assert_eq!(Some(answer), said);
+                assert_eq!(ours.list, theirs.list);
+            }
         }
     }
 }

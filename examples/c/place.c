@@ -5,14 +5,15 @@
  *
  * prints the listing of the plan in FILE, or without FILE that of plan H of the specification, which it makes itself.
  * It makes the calls one by one, as a store would: judge the plan, choose the counts, make the first placement, take
- * steps until rest, report. It puts the listing together from their answers, and compares it with bpl_listing's. Last
- * it makes the steps anew as one script, and compares the placements.
+ * steps until rest, report. It puts the listing together from their answers, and compares it with bpl_listing's. Then
+ * it makes the steps anew as one script, and compares the placements. Last it counts reads of the blocks, and makes the
+ * next plan file of their popularities.
  * scripts/c-example compiles, runs and tests it. The status is 0 for a listing, 1 for a refused plan, 2 for a failure.
  *
  * How every call is used here:
  * - All memory is the caller's. A buffer is passed as a pointer and its number of items, not its size in bytes.
  * - The code that a call answers is looked at before anything else. Only with code 0 has the call written something;
- *   with a refusal, 1 to 18, every buffer is as it was.
+ *   with a refusal, 1 to 21, every buffer is as it was.
  * - BPL_SHORT_BUFFER is no property of the plan but a mistake of the caller: a buffer for results is too short.
  */
 #include "bpl.h"
@@ -41,7 +42,7 @@ enum { LISTED = 0, REFUSED = 1, FAILED = 2 };
 
 /* ---- Refusals ---- */
 
-/* Why a plan or a placement is turned back, by the number of the refusal. */
+/* Why a plan, a placement or a read is turned back, by the number of the refusal. */
 static const char *reason(uint32_t code)
 {
     static const char *const reasons[] = {
@@ -64,6 +65,9 @@ static const char *reason(uint32_t code)
         [16] = "a machine holds more than C copies",
         [17] = "a pair byte is neither 0 nor 1, marks no pair, or marks two blocks that differ",
         [18] = "a machine holds both blocks of a pair",
+        [19] = "the block is not in the plan",
+        [20] = "the last entry's tick has an age of 2^31 or more",
+        [21] = "the list is full of reads that still count",
     };
     if (code < sizeof reasons / sizeof reasons[0])
         return reasons[code];
@@ -262,6 +266,62 @@ static bool plays_alike(const struct store *store)
     return code == 0 && reply[0] == BPL_CHECKED && memcmp(words, store->words, sizeof words) == 0;
 }
 
+/* The reads that count, which a store keeps from call to call; without entries at first. */
+struct reads {
+    struct bpl_entry list[BPL_MAX_ENTRIES];
+    uint64_t count;
+};
+
+/* Enters a read of a block at a millisecond tick. Answers the code; where it is refused, the reads stay as they are. */
+static uint32_t enter_read(const struct store *store, struct reads *reads, uint32_t block, uint32_t tick)
+{
+    uint64_t count[BPL_READ_NUMBERS];
+    const uint32_t code = bpl_read(store->plan, store->plan_len, block, tick, reads->list, BPL_MAX_ENTRIES,
+                                   reads->count, count, BPL_READ_NUMBERS);
+    if (code == 0)
+        reads->count = count[0];
+    return code;
+}
+
+/* Whether the next plan file, with the popularities counted, is accepted. Both blocks of a pair have the same one. */
+static bool makes_next_plan(const struct store *store)
+{
+    static uint8_t next[BPL_MAX_PLAN_BYTES];
+    static struct reads reads;
+    const uint32_t blocks = field(store->plan, BLOCKS_AT, 2);
+
+    /* Each block is read once, twice or three times, a millisecond apart, while the tick starts over. */
+    uint32_t tick = UINT32_MAX - 1;
+    for (uint32_t i = 0; i < blocks; i++)
+        for (uint32_t k = 0; k <= i % 3; k++)
+            if (enter_read(store, &reads, i, tick++) != 0)
+                return false;
+
+    memcpy(next, store->plan, store->plan_len);
+    for (uint32_t i = 0; i < blocks; i++) {
+        uint64_t popularity[BPL_POPULARITY_NUMBERS];
+        const uint32_t code = bpl_popularity(store->plan, store->plan_len, i, reads.list, BPL_MAX_ENTRIES, reads.count,
+                                             popularity, BPL_POPULARITY_NUMBERS);
+        if (code != 0 || popularity[0] < i % 3 + 1) /* above that where the other block of a pair is read more often */
+            return false;
+        put_field(next, RECORDS_AT + record_bytes(next) * i, POPULARITY_BYTES, (uint32_t)popularity[0]);
+    }
+    return bpl_plan(next, store->plan_len) == 0;
+}
+
+/* Two refusals of reads of plan H: of a block that it has not, and at a tick before that of the last one. */
+static bool show_refused_reads(const struct store *store)
+{
+    static struct reads reads;
+    if (enter_read(store, &reads, 2, 5000) != 0)
+        return false;
+    const uint32_t unknown = enter_read(store, &reads, 3, 5001);
+    say_refused("a read of block 3 of plan H", unknown);
+    const uint32_t early = enter_read(store, &reads, 2, 4999);
+    say_refused("a read a millisecond before the last one", early);
+    return unknown == 19 && early == 20 && reads.count == 1;
+}
+
 /* Two refusals, as a caller meets them: a plan that has no lawful placement, and a placement with a copy too few. */
 static bool show_refusals(void)
 {
@@ -295,7 +355,7 @@ int main(int argc, char **argv)
     }
     if (argc < 2) {
         store.plan_len = make_plan_h(plan, 8);
-        if (!show_refusals()) {
+        if (!show_refusals() || !show_refused_reads(&store)) {
             fprintf(stderr, "place: the refusals are not as they should be\n");
             return FAILED;
         }
@@ -322,6 +382,10 @@ int main(int argc, char **argv)
     }
     if (!plays_alike(&store)) {
         fprintf(stderr, "place: a script of the calls ends in another placement\n");
+        return FAILED;
+    }
+    if (!makes_next_plan(&store)) {
+        fprintf(stderr, "place: the next plan file, with the popularities counted, is refused\n");
         return FAILED;
     }
     if (fwrite(text.bytes, 1, text.size, stdout) != text.size || fflush(stdout) != 0) {

@@ -114,7 +114,7 @@ fn record(bytes: &[u8], version: u64, i: usize) -> Block {
 }
 
 /// Refuses with `row` if its condition holds.
-fn refuse_if(condition: bool, row: Refusal) -> Result<(), Refusal> {
+pub(crate) fn refuse_if(condition: bool, row: Refusal) -> Result<(), Refusal> {
     if condition {
         Err(row)
     } else {

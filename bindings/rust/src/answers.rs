@@ -4,7 +4,7 @@ use crate::raw::{PLAY_NUMBERS, REPORT_NUMBERS, RUN_NUMBERS, STEP_NUMBERS};
 use std::error::Error;
 use std::fmt;
 
-/// Why a plan or a placement is turned back: the number of the check, 1 to 18.
+/// Why a plan, a placement or a read is turned back: the number of the check, 1 to 21.
 #[derive(Clone, Copy, Debug, PartialEq, Eq, Hash)]
 pub struct Refusal(u8);
 
@@ -37,6 +37,9 @@ impl Refusal {
             16 => "a machine holds more copies than its capacity",
             17 => "a pair byte is neither 0 nor 1, marks no pair, or marks two blocks that differ",
             18 => "a machine holds both blocks of a pair",
+            19 => "the block is not in the plan",
+            20 => "the last entry's tick has an age of 2^31 or more",
+            21 => "the list is full of reads that still count",
             _ => "no check has this number",
         }
     }

@@ -1,8 +1,9 @@
 //! Block placement for a recording store: safe functions over the proved archive `libcapi.a`.
 //!
 //! A plan is the bytes of a plan file, of version 1 or 2. A placement is one word per block; bit m of a word is set
-//! where machine m holds a copy. Words past the plan's first B are never read or written. A refused call writes
-//! nothing, and answers the number of the check that refused it.
+//! where machine m holds a copy. Words past the plan's first B are never read or written. Reads of blocks are counted
+//! in a lent list of entries, for the next plan file. A refused call writes nothing, and answers the number of the
+//! check that refused it.
 //!
 //! ```
 //! // One rack of two machines, three blocks of one copy.
@@ -28,9 +29,11 @@
 
 mod answers;
 pub mod raw;
+mod reads;
 mod script;
 
 pub use answers::{Refusal, Reply, Report, RunEnd, Step};
+pub use reads::{popularity, read, Entry, MAX_ENTRIES, READ_WINDOW_MS};
 pub use script::{Call, Request, Source};
 
 use answers::settled;

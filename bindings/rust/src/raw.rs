@@ -5,12 +5,16 @@
 //! Each pointer is valid for as many items as the length after it says, aligned and not null, for the whole call;
 //! a buffer behind a `*mut` overlaps no other buffer of the call.
 
-/// Words of `out` that a report, a step, a run, a listing and a play write, and have to be lent.
+use crate::reads::Entry;
+
+/// Words of `out` that a report, a step, a run, a listing, a play, a read and a popularity write, and have to be lent.
 pub const REPORT_NUMBERS: usize = 4;
 pub const STEP_NUMBERS: usize = 6;
 pub const RUN_NUMBERS: usize = 2;
 pub const LISTING_NUMBERS: usize = 1;
 pub const PLAY_NUMBERS: usize = 7;
+pub const READ_NUMBERS: usize = 1;
+pub const POPULARITY_NUMBERS: usize = 1;
 
 /// Bytes of text that a listing has to be lent.
 pub const LISTING_ROOM: usize = 65536;
@@ -74,6 +78,29 @@ extern "C" {
         words_len: usize,
         script: *const u64,
         script_len: usize,
+        out: *mut u64,
+        out_len: usize,
+    ) -> u32;
+
+    pub fn bpl_read(
+        plan: *const u8,
+        plan_len: usize,
+        block: u32,
+        tick: u32,
+        list: *mut Entry,
+        list_len: usize,
+        count: u64,
+        out: *mut u64,
+        out_len: usize,
+    ) -> u32;
+
+    pub fn bpl_popularity(
+        plan: *const u8,
+        plan_len: usize,
+        block: u32,
+        list: *const Entry,
+        list_len: usize,
+        count: u64,
         out: *mut u64,
         out_len: usize,
     ) -> u32;

@@ -1,5 +1,5 @@
-//! Every entry against the independent reference, on random plans and placements and over random lists of calls.
-//! BPL_CASES sets the number of cases.
+//! Every entry on a plan or a placement against the independent reference, on random ones and over random lists of
+//! calls; those on reads are in reads.rs. BPL_CASES sets the number of cases.
 
 mod common;
 #[path = "common/entries.rs"]

@@ -1,6 +1,6 @@
 //! The specification's own examples, and the repository's stored ones.
 
-use bpl::{Call, Reply, Report, Request, RunEnd, Step};
+use bpl::{Call, Entry, Reply, Report, Request, RunEnd, Step};
 use placement_reference::samples;
 use std::fs;
 use std::path::PathBuf;
@@ -146,6 +146,35 @@ fn plan_y_as_a_script() {
     }
 }
 
+/// Reads of plan K, whose blocks 0 and 1 are a pair: the window's end, rows 19 to 21, and the larger of a pair.
+#[test]
+fn reads_of_plan_k() {
+    let mut list = [Entry::default(); 4];
+    let mut count = 0;
+    for (block, tick) in [(0, u32::MAX), (1, 0), (1, 7_199_998)] {
+        count = bpl::read(&samples::K, block, tick, &mut list, count).expect("a read");
+    }
+    let popularity = |list: &[Entry], count| {
+        [0, 1, 2].map(|block| bpl::popularity(&samples::K, block, list, count).expect("a block"))
+    };
+    assert_eq!((count, popularity(&list, count)), (3, [2, 2, 0]));
+    let row = |block, tick, list: &mut [Entry], count| {
+        let refusal = bpl::read(&samples::K, block, tick, list, count).unwrap_err();
+        refusal.number()
+    };
+    let before = list;
+    assert_eq!(row(4, 0, &mut list, count), 19);
+    assert_eq!(row(2, 7_199_997, &mut list, count), 20);
+    assert_eq!(row(2, 7_199_998, &mut list[..3], count), 21);
+    assert_eq!(list, before);
+    let after = bpl::read(&samples::K, 2, 7_199_999, &mut list, count);
+    assert_eq!(after, Ok(3), "the first read is two hours old");
+    let entry = |block, tick| Entry { block, tick };
+    assert_eq!(list[..2], before[1..3]);
+    assert_eq!(list[2..], [entry(2, 7_199_999), entry(0, 0)]);
+    assert_eq!(popularity(&list, 3), [2, 2, 1]);
+}
+
 /// The refusals of the empty file and of a short buffer, in words.
 #[test]
 fn refusals() {
@@ -168,6 +197,16 @@ fn refusals() {
     assert_eq!(
         together.to_string(),
         "refused 18: a machine holds both blocks of a pair"
+    );
+    let unknown = bpl::popularity(&samples::K, 4, &[], 0).unwrap_err();
+    assert_eq!(
+        unknown.to_string(),
+        "refused 19: the block is not in the plan"
+    );
+    let full = bpl::read(&samples::K, 0, 0, &mut [], 0).unwrap_err();
+    assert_eq!(
+        full.to_string(),
+        "refused 21: the list is full of reads that still count"
     );
 }
 

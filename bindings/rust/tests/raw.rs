@@ -4,6 +4,7 @@
 mod common;
 
 use bpl::raw::*;
+use bpl::Entry;
 use common::*;
 use placement_reference::gen::Rng;
 
@@ -12,6 +13,7 @@ use placement_reference::gen::Rng;
 struct Left {
     code: u32,
     words: Vec<u64>,
+    list: Vec<Entry>,
     text: Vec<u8>,
     out: Vec<u64>,
 }
@@ -23,6 +25,8 @@ enum Call {
     Step,
     Run(u32),
     Listing(u32),
+    Read { block: u32, tick: u32, count: u64 },
+    Popularity { block: u32, count: u64 },
 }
 
 impl Call {
@@ -33,6 +37,8 @@ impl Call {
             Call::Step => STEP_NUMBERS,
             Call::Run(_) => RUN_NUMBERS,
             Call::Listing(_) => LISTING_NUMBERS,
+            Call::Read { .. } => READ_NUMBERS,
+            Call::Popularity { .. } => POPULARITY_NUMBERS,
         }
     }
 
@@ -40,10 +46,11 @@ impl Call {
     fn made(self, bytes: &[u8], before: &Left, lent: usize) -> Left {
         let mut left = before.clone();
         let (words, words_len) = (left.words.as_mut_ptr(), left.words.len());
+        let (list, list_len) = (left.list.as_mut_ptr(), left.list.len());
         let (text, text_len) = (left.text.as_mut_ptr(), left.text.len());
         let out = left.out[..lent].as_mut_ptr();
         let (plan, plan_len) = (bytes.as_ptr(), bytes.len());
-        // SAFETY: the buffers are four vectors of their own, lent by pointers and lengths within them.
+        // SAFETY: the buffers are five vectors of their own, lent by pointers and lengths within them.
         left.code = unsafe {
             match self {
                 Call::Report => bpl_report(plan, plan_len, words, words_len, out, lent),
@@ -51,6 +58,12 @@ impl Call {
                 Call::Run(budget) => bpl_run(plan, plan_len, words, words_len, budget, out, lent),
                 Call::Listing(budget) => {
                     bpl_listing(plan, plan_len, budget, text, text_len, out, lent)
+                }
+                Call::Read { block, tick, count } => bpl_read(
+                    plan, plan_len, block, tick, list, list_len, count, out, lent,
+                ),
+                Call::Popularity { block, count } => {
+                    bpl_popularity(plan, plan_len, block, list, list_len, count, out, lent)
                 }
             }
         };
@@ -63,21 +76,37 @@ fn before(rng: &mut Rng, bytes: &[u8], room: usize) -> Left {
     Left {
         code: 0,
         words: lent_words(rng, bytes),
+        list: any_list(rng),
         text: vec![0x7E; room],
         out: patterned(9),
     }
 }
 
+/// A few records whose ticks lie close together.
+fn any_list(rng: &mut Rng) -> Vec<Entry> {
+    let record = |rng: &mut Rng| Entry {
+        block: rng.below(5) as u32,
+        tick: rng.below(9_000_000) as u32,
+    };
+    (0..rng.below(6)).map(|_| record(rng)).collect()
+}
+
 fn any_call(rng: &mut Rng) -> Call {
-    match rng.below(4) {
+    let (block, count) = (rng.below(5) as u32, rng.below(7));
+    match rng.below(6) {
         0 => Call::Report,
         1 => Call::Step,
         2 => Call::Run(budget(rng)),
-        _ => Call::Listing(budget(rng)),
+        3 => Call::Listing(budget(rng)),
+        4 => {
+            let tick = rng.below(9_000_000) as u32;
+            Call::Read { block, tick, count }
+        }
+        _ => Call::Popularity { block, count },
     }
 }
 
-/// A short `out` is answered by 255 whatever the plan, the words and the text are, and nothing is written.
+/// A short `out` is answered by 255 whatever the plan, the words, the list and the text are, and nothing is written.
 #[test]
 fn short_out() {
     for case in 0..cases(4000) {
@@ -119,6 +148,7 @@ fn short_text() {
 /// With `out` long enough: a refused call writes to no buffer, an answered one not past its numbers.
 #[test]
 fn out_past_the_numbers() {
+    let mut met = [0; 22];
     for case in 0..cases(6000) {
         let rng = &mut Rng::new(5 << 32 | case);
         let bytes = any_bytes(rng);
@@ -126,7 +156,8 @@ fn out_past_the_numbers() {
         let before = before(rng, &bytes, LISTING_ROOM + 3);
         let exact = call.made(&bytes, &before, call.need());
         assert_eq!(call.made(&bytes, &before, before.out.len()), exact);
-        assert!(exact.code <= 18, "{call:?}: code {}", exact.code);
+        assert!(exact.code <= 21, "{call:?}: code {}", exact.code);
+        met[exact.code as usize] += 1;
         if exact.code != 0 {
             let expected = Left {
                 code: exact.code,
@@ -146,6 +177,10 @@ fn out_past_the_numbers() {
         };
         assert_eq!(exact.text[written..], before.text[written..], "{call:?}");
     }
+    assert!(
+        cases(6000) < 3000 || met.iter().all(|seen| *seen > 0),
+        "{met:?}"
+    );
 }
 
 /// The numbers of a step: j is 0 for a move, and all are 0 at rest.

@@ -1,13 +1,14 @@
 //! Plans, placements and comparisons that the tests share.
 #![allow(dead_code)]
 
-use bpl::{Refusal, Report, RunEnd, Step};
+use bpl::{Entry, Refusal, Report, RunEnd, Step};
 use placement_reference::calls;
 use placement_reference::damage::*;
 use placement_reference::gen::{
     draft, filled, leaning, noise, placement, too_long, Draft, Rng, Size, MEDIUM, SMALL, TINY,
 };
 use placement_reference::plan::{read, Plan};
+use placement_reference::reads;
 use placement_reference::steps::{self, End, Kind};
 
 /// What stands in a buffer before a call, so that a write is seen.
@@ -179,6 +180,24 @@ pub fn step_of(step: steps::Step) -> Step {
         (Kind::RackSwap, Some(j)) => Step::RackSwap { m, n, i, j },
         _ => panic!("a move has no second block and a swap has one: {step:?}"),
     }
+}
+
+/// The reference's records of a list as the binding's.
+pub fn list_of(list: &[reads::Entry]) -> Vec<Entry> {
+    let entry = |e: &reads::Entry| Entry {
+        block: e.block,
+        tick: e.tick,
+    };
+    list.iter().map(entry).collect()
+}
+
+/// The binding's records of a list as the reference's.
+pub fn reference_list(list: &[Entry]) -> Vec<reads::Entry> {
+    let entry = |e: &Entry| reads::Entry {
+        block: e.block,
+        tick: e.tick,
+    };
+    list.iter().map(entry).collect()
 }
 
 /// The reference's end of a run as the binding's.
