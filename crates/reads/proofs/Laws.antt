@@ -22,9 +22,10 @@ use Rattle.model.specs.ReadLog.{entry, noEntry, tickBound, inWindow, age, usabl
 use Rattle.theory.proofs.Refusal.{judge-some}
 use Rattle.theory.proofs.ReadLog.{age-self}
 use Rattle.cluster.specs.Blocks.{mate}
-use Rattle.window.specs.declared.Judged.{Judged}
-use Rattle.window.specs.declared.Searched.{Searched}
-use Rattle.window.specs.Window.{gapCode, unrefused, soughtIn, sought, judged, searched, numberUnless, readNumber, popularityNumber}
+use Rattle.lookup.specs.declared.Judged.{Judged}
+use Rattle.lookup.specs.declared.Searched.{Searched}
+use Rattle.window.specs.Window.{gapCode, unrefused, readNumber, popularityNumber}
+use Rattle.lookup.specs.Lookup.{soughtIn, sought, judged, searched}
 use Rattle.readlog.specs.Records.{lastOr, compacted, CompactedAs, appended}
 use Rattle.readlog.proofs.CompactLaws.{shape, shape-keep}
 use Rattle.reads.specs.Answers.{readsOutcome}

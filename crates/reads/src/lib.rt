@@ -1,5 +1,5 @@
 // The calls on reads: a read noted in a lent list of entries, and a block's popularity counted there. Both take a plan's bytes, the list and
-// the count of its entries; what they do with them is decided in `window` and done in `readlog`.
+// the count of its entries; what they do with them is decided in `window` and `lookup` and done in `readlog`.
 use model::Entry;
 use window::ReadsAnswer;
 ghost use mathlib.Core.Path.{_≡_};
@@ -14,7 +14,7 @@ pub fn read(plan: &[u8], block: u32, tick: u32, list: &mut [Entry], count: u64) 
     let lent = list.len();
     let standing = window::standing(lent, count);
     let last = readlog::last_tick(list, standing, tick);
-    let judged = window::judge_read(plan, block, tick, last, lent, standing);
+    let judged = lookup::judge_read(plan, block, tick, last, lent, standing);
     let kept = readlog::drop_old(list, judged.limit, judged.count, tick);
     readlog::append(list, kept, judged.limit, block, tick);
     window::read_answer(judged.code, kept, judged.limit)
@@ -25,7 +25,7 @@ pub fn popularity(plan: &[u8], block: u32, list: &[Entry], count: u64) -> ReadsA
     ensures { λ r. ⌜ readsOutcome r (now (list .entry)) ≡ popularityCall (now (plan .entry)) block (now (list .entry)) count ⌝ }
 {
     let lent = list.len();
-    let searched = window::search(plan, block, lent, count);
+    let searched = lookup::search(plan, block, lent, count);
     let own = readlog::reads_of(list, searched.own, block);
     let other = readlog::reads_of(list, searched.other, searched.mate);
     window::popularity_answer(searched.code, own, other)

@@ -3,14 +3,9 @@ use mathlib.Core.Bool.{Bool, cond, not, _&&_}
 use Prim.Native.Nat.{ℕ, zero, suc, _+_, max}
 use lib.Dec.{ltb, eqb}
 use Rattle.model.specs.declared.Entry.{Entry}
-use Rattle.model.specs.Plan.{Plan, blockCount}
-use Rattle.model.specs.Refusal.{refuseIf, orElse, Verdict, refused, accepted}
-use Rattle.model.specs.ReadLog.{noEntry, age, inWindow, usable, standing, longestGap}
-use Rattle.cluster.specs.Blocks.{mate}
+use Rattle.model.specs.Refusal.{refuseIf, orElse}
+use Rattle.model.specs.ReadLog.{noEntry, age, inWindow, longestGap}
 use Rattle.window.specs.declared.Sifted.{Sifted}
-use Rattle.window.specs.declared.Sought.{Sought}
-use Rattle.window.specs.declared.Searched.{Searched}
-use Rattle.window.specs.declared.Judged.{Judged}
 use Rattle.window.specs.declared.ReadsAnswer.{ReadsAnswer}
 use Rattle.window.specs.declared.ReadsAnswer.the-variants.{Refused, Number}
 
@@ -36,28 +31,6 @@ sifted e i count tick kept =
 -- The number of a block's entries, with the next record's.
 unfoldable pub tallied : ℕ → ℕ → ℕ → ℕ
 tallied before found block = cond (eqb found block) (before + 1) before
-
--- A block looked for: 19 where it is not in the plan, and its partner, or itself.
-unfoldable pub soughtIn : Plan → ℕ → Sought
-soughtIn p block =
-    cond (ltb block (blockCount p)) (record { code = 0; mate = mate p block }) (record { code = 19; mate = block })
-
-unfoldable pub sought : Verdict → ℕ → Sought
-sought (refused code) block = record { code = code; mate = block }
-sought (accepted p) block = soughtIn p block
-
--- The records searched for a block: none where the call is refused; those searched for its partner: none where it has none.
-unfoldable pub searched : Verdict → ℕ → ℕ → ℕ → Searched
-searched verdict block lent count =
-    let s = sought verdict block in
-    let own = unrefused (s .code) (standing lent count) in
-    record { code = s .code; own = own; mate = s .mate; other = cond (eqb (s .mate) block) 0 own }
-
--- What a read works on: nothing where it is refused.
-unfoldable pub judged : Verdict → ℕ → ℕ → ℕ → ℕ → ℕ → Judged
-judged verdict block tick last lent entries =
-    let code = gapCode (sought verdict block .code) tick last in
-    record { code = code; limit = unrefused code (usable lent); count = unrefused code entries }
 
 -- A refusal, or a number of entries: of a popularity the larger of two, of a read one more than are kept, unless the list is full.
 abbrev pub numberUnless : ℕ → ReadsAnswer → ReadsAnswer

@@ -1,13 +1,9 @@
 // The reads of the last two hours, on numbers: ages, how far a lent list is used, and what becomes of each of its records.
-use header::Header;
 use model::Entry;
-use plan::Reading;
 ghost use mathlib.Core.Path.{_≡_};
 ghost use Prim.Native.Nat.{_≤_, _<_, _^_};
-ghost use Rattle.model.specs.Refusal.{judge, accepted};
 ghost use Rattle.model.specs.ReadLog.{age, usable, standing};
-ghost use Rattle.plan.specs.Reading.{planOf};
-ghost use Rattle.window.specs.Window.{gapCode, unrefused, sifted, tallied, soughtIn, sought, searched, judged, readNumber, popularityNumber};
+ghost use Rattle.window.specs.Window.{gapCode, unrefused, sifted, tallied, readNumber, popularityNumber};
 
 // The most records of a list that are used.
 const MAX_ENTRIES: usize = 4096;
@@ -23,27 +19,6 @@ pub struct Sifted {
     pub entry: Entry,
     pub at: usize,
     pub kept: usize,
-}
-
-// A block looked for in a plan: the refusal's number, 0 where there is none; and its partner, or the block itself.
-struct Sought {
-    code: u8,
-    mate: u32,
-}
-
-// What a popularity is counted over: the refusal's number, and how many records are searched for the block and for its partner.
-pub struct Searched {
-    pub code: u8,
-    pub own: usize,
-    pub mate: u32,
-    pub other: usize,
-}
-
-// What a read works on: the refusal's number, how many records are used, and how many of them are entries.
-pub struct Judged {
-    pub code: u8,
-    pub limit: usize,
-    pub count: usize,
 }
 
 // What both calls answer: refused with its number, or a number of entries.
@@ -137,61 +112,6 @@ pub fn tally(before: usize, found: u32, block: u32) -> usize
     before
 }
 
-// A block looked for in an accepted plan: check 19, and its partner.
-fn seek_in(bytes: &[u8], h: Header, block: u32) -> Sought
-    requires { ⌜ judge (now bytes) ≡ accepted (planOf (now bytes) h) ⌝ }
-    ensures { λ r. ⌜ r ≡ soughtIn (planOf (now (bytes .entry)) h) block ⌝ }
-{
-    let cluster = h.cluster;
-    let i = block as usize;
-    if i >= cluster.blocks {
-        return Sought {
-            code: 19,
-            mate: block,
-        };
-    }
-    Sought {
-        code: 0,
-        mate: plan::mate(bytes, h, i) as u32,
-    }
-}
-
-// A block looked for in any bytes: the plan's refusals, then check 19.
-fn seek(bytes: &[u8], block: u32) -> Sought
-    ensures { λ r. ⌜ r ≡ sought (judge (now (bytes .entry))) block ⌝ }
-{
-    let reading = plan::read(bytes);
-    match reading {
-        Reading::Refused(code) => Sought {
-            code: code,
-            mate: block,
-        },
-        Reading::Accepted(h) => seek_in(bytes, h, block),
-    }
-}
-
-// What a block's popularity is counted over. Nothing is searched where the call is refused, nor twice for a block without a partner.
-pub fn search(bytes: &[u8], block: u32, lent: usize, count: u64) -> Searched
-    ensures { λ r. ⌜ r ≡ searched (judge (now (bytes .entry))) block lent count ⌝ }
-{
-    let found = seek(bytes, block);
-    let own = unrefused(found.code, standing(lent, count));
-    if found.mate == block {
-        return Searched {
-            code: found.code,
-            own: own,
-            mate: block,
-            other: 0,
-        };
-    }
-    Searched {
-        code: found.code,
-        own: own,
-        mate: found.mate,
-        other: own,
-    }
-}
-
 // A block's popularity from the numbers of its entries and its partner's: the larger.
 pub fn popularity_answer(code: u8, own: usize, other: usize) -> ReadsAnswer
     ensures { λ r. ⌜ r ≡ popularityNumber code own other ⌝ }
@@ -203,26 +123,6 @@ pub fn popularity_answer(code: u8, own: usize, other: usize) -> ReadsAnswer
         return ReadsAnswer::Number(other as u64);
     }
     ReadsAnswer::Number(own as u64)
-}
-
-// What a read works on: nothing where it is refused.
-pub fn judge_read(
-    bytes: &[u8],
-    block: u32,
-    tick: u32,
-    last: u32,
-    lent: usize,
-    standing: usize,
-) -> Judged
-    ensures { λ r. ⌜ r ≡ judged (judge (now (bytes .entry))) block tick last lent standing ⌝ }
-{
-    let found = seek(bytes, block);
-    let code = gap_refusal(found.code, tick, last);
-    Judged {
-        code: code,
-        limit: unrefused(code, usable(lent)),
-        count: unrefused(code, standing),
-    }
 }
 
 // A read's answer from the number of entries kept: check 21, else the new count.

@@ -27,11 +27,12 @@ use Rattle.model.specs.declared.Entry.{Entry}
 use Rattle.model.specs.Refusal.{judge}
 use Rattle.model.specs.ReadLog.{entry, standing, readCall}
 use Rattle.readlog.specs.Records.{lastOr, CompactedAs, appended}
-use Rattle.window.specs.declared.Judged.{Judged}
+use Rattle.lookup.specs.declared.Judged.{Judged}
 use Rattle.window.specs.declared.ReadsAnswer.{ReadsAnswer}
-use Rattle.window.specs.Window.{judged, readNumber}
-use Rattle.window.proofs.Judged as J
-use Rattle.window.proofs.Judged.Laws as J′
+use Rattle.window.specs.Window.{readNumber}
+use Rattle.lookup.specs.Lookup.{judged}
+use Rattle.lookup.proofs.Judged as J
+use Rattle.lookup.proofs.Judged.Laws as J′
 use Rattle.window.proofs.ReadsAnswer as R
 use Rattle.window.proofs.ReadsAnswer.Laws as R′
 use Rattle.window.proofs.standing as stand
@@ -42,10 +43,10 @@ use Rattle.readlog.proofs.last_tick as last-tick
 use Rattle.readlog.proofs.last_tick.Symbol as last-tick-def
 use Rattle.readlog.proofs.last_tick.Symbol.{name as #readlog·last-tick}
 use Rattle.readlog.proofs.last_tick.Met as last-tick-thm
-use Rattle.window.proofs.judge_read as judge-read
-use Rattle.window.proofs.judge_read.Symbol as judge-read-def
-use Rattle.window.proofs.judge_read.Symbol.{name as #window·judge-read}
-use Rattle.window.proofs.judge_read.Met as judge-read-thm
+use Rattle.lookup.proofs.judge_read as judge-read
+use Rattle.lookup.proofs.judge_read.Symbol as judge-read-def
+use Rattle.lookup.proofs.judge_read.Symbol.{name as #lookup·judge-read}
+use Rattle.lookup.proofs.judge_read.Met as judge-read-thm
 use Rattle.readlog.proofs.drop_old as drop-old
 use Rattle.readlog.proofs.drop_old.Symbol as drop-old-def
 use Rattle.readlog.proofs.drop_old.Symbol.{name as #readlog·drop-old}
@@ -119,7 +120,7 @@ module _ {M : Type 1} (𝓤 : URA M) (H : Heap 𝓤) (A : Atoms 𝓤) (mem : Mem
   record Known (𝓣 : Tables 𝓤 H) : Type 1 where
     stands : Triple 𝓤 (𝓣 .C #window·standing) Stand
     last-ticks : Triple 𝓤 (𝓣 .C #readlog·last-tick) LastTick
-    judges-read : Triple 𝓤 (𝓣 .C #window·judge-read) JudgeRead
+    judges-read : Triple 𝓤 (𝓣 .C #lookup·judge-read) JudgeRead
     drops-old : Triple 𝓤 (𝓣 .C #readlog·drop-old) DropOld
     appends : Triple 𝓤 (𝓣 .C #readlog·append) Append
     answers : Triple 𝓤 (𝓣 .C #window·read-answer) Answer
@@ -471,7 +472,7 @@ read-spec 𝓤 H 𝓜 𝓖 𝓡 =
     (read-meets 𝓤 H (𝓖 .A) (givenOf 𝓤 H 𝓜 𝓖) (𝓜 .mem) (𝓡 .run) (tablesOf 𝓤 H 𝓜 (tables 𝓤 H 𝓜 𝓡 code.env)) (record {
       stands = cited 𝓤 H (Stand 𝓤 H (𝓖 .A) (𝓜 .mem) (𝓡 .run)) 𝓜 𝓡 code.env #window·standing stand-def.routine code.calls-window·standing (stand-thm.met 𝓤 H 𝓜 𝓖 𝓡);
       last-ticks = cited 𝓤 H (LastTick 𝓤 H (𝓖 .A) (𝓜 .mem) (𝓡 .run)) 𝓜 𝓡 code.env #readlog·last-tick last-tick-def.routine code.calls-readlog·last-tick (last-tick-thm.met 𝓤 H 𝓜 𝓖 𝓡);
-      judges-read = cited 𝓤 H (JudgeRead 𝓤 H (𝓖 .A) (𝓜 .mem) (𝓡 .run)) 𝓜 𝓡 code.env #window·judge-read judge-read-def.routine code.calls-window·judge-read (judge-read-thm.met 𝓤 H 𝓜 𝓖 𝓡);
+      judges-read = cited 𝓤 H (JudgeRead 𝓤 H (𝓖 .A) (𝓜 .mem) (𝓡 .run)) 𝓜 𝓡 code.env #lookup·judge-read judge-read-def.routine code.calls-lookup·judge-read (judge-read-thm.met 𝓤 H 𝓜 𝓖 𝓡);
       drops-old = cited 𝓤 H (DropOld 𝓤 H (𝓖 .A) (𝓜 .mem) (𝓡 .run)) 𝓜 𝓡 code.env #readlog·drop-old drop-old-def.routine code.calls-readlog·drop-old (drop-old-thm.met 𝓤 H 𝓜 𝓖 𝓡);
       appends = cited 𝓤 H (Append 𝓤 H (𝓖 .A) (𝓜 .mem) (𝓡 .run)) 𝓜 𝓡 code.env #readlog·append append-def.routine code.calls-readlog·append (append-thm.met 𝓤 H 𝓜 𝓖 𝓡);
       answers = cited 𝓤 H (Answer 𝓤 H (𝓖 .A) (𝓜 .mem) (𝓡 .run)) 𝓜 𝓡 code.env #window·read-answer answer-def.routine code.calls-window·read-answer (answer-thm.met 𝓤 H 𝓜 𝓖 𝓡);

@@ -1,12 +1,12 @@
--- `window::seek_in` meets its contract.
+-- `lookup::seek_in` meets its contract.
 -- Assumes nothing.
 use mathlib.Core.Path.{sym}
 use borrow.Author.Needs.{needs}
 use borrow.Author.Tests.{lt-ltb, le-ltb}
 use Rattle.plan.proofs.Laws.{planOf-blocks}
-use Rattle.window.specs.Window.{soughtIn}
-use Rattle.window.proofs.seek_in.Statement.{statement}
-use Rattle.window.proofs.seek_in.Tie as tie
+use Rattle.lookup.specs.Lookup.{soughtIn}
+use Rattle.lookup.proofs.seek_in.Statement.{statement}
+use Rattle.lookup.proofs.seek_in.Tie as tie
 
 returns : tie.Need-returns
 unfolding soughtIn

@@ -1,9 +1,9 @@
--- `window::judge_read` meets its contract: its parts, one after the other.
+-- `lookup::judge_read` meets its contract: its parts, one after the other.
 -- Assumes nothing.
 use borrow.Author.Needs.{needs}
-use Rattle.window.specs.Window.{judged}
-use Rattle.window.proofs.judge_read.Statement.{statement}
-use Rattle.window.proofs.judge_read.Tie as tie
+use Rattle.lookup.specs.Lookup.{judged}
+use Rattle.lookup.proofs.judge_read.Statement.{statement}
+use Rattle.lookup.proofs.judge_read.Tie as tie
 
 seek-requires : tie.Need-seek-requires
 seek-requires c κs = search needs

@@ -1,11 +1,11 @@
--- `window::seek` meets its contract: the reader's verdict, arm by arm.
+-- `lookup::seek` meets its contract: the reader's verdict, arm by arm.
 -- Assumes nothing.
 use mathlib.Core.Path.{sym, ap, _∙_}
 use borrow.Author.Needs.{needs}
 use Rattle.plan.specs.Reading.{verdictOf}
-use Rattle.window.specs.Window.{sought}
-use Rattle.window.proofs.seek.Statement.{statement}
-use Rattle.window.proofs.seek.Tie as tie
+use Rattle.lookup.specs.Lookup.{sought}
+use Rattle.lookup.proofs.seek.Statement.{statement}
+use Rattle.lookup.proofs.seek.Tie as tie
 
 read-requires : tie.Need-read-requires
 read-requires c κs = search needs

@@ -1,10 +1,10 @@
--- `window::search` meets its contract.
+-- `lookup::search` meets its contract.
 -- Assumes nothing.
 use borrow.Author.Needs.{needs}
 use borrow.Author.Tests.{eq-eqb, ne-eqb}
-use Rattle.window.specs.Window.{searched}
-use Rattle.window.proofs.search.Statement.{statement}
-use Rattle.window.proofs.search.Tie as tie
+use Rattle.lookup.specs.Lookup.{searched}
+use Rattle.lookup.proofs.search.Statement.{statement}
+use Rattle.lookup.proofs.search.Tie as tie
 
 seek-requires : tie.Need-seek-requires
 seek-requires c κs = search needs
