@@ -60,9 +60,9 @@ cool2 : load tied sixes 2 ≡ 0
 unfolding load shareOf share replicas bit sum
 cool2 = refl
 
-hottest : maxLoad tied sixes ≡ 6 * unit
+highest : maxLoad tied sixes ≡ 6 * unit
 unfolding maxLoad largest
-hottest = rw (hot0, hot1, cool2)
+highest = rw (hot0, hot1, cool2)
 
 -- A step goes to a machine with less load, so it takes from one of the two hot machines and gives to the third: the other hot one
 -- keeps its load.
@@ -80,7 +80,7 @@ keeps (suc (suc m)) n l less later same =
 
 still : (words : List ℕ) → (k : ℕ) × (k < 3) × (load tied words k ≡ 6 * unit) → maxLoad tied sixes ≤ maxLoad tied words
 unfolding maxLoad
-still words (k, l, e) = le-trans (le-of-eq (hottest ∙ sym e)) (largest-term 3 (load tied words) k l)
+still words (k, l, e) = le-trans (le-of-eq (highest ∙ sym e)) (largest-term 3 (load tied words) k l)
 
 none-lowers : (s : Step) → Admissible tied sixes s → maxLoad tied sixes ≤ maxLoad tied (after sixes s)
 unfolding after
@@ -127,7 +127,7 @@ ties =
       accepts = accepts;
       passes = onPlan-made sixes (placementRefusal sixes) _ (judge plan-tied) tied accepts passes;
       six-six-none = refl;
-      hottest = hottest;
+      highest = highest;
       none-lowers = none-lowers;
       one-left = onPlan-made sixes (placementRefusal sixes) _ (judge plan-tied) tied accepts passes;
       best = best;
