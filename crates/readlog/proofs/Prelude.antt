@@ -26,9 +26,12 @@ pub use ghost.Atoms.{Atoms, sem}
 pub use sound.WpLaws.{fmOf, WpFn-mono}
 pub use contract.Monad.{Fun, fact}
 unfoldable pub use contract.Running.{givenOf, tables, tablesOf}
-pub use types.Kit.{Given, Item, ‵, raw, runs, anyQ, atRet, _⊛_, some, later, ⋆, Sq, _$_, _∵_, !, qed, by, move, drop, use0, use1, split, join, pick, rewrite, fsplit, fjoin, suffices, frame, await, done}
+pub use types.Kit.{Given, Item, ‵, raw, runs, anyQ, atRet, _⊛_, some, later, ⋆, Sq, _$_, _∵_, !, qed, by, move, drop, use0, use1, split}
+pub use types.Kit.{join, pick, rewrite, fsplit, fjoin, suffices, frame, await, done}
 pub use types.Part.{whole, sub, look-in}
-pub use types.Run.{look, store, init, forget, stop, hop, fld, from, load, lit, of-opd, bin, assigns, assigns-last, land, and-then, no-more, first, skips, blocks, branches, stays, leaves-loop, returns, returns-within, enter, alloc1, alloc0, params1, pass1, pass0, free1, free0, exec, Below, again, loops}
+pub use types.Run.{look, store, init, forget, stop, hop, fld, from, load, lit, of-opd, bin, assigns, assigns-last, land, and-then, no-more}
+pub use types.Run.{first, skips, blocks, branches, stays, leaves-loop, returns, returns-within, enter, alloc1, alloc0, params1, pass1}
+pub use types.Run.{pass0, free1, free0, exec, Below, again, loops}
 pub use types.Share.{arr-parts}
 pub use denote.Exit.{yes}
 pub use denote.RattleType.{owns}
@@ -47,4 +50,5 @@ pub use denote.Triple.Clauses.{ensured, lasts}
 pub use denote.Triple.Entry.{Vals, onEntry}
 pub use denote.Triple.Spec.{Meets, tripleOf}
 pub use denote.Triple.Table.{entered, cited}
-pub use denote.Triple.Walked.{says, needs, Stays, stay-none, stay-none-slice, walkOf, AllGo, goes-none, goes-none-slice, Walks, ends-at, walked, walk-meets}
+pub use denote.Triple.Walked.{says, needs, Stays, stay-none, stay-none-slice, walkOf, AllGo, goes-none, goes-none-slice, Walks, ends-at}
+pub use denote.Triple.Walked.{walked, walk-meets}

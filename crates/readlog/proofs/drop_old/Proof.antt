@@ -18,9 +18,24 @@ use denote.Lend.{Held}
 use denote.Index.{elem-put, opens-slice, closes-slice}
 use denote.Triple.Walked.{stay-slice, goes-slice}
 use denote.Struct.Laws as LL
-use Rattle.readlog.proofs.Prelude.{_≡_, refl, sym, _∙_, ap, subst, inl, inr, List, [], _∷_, WellFounded, InvImage·wf, ℕ, _+_, _*_, _-_, _≤_, _<_, _^_, zero-le, eq-or-lt-of-le, add-one-dec, lt-ltb, le-ltb, Nat·lt-wfRel, T, lit<, length, getD, URA, fullShare, Ty, named, w32, w64, tyInt, tyBool, tyPtr, Val, vint, vbool, vptr, SProp, ent, emp, snd∗, exE, id⊢, Lft, GName, Share, ftrue, fat, froom, fdies, flft, fobor, Memory, Routine, afterTurn, Heap, Out, Env, afterSeq, afterBlock, Calls, Loops, Wp, atReturn, WpFn, Tables, Atoms, sem, fmOf, WpFn-mono, Fun, fact, givenOf, tables, tablesOf, Given, Item, ‵, raw, runs, anyQ, atRet, _⊛_, some, later, ⋆, Sq, _$_, _∵_, !, qed, by, move, drop, use0, use1, split, join, pick, rewrite, fsplit, fjoin, suffices, frame, await, done, whole, sub, look-in, look, store, init, forget, stop, hop, fld, from, load, lit, of-opd, bin, assigns, assigns-last, land, and-then, no-more, first, blocks, stays, leaves-loop, returns, enter, alloc1, alloc0, params1, pass1, pass0, free1, free0, exec, Below, again, loops, yes, owns, Is, shows, uint-vals, uint-tells, uint-makes, u32, usize, RefT, now, sliceVal, Room, at-slice, slice-vals, codedHoleys, heres, place-is, row, elem-out, plain, only, owned, facts, heard, nothing, Contract, Triple, calls-at, ensured, lasts, Vals, onEntry, Meets, tripleOf, entered, cited, says, needs, Stays, stay-none, walkOf, AllGo, goes-none, Walks, ends-at, walked, walk-meets}
+use Rattle.readlog.proofs.Prelude.{_≡_, refl, sym, _∙_, ap, subst, inl, inr, List, [], _∷_, WellFounded, InvImage·wf, ℕ, _+_, _*_}
+use Rattle.readlog.proofs.Prelude.{_-_, _≤_, _<_, _^_, zero-le, eq-or-lt-of-le, add-one-dec, lt-ltb, le-ltb, Nat·lt-wfRel, T, lit<}
+use Rattle.readlog.proofs.Prelude.{length, getD, URA, fullShare, Ty, named, w32, w64, tyInt, tyBool, tyPtr, Val, vint, vbool, vptr}
+use Rattle.readlog.proofs.Prelude.{SProp, ent, emp, snd∗, exE, id⊢, Lft, GName, Share, ftrue, fat, froom, fdies, flft, fobor, Memory}
+use Rattle.readlog.proofs.Prelude.{Routine, afterTurn, Heap, Out, Env, afterSeq, afterBlock, Calls, Loops, Wp, atReturn, WpFn}
+use Rattle.readlog.proofs.Prelude.{Tables, Atoms, sem, fmOf, WpFn-mono, Fun, fact, givenOf, tables, tablesOf, Given, Item, ‵, raw}
+use Rattle.readlog.proofs.Prelude.{runs, anyQ, atRet, _⊛_, some, later, ⋆, Sq, _$_, _∵_, !, qed, by, move, drop, use0, use1, split}
+use Rattle.readlog.proofs.Prelude.{join, pick, rewrite, fsplit, fjoin, suffices, frame, await, done, whole, sub, look-in, look}
+use Rattle.readlog.proofs.Prelude.{store, init, forget, stop, hop, fld, from, load, lit, of-opd, bin, assigns, assigns-last, land}
+use Rattle.readlog.proofs.Prelude.{and-then, no-more, first, blocks, stays, leaves-loop, returns, enter, alloc1, alloc0, params1}
+use Rattle.readlog.proofs.Prelude.{pass1, pass0, free1, free0, exec, Below, again, loops, yes, owns, Is, shows, uint-vals}
+use Rattle.readlog.proofs.Prelude.{uint-tells, uint-makes, u32, usize, RefT, now, sliceVal, Room, at-slice, slice-vals, codedHoleys}
+use Rattle.readlog.proofs.Prelude.{heres, place-is, row, elem-out, plain, only, owned, facts, heard, nothing, Contract, Triple}
+use Rattle.readlog.proofs.Prelude.{calls-at, ensured, lasts, Vals, onEntry, Meets, tripleOf, entered, cited, says, needs, Stays}
+use Rattle.readlog.proofs.Prelude.{stay-none, walkOf, AllGo, goes-none, Walks, ends-at, walked, walk-meets}
 use Rattle.readlog.proofs.Entries.{entryRow, entry-vals, entry-tells, place-fits}
-use Rattle.readlog.proofs.SweptLaws.{sweptAt, cleared, swept-first-list, swept-first-kept, swept-next-list, swept-next-kept, swept-length, swept-kept, sweptAt-is, sweptAt-at, swept-inside, cleared-inside}
+use Rattle.readlog.proofs.SweptLaws.{sweptAt, cleared, swept-first-list, swept-first-kept, swept-next-list, swept-next-kept}
+use Rattle.readlog.proofs.SweptLaws.{swept-length, swept-kept, sweptAt-is, sweptAt-at, swept-inside, cleared-inside}
 use Rattle.readlog.proofs.CompactLaws.{swept-compacted}
 use Rattle.model.specs.declared.Entry.{Entry}
 use Rattle.model.specs.ReadLog.{noEntry}

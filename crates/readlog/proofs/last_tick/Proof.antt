@@ -1,10 +1,20 @@
 -- `readlog::last_tick` meets its contract: a walk of its MIR, by hand. The list is looked into for the one entry that is read, and shut again.
 -- Assumes nothing.
 use mathlib.Core.Bool.{not}
-use Rattle.readlog.proofs.Prelude.{_≡_, refl, sym, subst, List, [], _∷_, ℕ, _*_, _-_, _≤_, _<_, _^_, arith, eq-eqb, ne-eqb, T, eqb, eqb→eq, T-not, length, getD}
-use Rattle.readlog.proofs.Prelude.{URA, fullShare, Ty, named, w32, w64, tyInt, tyBool, tyPtr, Val, vint, vptr, SProp, ent, Lft, GName, Share, ftrue, fat, flft, Memory, Routine, Heap, Env, Calls, Loops, WpFn, Tables, Atoms, WpFn-mono, Fun, givenOf, tables, tablesOf}
-use Rattle.readlog.proofs.Prelude.{Given, ‵, atRet, _⊛_, some, ⋆, _$_, _∵_, !, qed, by, move, drop, split, join, rewrite, fsplit, fjoin, suffices, frame, done, whole, sub, look-in, look, init, forget, stop, hop, fld, from, load, lit, of-opd, bin, assigns, first, skips, branches, returns, returns-within, enter, alloc1, alloc0, params1, pass1, pass0, free1, free0, exec}
-use Rattle.readlog.proofs.Prelude.{yes, owns, Is, shows, uint-vals, uint-tells, uint-makes, u32, usize, RefT, now, sliceVal, ShrSlice, Room, slice-vals, shr-slice-tells, place-is, elem-out, elem-back, looks-slice, shuts-slice, plain, owned, nothing, Vals, onEntry, Meets, tripleOf, entered, says, needs, Stays, stay-none, stay-none-slice, walkOf, AllGo, goes-none, goes-none-slice, Walks, ends-at, walked, walk-meets}
+use Rattle.readlog.proofs.Prelude.{_≡_, refl, sym, subst, List, [], _∷_, ℕ, _*_, _-_, _≤_, _<_, _^_, arith, eq-eqb, ne-eqb, T, eqb}
+use Rattle.readlog.proofs.Prelude.{eqb→eq, T-not, length, getD}
+use Rattle.readlog.proofs.Prelude.{URA, fullShare, Ty, named, w32, w64, tyInt, tyBool, tyPtr, Val, vint, vptr, SProp, ent, Lft}
+use Rattle.readlog.proofs.Prelude.{GName, Share, ftrue, fat, flft, Memory, Routine, Heap, Env, Calls, Loops, WpFn, Tables, Atoms}
+use Rattle.readlog.proofs.Prelude.{WpFn-mono, Fun, givenOf, tables, tablesOf}
+use Rattle.readlog.proofs.Prelude.{Given, ‵, atRet, _⊛_, some, ⋆, _$_, _∵_, !, qed, by, move, drop, split, join, rewrite, fsplit}
+use Rattle.readlog.proofs.Prelude.{fjoin, suffices, frame, done, whole, sub, look-in, look, init, forget, stop, hop, fld, from, load}
+use Rattle.readlog.proofs.Prelude.{lit, of-opd, bin, assigns, first, skips, branches, returns, returns-within, enter, alloc1, alloc0}
+use Rattle.readlog.proofs.Prelude.{params1, pass1, pass0, free1, free0, exec}
+use Rattle.readlog.proofs.Prelude.{yes, owns, Is, shows, uint-vals, uint-tells, uint-makes, u32, usize, RefT, now, sliceVal}
+use Rattle.readlog.proofs.Prelude.{ShrSlice, Room, slice-vals, shr-slice-tells, place-is, elem-out, elem-back, looks-slice}
+use Rattle.readlog.proofs.Prelude.{shuts-slice, plain, owned, nothing, Vals, onEntry, Meets, tripleOf, entered, says, needs, Stays}
+use Rattle.readlog.proofs.Prelude.{stay-none, stay-none-slice, walkOf, AllGo, goes-none, goes-none-slice, Walks, ends-at, walked}
+use Rattle.readlog.proofs.Prelude.{walk-meets}
 use Rattle.readlog.proofs.Entries.{entryRow, entry-vals, entry-tells, entry-copy, shrList, place-fits}
 use Rattle.model.specs.declared.Entry.{Entry}
 use Rattle.model.specs.ReadLog.{noEntry}

@@ -1,9 +1,23 @@
 -- `readlog::reads_of` meets its contract: a walk of its MIR, by hand. The list is looked into once before the loop and shut once after it; each record is counted by `window::tally`.
 -- Assumes nothing.
-use Rattle.readlog.proofs.Prelude.{_≡_, refl, sym, _∙_, ap, inl, inr, List, [], _∷_, WellFounded, InvImage·wf, ℕ, _+_, _*_, _-_, _≤_, _<_, _^_, zero-le, eq-or-lt-of-le, arith, add-one-dec, lt-ltb, le-ltb, Nat·lt-wfRel, lit<, length, getD, take}
-use Rattle.readlog.proofs.Prelude.{URA, fullShare, Ty, named, w32, w64, tyInt, tyBool, tyPtr, Val, vint, vbool, vptr, SProp, ent, emp, snd∗, exE, id⊢, Lft, GName, Share, ftrue, fat, froom, fdies, flft, fres, fobor, fshr-bor, Memory, Routine, afterTurn, Heap, Out, Env, afterSeq, afterBlock, Wp, atReturn, WpFn, Tables, Atoms, sem, fmOf, WpFn-mono, Fun, fact, givenOf, tables, tablesOf}
-use Rattle.readlog.proofs.Prelude.{Given, Item, ‵, raw, runs, anyQ, atRet, _⊛_, some, later, ⋆, Sq, _$_, _∵_, !, qed, by, move, drop, use0, use1, split, join, pick, rewrite, fsplit, fjoin, suffices, frame, await, done, whole, sub, look-in, look, store, init, forget, stop, hop, fld, from, load, lit, of-opd, bin, assigns, assigns-last, land, and-then, no-more, first, blocks, stays, leaves-loop, returns, enter, alloc1, alloc0, params1, pass1, pass0, free1, free0, exec, Below, again, loops, arr-parts}
-use Rattle.readlog.proofs.Prelude.{yes, owns, Is, shows, shares, uint-vals, uint-tells, uint-makes, uint-lawful, u32, usize, RefT, now, sliceVal, ShrSlice, Room, at-slice, slice-vals, shr-slice-tells, codedHoleys, heres, place-is, row, elem-out, elem-back, looks-slice, shuts-slice, plain, only, owned, facts, heard, nothing, Contract, Triple, calls-at, ensured, lasts, Vals, onEntry, Meets, tripleOf, entered, cited, says, needs, Stays, stay-none, stay-none-slice, walkOf, AllGo, goes-none, goes-none-slice, Walks, ends-at, walked, walk-meets}
+use Rattle.readlog.proofs.Prelude.{_≡_, refl, sym, _∙_, ap, inl, inr, List, [], _∷_, WellFounded, InvImage·wf, ℕ, _+_, _*_, _-_, _≤_}
+use Rattle.readlog.proofs.Prelude.{_<_, _^_, zero-le, eq-or-lt-of-le, arith, add-one-dec, lt-ltb, le-ltb, Nat·lt-wfRel, lit<, length}
+use Rattle.readlog.proofs.Prelude.{getD, take}
+use Rattle.readlog.proofs.Prelude.{URA, fullShare, Ty, named, w32, w64, tyInt, tyBool, tyPtr, Val, vint, vbool, vptr, SProp, ent}
+use Rattle.readlog.proofs.Prelude.{emp, snd∗, exE, id⊢, Lft, GName, Share, ftrue, fat, froom, fdies, flft, fres, fobor, fshr-bor}
+use Rattle.readlog.proofs.Prelude.{Memory, Routine, afterTurn, Heap, Out, Env, afterSeq, afterBlock, Wp, atReturn, WpFn, Tables}
+use Rattle.readlog.proofs.Prelude.{Atoms, sem, fmOf, WpFn-mono, Fun, fact, givenOf, tables, tablesOf}
+use Rattle.readlog.proofs.Prelude.{Given, Item, ‵, raw, runs, anyQ, atRet, _⊛_, some, later, ⋆, Sq, _$_, _∵_, !, qed, by, move, drop}
+use Rattle.readlog.proofs.Prelude.{use0, use1, split, join, pick, rewrite, fsplit, fjoin, suffices, frame, await, done, whole, sub}
+use Rattle.readlog.proofs.Prelude.{look-in, look, store, init, forget, stop, hop, fld, from, load, lit, of-opd, bin, assigns}
+use Rattle.readlog.proofs.Prelude.{assigns-last, land, and-then, no-more, first, blocks, stays, leaves-loop, returns, enter, alloc1}
+use Rattle.readlog.proofs.Prelude.{alloc0, params1, pass1, pass0, free1, free0, exec, Below, again, loops, arr-parts}
+use Rattle.readlog.proofs.Prelude.{yes, owns, Is, shows, shares, uint-vals, uint-tells, uint-makes, uint-lawful, u32, usize, RefT}
+use Rattle.readlog.proofs.Prelude.{now, sliceVal, ShrSlice, Room, at-slice, slice-vals, shr-slice-tells, codedHoleys, heres}
+use Rattle.readlog.proofs.Prelude.{place-is, row, elem-out, elem-back, looks-slice, shuts-slice, plain, only, owned, facts, heard}
+use Rattle.readlog.proofs.Prelude.{nothing, Contract, Triple, calls-at, ensured, lasts, Vals, onEntry, Meets, tripleOf, entered}
+use Rattle.readlog.proofs.Prelude.{cited, says, needs, Stays, stay-none, stay-none-slice, walkOf, AllGo, goes-none, goes-none-slice}
+use Rattle.readlog.proofs.Prelude.{Walks, ends-at, walked, walk-meets}
 use Rattle.readlog.proofs.Entries.{entryRow, entry-vals, entry-tells, entry-copy, shrList, place-fits}
 use Rattle.readlog.proofs.CountLaws.{readsOf-[], readsOf-take, readsOf-le}
 use Rattle.model.specs.declared.Entry.{Entry}

@@ -11,9 +11,17 @@ use denote.Steps.{peeks}
 use denote.Struct.Laws as LL
 use denote.Enum.Laws as EL
 use Rattle.readlog.proofs.Prelude.{_≡_, refl, _∙_, ap, subst, List, [], _∷_, ℕ, _≤_, _<_, _^_, arith, length, take}
-use Rattle.readlog.proofs.Prelude.{URA, fullShare, Ty, named, w32, w64, tyInt, Val, vint, SProp, ent, emp, snd∗, exE, id⊢, Lft, Share, ftrue, fat, froom, fdies, flft, Memory, Routine, Heap, Env, WpFn, Tables, Atoms, sem, fmOf, WpFn-mono, Fun, fact, givenOf, tables, tablesOf}
-use Rattle.readlog.proofs.Prelude.{Given, Item, ‵, raw, runs, atRet, _⊛_, some, later, ⋆, Sq, _$_, _∵_, !, qed, by, move, drop, use0, use1, split, join, pick, rewrite, fsplit, fjoin, suffices, frame, await, done, whole, sub, look-in, look, init, forget, stop, fld, from, load, of-opd, assigns, land, and-then, no-more, returns, enter, alloc1, alloc0, params1, pass1, pass0, free1, free0}
-use Rattle.readlog.proofs.Prelude.{yes, owns, Is, shows, uint-vals, uint-tells, uint-makes, uint-lawful, u32, usize, RefT, sliceVal, ShrSlice, Room, slice-vals, shr-slice-tells, plain, only, owned, facts, heard, nothing, Contract, Triple, calls-at, ensured, lasts, Vals, onEntry, Meets, tripleOf, entered, cited, says, Stays, stay-none, stay-none-slice, walkOf, AllGo, goes-none, goes-none-slice, Walks, ends-at, walked, walk-meets}
+use Rattle.readlog.proofs.Prelude.{URA, fullShare, Ty, named, w32, w64, tyInt, Val, vint, SProp, ent, emp, snd∗, exE, id⊢, Lft, Share}
+use Rattle.readlog.proofs.Prelude.{ftrue, fat, froom, fdies, flft, Memory, Routine, Heap, Env, WpFn, Tables, Atoms, sem, fmOf, WpFn-mono}
+use Rattle.readlog.proofs.Prelude.{Fun, fact, givenOf, tables, tablesOf}
+use Rattle.readlog.proofs.Prelude.{Given, Item, ‵, raw, runs, atRet, _⊛_, some, later, ⋆, Sq, _$_, _∵_, !, qed, by, move, drop, use0, use1}
+use Rattle.readlog.proofs.Prelude.{split, join, pick, rewrite, fsplit, fjoin, suffices, frame, await, done, whole, sub, look-in, look, init}
+use Rattle.readlog.proofs.Prelude.{forget, stop, fld, from, load, of-opd, assigns, land, and-then, no-more, returns, enter, alloc1, alloc0}
+use Rattle.readlog.proofs.Prelude.{params1, pass1, pass0, free1, free0}
+use Rattle.readlog.proofs.Prelude.{yes, owns, Is, shows, uint-vals, uint-tells, uint-makes, uint-lawful, u32, usize, RefT, sliceVal}
+use Rattle.readlog.proofs.Prelude.{ShrSlice, Room, slice-vals, shr-slice-tells, plain, only, owned, facts, heard, nothing, Contract, Triple}
+use Rattle.readlog.proofs.Prelude.{calls-at, ensured, lasts, Vals, onEntry, Meets, tripleOf, entered, cited, says, Stays, stay-none}
+use Rattle.readlog.proofs.Prelude.{stay-none-slice, walkOf, AllGo, goes-none, goes-none-slice, Walks, ends-at, walked, walk-meets}
 use Rattle.readlog.proofs.Entries.{entryRow}
 use Rattle.model.specs.declared.Entry.{Entry}
 use Rattle.model.specs.Refusal.{judge}
