@@ -5,15 +5,13 @@
 use native.Mathlib.Nat.{lt-of-le-of-lt, lt-of-lt-of-le, le-refl}
 use native.Mathlib.Numerals.{add-one-le}
 use mathlib.Core.Bool.{Bool}
-use mir.Syntax.{mut, tyRef}
 use mir.Val.{hasTy, WT}
 use base.Fml.{fobs, fauth, fbor}
 use types.Kit.{keep}
 use types.Part.{agg}
 use types.Run.{look-raw, store-raw}
 use denote.Shadow.{pureI}
-use denote.Memory.{pointee}
-use denote.Slice.{sliceTy, MutSlice, mut-slice-tells}
+use denote.Slice.{MutSlice, mut-slice-tells}
 use denote.Lend.{Held}
 use denote.Index.{elem-put, opens-slice, closes-slice}
 use denote.Triple.Walked.{stay-slice, goes-slice}
@@ -33,7 +31,7 @@ use Rattle.readlog.proofs.Prelude.{uint-tells, uint-makes, u32, usize, 
 use Rattle.readlog.proofs.Prelude.{heres, place-is, row, elem-out, plain, only, owned, facts, heard, nothing, Contract, Triple}
 use Rattle.readlog.proofs.Prelude.{calls-at, ensured, lasts, Vals, onEntry, Meets, tripleOf, entered, cited, says, needs, Stays}
 use Rattle.readlog.proofs.Prelude.{stay-none, walkOf, AllGo, goes-none, Walks, ends-at, walked, walk-meets}
-use Rattle.readlog.proofs.Entries.{entryRow, entry-vals, entry-tells, place-fits}
+use Rattle.readlog.proofs.Entries.{entryRow, entry-vals, entry-tells, mutList, place-fits}
 use Rattle.readlog.proofs.SweptLaws.{sweptAt, cleared, swept-first-list, swept-first-kept, swept-next-list, swept-next-kept}
 use Rattle.readlog.proofs.SweptLaws.{swept-length, swept-kept, sweptAt-is, sweptAt-at, swept-inside, cleared-inside}
 use Rattle.readlog.proofs.CompactLaws.{swept-compacted}
@@ -61,9 +59,6 @@ word = tyInt w64
 
 abbrev half : Ty
 half = tyInt w32
-
-abbrev list-ref : Ty
-list-ref = sliceTy (tyRef (named 0) mut (pointee (entryRow .written)))
 
 abbrev stayed : Stays (f.ended .signature .params) (f.ended .kept)
 stayed =
@@ -184,7 +179,7 @@ module _ {M : Type 1} (𝓤 : URA M) (H : Heap 𝓤) (A : Atoms 𝓤) (W : Given
     Λ = 𝓣 .Λ
 
     abbrev En : Env 𝓤 H
-    En = (word, l₀) ∷ (list-ref, l₁) ∷ (word, l₂) ∷ (word, l₃) ∷ (half, l₄) ∷ (word, l₅) ∷ (word, l₆) ∷ (T′.mir, l₇) ∷ (S′.mir, l₈) ∷ (word, l₉) ∷ (tyBool, l₁₀) ∷ (word, l₁₁) ∷ (tyPtr, l₁₂) ∷ (T′.mir, l₁₃) ∷ (tyPtr, l₁₄) ∷ (tyPtr, l₁₅) ∷ []
+    En = (word, l₀) ∷ (mutList, l₁) ∷ (word, l₂) ∷ (word, l₃) ∷ (half, l₄) ∷ (word, l₅) ∷ (word, l₆) ∷ (T′.mir, l₇) ∷ (S′.mir, l₈) ∷ (word, l₉) ∷ (tyBool, l₁₀) ∷ (word, l₁₁) ∷ (tyPtr, l₁₂) ∷ (T′.mir, l₁₃) ∷ (tyPtr, l₁₄) ∷ (tyPtr, l₁₅) ∷ []
 
     -- the invariant: the list's records, the open borrow, and the locals from the last to the first
     abbrev At : Upto → List (Item 𝓤)
@@ -204,7 +199,7 @@ module _ {M : Type 1} (𝓤 : URA M) (H : Heap 𝓤) (A : Atoms 𝓤) (W : Given
         ∷ ‵ (fat fullShare half l₄ 0 (vint w32 tick)) ∷ ‵ (fdies half l₄)
         ∷ ‵ (fat fullShare word l₃ 0 (vint w64 count)) ∷ ‵ (fdies word l₃)
         ∷ ‵ (fat fullShare word l₂ 0 (vint w64 limit)) ∷ ‵ (fdies word l₂)
-        ∷ ‵ (fat fullShare list-ref l₁ 0 (sliceVal (b, o) (length ys))) ∷ ‵ (fdies list-ref l₁)
+        ∷ ‵ (fat fullShare mutList l₁ 0 (sliceVal (b, o) (length ys))) ∷ ‵ (fdies mutList l₁)
         ∷ ‵ (froom word l₀ 0) ∷ ‵ (fdies word l₀) ∷ []
 
     -- after a turn: a later record is next, or the code behind the loop runs
