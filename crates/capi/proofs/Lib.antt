@@ -1,3 +1,4 @@
 pub mod Laws
+pub mod Guards
 pub mod Codes
 pub mod PlayLaws

@@ -1,22 +1,29 @@
--- `capi::bpl_popularity` meets its contract: a walk of its MIR, by hand. A short `out` is let go of as it is; otherwise `reads::popularity` is handed the plan and the list, and `tell_reads` its answer and `out`, for good.
+-- `capi::bpl_popularity` meets its contract: its code is gone through by hand.
+-- A short `out` is let go of as it is; otherwise `reads::popularity` is handed the plan and the list, and `tell_reads` its answer and `out`, for good.
 -- Assumes nothing.
 use Rattle.readlog.proofs.Prelude.{_≡_, refl, _∙_, ap, List, [], _∷_, ℕ, _≤_, _<_, _^_, lit<, length}
-use Rattle.readlog.proofs.Prelude.{URA, fullShare, Ty, named, w32, w64, tyInt, tyBool, Val, vint, SProp, ent, emp, snd∗, exE, id⊢, Lft, Share, ftrue, fat, flft, Memory, Routine, Heap, Env, WpFn, Tables, Atoms, sem, fmOf, WpFn-mono, Fun, fact, givenOf, tables, tablesOf}
-use Rattle.readlog.proofs.Prelude.{Given, Item, atRet, ‵, raw, _⊛_, some, later, ⋆, _$_, _∵_, !, qed, by, move, drop, use1, split, join, pick, rewrite, fsplit, fjoin, suffices, frame, await, done, whole, sub, look-in, look, init, forget, stop, hop, fld, from, load, lit, of-opd, bin, assigns, land, and-then, no-more, first, skips, branches, returns, returns-within, exec, enter, alloc1, alloc0, params1, pass1, pass0, free1, free0}
-use Rattle.readlog.proofs.Prelude.{yes, owns, Is, shows, uint-vals, uint-tells, uint-makes, uint-lawful, u32, RefT, sliceVal, ShrSlice, Room, slice-vals, shr-slice-tells, plain, only, owned, facts, heard, nothing, Contract, Triple, calls-at, ensured, lasts, Vals, onEntry, Meets, tripleOf, entered, cited, says, Stays, walkOf, AllGo, Walks, ends-at, walked, walk-meets}
+use Rattle.readlog.proofs.Prelude.{URA, fullShare, Ty, named, w32, w64, tyInt, Val, vint, SProp, ent, emp, snd∗, exE, id⊢, Lft, Share}
+use Rattle.readlog.proofs.Prelude.{ftrue, fat, flft, Memory, Routine, Heap, WpFn, Tables, Atoms, sem, fmOf, WpFn-mono, Fun, fact, givenOf}
+use Rattle.readlog.proofs.Prelude.{tables, tablesOf}
+use Rattle.readlog.proofs.Prelude.{Given, Item, ‵, raw, _⊛_, some, later, ⋆, _$_, _∵_, !, qed, by, move, drop, use1, split, join, pick}
+use Rattle.readlog.proofs.Prelude.{rewrite, fsplit, fjoin, suffices, frame, await, done, whole, sub, look-in, look, init, forget, stop, hop}
+use Rattle.readlog.proofs.Prelude.{fld, from, load, lit, of-opd, bin, assigns, land, and-then, no-more, returns, returns-within, enter}
+use Rattle.readlog.proofs.Prelude.{alloc1, alloc0, params1, pass1, pass0, free1, free0}
+use Rattle.readlog.proofs.Prelude.{yes, owns, Is, shows, uint-vals, uint-tells, uint-makes, uint-lawful, u32, RefT, sliceVal, ShrSlice}
+use Rattle.readlog.proofs.Prelude.{Room, slice-vals, shr-slice-tells, plain, only, owned, facts, heard, nothing, Contract, Triple, calls-at}
+use Rattle.readlog.proofs.Prelude.{ensured, lasts, Vals, onEntry, Meets, tripleOf, entered, cited, says, Stays, walkOf, AllGo, Walks}
+use Rattle.readlog.proofs.Prelude.{ends-at, walked, walk-meets}
 use Rattle.readlog.proofs.Entries.{entryRow}
 use mathlib.Core.Path.{ap₂}
 use lib.Dec.{ltb→lt, nltb→le}
-use mir.Syntax.{imm, mut, erased, w8, tyRef}
 use base.Logic.{via, fst∗}
 use base.Fml.{Fml, fsep, feq}
-use types.Kit.{keep, use2, use3, feqL}
+use types.Kit.{post, keep, use2, use3, feqL}
 use types.Part.{agg}
 use types.Run.{addr}
 use denote.Builtin.{u8, u64}
-use denote.Memory.{pointee}
 use denote.Signature.{shrSliceOf}
-use denote.Slice.{sliceTy, MutSlice, finally, mut-slice-tells}
+use denote.Slice.{MutSlice, finally, mut-slice-tells}
 use denote.Steps.{peeks}
 use denote.Enum.Laws as EL
 use denote.Triple.Walked.{stay-dropped, gave-slice, goes-dropped, goes-slice, goes-gave-slice}
@@ -32,6 +39,7 @@ use Rattle.reads.proofs.popularity.Symbol as asks-def
 use Rattle.reads.proofs.popularity.Symbol.{name as #reads·popularity}
 use Rattle.reads.proofs.popularity.Met as asks-thm
 use Rattle.capi.specs.Interface.{effectOf, effect, oneNumber, toldCode, toldOut}
+use Rattle.capi.proofs.Guards.{guards}
 use Rattle.capi.proofs.Laws.{out-short, reads-told}
 use Rattle.capi.proofs.tell_reads as tell
 use Rattle.capi.proofs.tell_reads.Symbol as tell-def
@@ -41,29 +49,12 @@ use Rattle.capi.proofs.bpl_popularity.Key.{name as #capi·bpl-popularit
 use Rattle.capi.proofs.bpl_popularity as f
 use Rattle.capi.proofs.bpl_popularity.Statement as stated
 use Rattle.capi.proofs.bpl_popularity.Code as code
-use Rattle.capi.proofs.bpl_popularity.Code.Mir as body
 
 abbrev Arg : Type 0
 Arg = RefT (List ℕ) × (ℕ × (RefT (List Entry) × (ℕ × (RefT (List ℕ) × Unit {0}))))
 
-abbrev word : Ty
-word = tyInt w64
-
 abbrev half : Ty
 half = tyInt w32
-
--- the types of the locals that hold the plan, the list and `out`, and of the pointer that is passed on
-abbrev planTy : Ty
-planTy = sliceTy (tyRef (named 0) imm (tyInt w8))
-
-abbrev listTy : Ty
-listTy = sliceTy (tyRef (named 1) imm (pointee (entryRow .written)))
-
-abbrev outTy : Ty
-outTy = sliceTy (tyRef (named 2) mut word)
-
-abbrev outPtr : Ty
-outPtr = tyRef erased mut word
 
 -- of `out` the last value is had at exit, of all else nothing
 abbrev stayed : Stays (f.ended .signature .params) (f.ended .kept)
@@ -168,7 +159,7 @@ module _ {M : Type 1} (𝓤 : URA M) (H : Heap 𝓤) (A : Atoms 𝓤) (W : Given
       -- [_10; …; _0; …; what `reads::popularity` is passed; out; its tokens; out's token]: local k stands at 2 * (10 - k)
       assigns ! (of-opd ! (load ! (from ! (fld ! refl (stop !))) (look-in ! 10 (sub ! 1 refl (whole !))))) (from ! (stop !)) (init ! 6 refl (tt, record { fits = room-o .0 })) $
       assigns ! (bin ! (load ! (from ! (stop !)) (look ! 6 refl)) (lit ! tt) tt) (from ! (stop !)) (init ! 4 refl (tt, tt)) $
-      first ! $ branches ! (load ! (from ! (stop !)) (look ! 4 refl))
+      guards ! (load ! (from ! (stop !)) (look ! 4 refl))
       (λ short. assigns ! (of-opd ! (lit ! tt)) (from ! (stop !)) (init ! 20 refl (tt, record { fits = lit< tt })) $
       -- out is let go of: [the last value of out; _10; …; _0; …]
       move ! (23 ∷ []) $ use1 W (later (‵ (fsep (finally u64 (o .name) (o .now)) (feq ℕ (length (o .now)) (length (o .now)))))) (goes-slice 𝓤 H A W 3 2 tt (plain (λ _. u64)) (κ, (κ′, (κ″, tt))) o (o .now) (vo ∷ []) refl) $
@@ -179,8 +170,6 @@ module _ {M : Type 1} (𝓤 : URA M) (H : Heap 𝓤) (A : Atoms 𝓤) (W : Given
       move ! (5 ∷ 6 ∷ []) $ free1 ! $ move ! (3 ∷ 4 ∷ []) $ free1 ! $ move ! (1 ∷ 2 ∷ []) $ free1 ! $ free0 ! $
       keep ! (2 ∷ 3 ∷ 0 ∷ []) $ by ! (exits 255 (o .now) (lit< tt) refl (out-short 1 oneNumber (l .now) (o .now) call (ltb→lt (length (o .now)) 1 short))))
       (λ long-enough. let enough : 1 ≤ length (o .now) = nltb→le (length (o .now)) 1 long-enough in
-      let En : Env 𝓤 H = (half, l₀) ∷ (planTy, l₁) ∷ (half, l₂) ∷ (listTy, l₃) ∷ (word, l₄) ∷ (outTy, l₅) ∷ (R′.mir, l₆) ∷ (word, l₇) ∷ (tyBool, l₈) ∷ (outPtr, l₉) ∷ (sliceTy outPtr, l₁₀) ∷ [] in
-      skips ! $ exec ! (𝓣 .C) (𝓣 .Λ) En body.t-4 (atRet En Post) $
       move ! (24 ∷ 22 ∷ []) $ use2 W (raw (Asks 𝓤 H A mem run .pre to-asks)) goes-asks $
       -- [what the call needs; _10; …; _0; …; out; out's token]: local k stands at 1 + 2 * (10 - k)
       calls-at ! (fmOf 𝓤 H (W .laws) 𝓣) (Asks 𝓤 H A mem run) known-asks to-asks
