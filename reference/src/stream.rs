@@ -1,6 +1,7 @@
 //! The stream of trials: records that a trials program reads, and what it has to print.
 
 use crate::calls::*;
+use crate::reads::{enter_popularity, enter_read, Entry};
 use crate::steps::{End, Kind, Step};
 
 /// The bytes of a plan that the trials program keeps.
@@ -8,6 +9,12 @@ pub const PLAN_ROOM: usize = 7000;
 
 /// The number of words that the trials program keeps.
 pub const WORDS: usize = 1100;
+
+/// The number of records of the list that the trials program keeps.
+pub const RECORDS: usize = 4200;
+
+/// The most records of the list in one record of the stream.
+const RECORDS_AT_ONCE: usize = 1100;
 
 /// Every byte of the counts' buffer before a call.
 pub const UNTOUCHED: u8 = 238;
@@ -18,6 +25,19 @@ pub fn digest(bytes: impl Iterator<Item = u8>) -> String {
         (hash ^ u64::from(byte)).wrapping_mul(0x100_0000_01B3)
     });
     format!("{hash:016x}")
+}
+
+/// A record of the list as one word: the block above the tick.
+fn word_of(entry: &Entry) -> u64 {
+    u64::from(entry.block) << 32 | u64::from(entry.tick)
+}
+
+/// The record of the list that a word is.
+fn entry_of(word: u64) -> Entry {
+    Entry {
+        block: (word >> 32) as u32,
+        tick: word as u32,
+    }
 }
 
 /// Writes records.
@@ -67,6 +87,46 @@ impl Writer {
         self.record(b'c', number, 0, &[]);
     }
 
+    /// Records of the list from place `at` on; those before and behind stay.
+    pub fn records(&mut self, at: usize, records: &[Entry]) {
+        assert!(at + records.len() <= RECORDS);
+        for (k, some) in records.chunks(RECORDS_AT_ONCE).enumerate() {
+            let payload: Vec<u8> = some.iter().flat_map(|e| word_of(e).to_be_bytes()).collect();
+            let at = at + k * RECORDS_AT_ONCE;
+            self.record(b'R', some.len(), at as u32, &payload);
+        }
+    }
+
+    /// The number of records of the list lent from now on.
+    pub fn lend_records(&mut self, number: usize) {
+        assert!(number <= RECORDS);
+        self.record(b'M', number, 0, &[]);
+    }
+
+    /// The first records of the list, all of them lent.
+    pub fn list(&mut self, records: &[Entry]) {
+        self.records(0, records);
+        self.lend_records(records.len());
+    }
+
+    /// The count of entries that the next call hands in, of 48 bits.
+    pub fn count(&mut self, count: u64) {
+        let high = usize::try_from(count >> 32).expect("a length of 64 bits");
+        self.record(b'N', high, count as u32, &[]);
+    }
+
+    /// A read of a block at a tick.
+    pub fn read(&mut self, block: u32, tick: u32) {
+        self.record(b'B', 0, block, &[]);
+        self.record(b'd', 0, tick, &[]);
+    }
+
+    /// The popularity of a block.
+    pub fn popularity(&mut self, block: u32) {
+        self.record(b'B', 0, block, &[]);
+        self.record(b'o', 0, 0, &[]);
+    }
+
     /// A run with a step budget.
     pub fn run(&mut self, budget: u32) {
         self.record(b'u', 0, budget, &[]);
@@ -86,6 +146,10 @@ struct Memory {
     plan: Vec<u8>,
     words: Vec<u64>,
     lent: usize,
+    list: Vec<Entry>,
+    records_lent: usize,
+    count: u64,
+    block: u32,
 }
 
 /// An answer in words, or `refused` and its number.
@@ -130,6 +194,11 @@ impl Memory {
         digest(self.words.iter().flat_map(|w| w.to_le_bytes()))
     }
 
+    /// The digest of all records of the list, each as a word.
+    fn list_digest(&self) -> String {
+        digest(self.list.iter().flat_map(|e| word_of(e).to_le_bytes()))
+    }
+
     /// The line for judging the plan.
     fn plan_line(&self) -> String {
         let said = answer(enter_plan(&self.plan), |p| {
@@ -167,6 +236,23 @@ impl Memory {
         let (name, said) = self.call(op, budget);
         format!("{name} {said} {}\n", self.digest())
     }
+
+    /// The line for a read of the current block. The count that it answers is handed in from now on.
+    fn read_line(&mut self, tick: u32) -> String {
+        let lent = &mut self.list[..self.records_lent];
+        let answered = enter_read(&self.plan, self.block, tick, lent, self.count);
+        self.count = answered.unwrap_or(self.count);
+        let said = answer(answered, |n| n.to_string());
+        format!("read {said} {}\n", self.list_digest())
+    }
+
+    /// The line for the popularity of the current block.
+    fn popularity_line(&self) -> String {
+        let lent = &self.list[..self.records_lent];
+        let answered = enter_popularity(&self.plan, self.block, lent, self.count);
+        let said = answer(answered, |n| n.to_string());
+        format!("popularity {said} {}\n", self.list_digest())
+    }
 }
 
 /// One record of a stream.
@@ -183,7 +269,7 @@ fn next_record<'a>(stream: &mut &'a [u8]) -> Record<'a> {
     let length = usize::from(u16::from_be_bytes([head[2], head[3]]));
     let size = match head[0] {
         b'T' | b'P' => length,
-        b'W' => length * 8,
+        b'W' | b'R' => length * 8,
         _ => 0,
     };
     let (payload, behind) = behind.split_at(size);
@@ -196,35 +282,47 @@ fn next_record<'a>(stream: &mut &'a [u8]) -> Record<'a> {
     }
 }
 
+/// The payload's words.
+fn words_in<'a>(record: &'a Record) -> impl Iterator<Item = u64> + 'a {
+    let word = |eight: &[u8]| eight.iter().fold(0, |w, b| w << 8 | u64::from(*b));
+    record.payload.chunks(8).map(word)
+}
+
 /// Puts the payload's words in place; they are lent from now on.
 fn take_words(memory: &mut Memory, record: &Record) {
-    for (i, eight) in record.payload.chunks(8).enumerate() {
-        memory.words[i] = eight.iter().fold(0, |w, b| w << 8 | u64::from(*b));
+    for (i, word) in words_in(record).enumerate() {
+        memory.words[i] = word;
     }
     memory.lent = record.length;
+}
+
+/// Puts the payload's records of the list in place.
+fn take_records(memory: &mut Memory, record: &Record) {
+    let at = record.number as usize;
+    for (i, word) in words_in(record).enumerate() {
+        memory.list[at + i] = entry_of(word);
+    }
 }
 
 /// Does one record; answers what it prints.
 fn obey(memory: &mut Memory, record: &Record) -> String {
     match record.op {
-        b'T' => format!("# {}\n", String::from_utf8_lossy(record.payload)),
-        b'P' => {
-            memory.plan = record.payload.to_vec();
-            String::new()
-        }
-        b'W' => {
-            take_words(memory, record);
-            String::new()
-        }
-        b'L' => {
-            memory.lent = record.length;
-            String::new()
-        }
-        b'p' => memory.plan_line(),
-        b'c' => memory.counts_line(record.length),
-        b'E' => "end\n".to_string(),
-        op => memory.words_line(op, record.number),
+        b'T' => return format!("# {}\n", String::from_utf8_lossy(record.payload)),
+        b'p' => return memory.plan_line(),
+        b'c' => return memory.counts_line(record.length),
+        b'd' => return memory.read_line(record.number),
+        b'o' => return memory.popularity_line(),
+        b'E' => return "end\n".to_string(),
+        b'P' => memory.plan = record.payload.to_vec(),
+        b'W' => take_words(memory, record),
+        b'L' => memory.lent = record.length,
+        b'R' => take_records(memory, record),
+        b'M' => memory.records_lent = record.length,
+        b'N' => memory.count = (record.length as u64) << 32 | u64::from(record.number),
+        b'B' => memory.block = record.number,
+        op => return memory.words_line(op, record.number),
     }
+    String::new()
 }
 
 /// Plays a stream to its end, and hands on what each record prints.
@@ -233,6 +331,10 @@ pub fn play(mut stream: &[u8], mut print: impl FnMut(&str)) {
         plan: Vec::new(),
         words: vec![0; WORDS],
         lent: 0,
+        list: vec![Entry::default(); RECORDS],
+        records_lent: 0,
+        count: 0,
+        block: 0,
     };
     loop {
         let record = next_record(&mut stream);

@@ -1,7 +1,8 @@
 //! The stored trials: the specification's plans and examples first, generated ones after them; then the same for
-//! version 2.
+//! version 2, and for reads.
 
 mod pairs;
+mod reads;
 
 use crate::damage::{broken, flawed, over_budget, over_capacity, over_racks, two_records};
 use crate::gen::*;
@@ -447,6 +448,7 @@ pub fn stream() -> Vec<u8> {
     damaged_placements(&mut w, &mut rng);
     large_plans(&mut w, &mut rng);
     pairs::all(&mut w, &mut Rng::new(2));
+    reads::all(&mut w, &mut Rng::new(3));
     w.calls("E");
     w.bytes
 }

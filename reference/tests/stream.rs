@@ -1,7 +1,8 @@
 //! The stream of trials: digests, records, and the stored stream's bounds.
 
+use placement_reference::reads::Entry;
 use placement_reference::samples::{y, H};
-use placement_reference::stream::{digest, replay, Writer, PLAN_ROOM};
+use placement_reference::stream::{digest, replay, Writer, PLAN_ROOM, RECORDS};
 use placement_reference::trials::stream;
 
 #[test]
@@ -49,16 +50,56 @@ fn a_short_stream() {
     }
 }
 
+/// The digest of a list of these records and 0 behind them, as a word each with the block above the tick.
+fn list_digest(records: &[(u64, u64)]) -> String {
+    let words = records.iter().map(|(block, tick)| block << 32 | tick);
+    let all = words.chain(std::iter::repeat(0)).take(RECORDS);
+    digest(all.flat_map(u64::to_le_bytes))
+}
+
+#[test]
+fn a_short_stream_of_reads() {
+    let entry = |block, tick| Entry { block, tick };
+    let mut w = Writer::default();
+    w.plan(&H);
+    w.read(2, 5);
+    w.list(&[entry(1, 7), entry(9, 9)]);
+    w.count(1);
+    w.read(2, 8);
+    w.popularity(2);
+    w.read(2, 7_200_006);
+    w.read(3, 7_200_007);
+    w.records(2, &[entry(6, 7)]);
+    w.read(0, 7_200_007);
+    w.count(1 << 40 | 1);
+    w.read(0, 0);
+    w.calls("E");
+    let two = list_digest(&[(1, 7), (2, 8)]);
+    let dropped = list_digest(&[(2, 8), (0, 7_200_007), (6, 7)]);
+    let expected = [
+        format!("read refused 21 {}", list_digest(&[])),
+        format!("read 2 {two}"),
+        format!("popularity 1 {two}"),
+        format!("read refused 21 {two}"),
+        format!("read refused 19 {two}"),
+        format!("read 2 {dropped}"),
+        format!("read refused 20 {dropped}"),
+        "end".to_string(),
+    ];
+    let output = replay(&w.bytes);
+    assert_eq!(output.lines().collect::<Vec<_>>(), expected);
+}
+
 #[test]
 fn the_stored_stream_keeps_its_bounds() {
     let once = stream();
     assert_eq!(once, stream());
-    assert!(once.len() < 900_000);
+    assert!(once.len() < 1_000_000);
     assert!(once.ends_with(b"E\0\0\0\0\0\0\0"));
 }
 
 /// The largest plan of any version fits, and a plan of one block more, which row 6 refuses.
 #[test]
 fn the_largest_plan_fits() {
-    assert!(15 + 6 * 1025 <= PLAN_ROOM);
+    const { assert!(15 + 6 * 1025 <= PLAN_ROOM) };
 }

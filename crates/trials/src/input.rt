@@ -5,12 +5,12 @@ ghost use lib.ListN.{length};
 // A record's head: its op, its length and its number; or the input ended, or the byte after the op is not zero.
 pub enum Head {
     Cut,
-    Record { op: u8, n: usize, limit: u32 },
+    Record { op: u8, n: usize, number: u32 },
 }
 
 // The smaller of a number and a bound that callers keep: it tells the borrow checker that a part lies in its buffer.
 pub fn at_most(n: usize, most: usize) -> usize
-    ensures { λ r. ⌜ r ≤ most ⌝ }
+    ensures { λ r. ⌜ (r ≤ n) × (r ≤ most) ⌝ }
 {
     if n < most {
         return n;
@@ -45,7 +45,7 @@ fn parse(bytes: &[u8; 8]) -> Head {
     Head::Record {
         op: bytes[0],
         n: header::field_at(bytes, 2, 2),
-        limit: header::field_at(bytes, 4, 4) as u32,
+        number: header::field_at(bytes, 4, 4) as u32,
     }
 }
 

@@ -1,16 +1,16 @@
 -- `trials::play` is safe and ends: the buffers keep their lengths, and the measure is the turns left.
 -- Assumes nothing.
-use borrow.Author.Needs.{needs}
 use mathlib.Core.Path.{_≡_}
 use lib.ListN.{length}
+use borrow.Author.Needs.{needs}
 use Rattle.trials.proofs.play.Statement.{statement}
 use Rattle.trials.proofs.play.Tie as tie
 
 abbrev Inv-loop : tie.InvT-loop
-Inv-loop plan₀ words₀ current₀ turns₀ t7 t8 plan words current turns = (length plan ≡ length plan₀) × (length words ≡ length words₀)
+Inv-loop plan₀ words₀ log₀ current₀ turns₀ t8 t9 plan words log current turns = (length plan ≡ length plan₀) × (length words ≡ length words₀) × (length log ≡ length log₀)
 
 abbrev μ-loop : tie.MeasureT-loop
-μ-loop plan₀ words₀ current₀ turns₀ t7 t8 plan words current turns = turns
+μ-loop plan₀ words₀ log₀ current₀ turns₀ t8 t9 plan words log current turns = turns
 
 loop-holds : tie.Need-loop-holds Inv-loop μ-loop
 loop-holds c = search needs
@@ -48,6 +48,9 @@ same-length c = search needs
 same-length-2 : tie.Need-same-length-2 Inv-loop μ-loop
 same-length-2 c = search needs
 
+same-length-3 : tie.Need-same-length-3 Inv-loop μ-loop
+same-length-3 c = search needs
+
 returns : tie.Need-returns Inv-loop μ-loop
 returns c = search needs
 
@@ -63,20 +66,26 @@ new-requires-2 c κs = search needs
 write-requires-2 : tie.Need-write-requires-2 Inv-loop μ-loop
 write-requires-2 c κs = search needs
 
-same-length-3 : tie.Need-same-length-3 Inv-loop μ-loop
-same-length-3 c = search needs
-
 same-length-4 : tie.Need-same-length-4 Inv-loop μ-loop
 same-length-4 c = search needs
-
-returns-2 : tie.Need-returns-2 Inv-loop μ-loop
-returns-2 c = search needs
 
 same-length-5 : tie.Need-same-length-5 Inv-loop μ-loop
 same-length-5 c = search needs
 
 same-length-6 : tie.Need-same-length-6 Inv-loop μ-loop
 same-length-6 c = search needs
+
+returns-2 : tie.Need-returns-2 Inv-loop μ-loop
+returns-2 c = search needs
+
+same-length-7 : tie.Need-same-length-7 Inv-loop μ-loop
+same-length-7 c = search needs
+
+same-length-8 : tie.Need-same-length-8 Inv-loop μ-loop
+same-length-8 c = search needs
+
+same-length-9 : tie.Need-same-length-9 Inv-loop μ-loop
+same-length-9 c = search needs
 
 returns-3 : tie.Need-returns-3 Inv-loop μ-loop
 returns-3 c = search needs
@@ -99,14 +108,17 @@ play-spec =
     write-requires
     same-length
     same-length-2
+    same-length-3
     returns
     enum-told-2
     slice-aggregate-new-2
     new-requires-2
     write-requires-2
-    same-length-3
     same-length-4
-    returns-2
     same-length-5
     same-length-6
+    returns-2
+    same-length-7
+    same-length-8
+    same-length-9
     returns-3)

@@ -1,10 +1,10 @@
--- `trials::take_words` is safe and ends: the part that is filled lies in its buffer.
+-- `trials::fill_words` is safe and ends: the part that is filled lies in its buffer.
 -- Assumes nothing.
 use mathlib.Core.Path.{sym}
 use lib.Seq.{length-take-le}
 use borrow.Author.Needs.{needs}
-use Rattle.trials.proofs.take_words.Statement.{statement}
-use Rattle.trials.proofs.take_words.Tie as tie
+use Rattle.trials.proofs.fill_words.Statement.{statement}
+use Rattle.trials.proofs.fill_words.Tie as tie
 
 returns : tie.Need-returns
 returns c = search needs
@@ -36,8 +36,8 @@ same-length c = search needs
 returns-4 : tie.Need-returns-4
 returns-4 c = search needs
 
-pub take-words-spec : {M : Type 1} → statement M
-take-words-spec =
+pub fill-words-spec : {M : Type 1} → statement M
+fill-words-spec =
     tie.close
     (tie.spec
     returns
