@@ -198,9 +198,10 @@ struct bpl_entry {
  * those kept move to the front in order, the new one follows, and the later records of the usable length become 0.
  * Writes the new count, of the entries kept and the new one, to out[0].
  *
- * The claim, over any sequence of calls that starts with a count of 0, each given the list and the count that the last
- * one left, nobody else writing to the list and each number keeping its block: if successive accepted reads are less
- * than 2^31 ms apart, the entries are exactly the accepted reads that were in the window at every accepted tick since.
+ * Proved (crates/theorems/specs/Histories.antt) of any sequence of calls that starts with a count of 0, each given the
+ * list and the count that the last one left, nobody else writing to the list and each number keeping its block: the
+ * entries are exactly the accepted reads that were in the window at every accepted tick since. With less than 2^31 ms
+ * between successive accepted reads, as 20 takes it, they are those of the two hours before the last accepted one.
  * After 2^31 ms (24.8 days) without an accepted read every read is refused with 20 until the tick has gone round. All
  * entries are too old by then: a count of 0 starts anew.
  */
