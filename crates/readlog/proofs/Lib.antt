@@ -2,4 +2,4 @@ pub mod Entries
 pub mod Prelude
 pub mod CountLaws
 pub mod SweptLaws
-pub mod CompactLaws
+pub mod ClearLaws
