@@ -3,3 +3,4 @@ pub mod Prelude
 pub mod CountLaws
 pub mod SweptLaws
 pub mod ClearLaws
+pub mod CompactLaws
