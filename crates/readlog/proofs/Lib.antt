@@ -2,4 +2,5 @@ pub mod Entries
 pub mod Prelude
 pub mod CountLaws
 pub mod SweptLaws
+pub mod ClearLaws
 pub mod CompactLaws

@@ -7,7 +7,7 @@ use lib.Dec.{ltb, eqb}
 use lib.ListN.{length, getD, set, take, drop, replicate}
 use Rattle.model.specs.declared.Entry.{Entry}
 use Rattle.model.specs.ReadLog.{noEntry, current}
-use Rattle.window.specs.Window.{sifted}
+use Rattle.window.specs.Window.{keptWith}
 
 -- The tick of the last of so many entries; `tick` where there is none.
 unfoldable pub lastOr : List Entry → ℕ → ℕ → ℕ
@@ -18,15 +18,23 @@ pub record Swept : Type 0 where
   pub list : List Entry
   pub kept : ℕ
 
--- One record: it is cleared where it stood, then stored where it goes.
-unfoldable pub sweep : ℕ → ℕ → ℕ → Swept → Swept
-sweep tick count i s =
-    let next = sifted (getD (s .list) i noEntry) i count tick (s .kept) in
-    record { list = set (set (s .list) i noEntry) (next .at) (next .entry); kept = next .kept }
+-- One record more: it is stored behind those kept, and is one of them if it is in the window.
+unfoldable pub sweep : ℕ → ℕ → Swept → Swept
+sweep tick i s =
+    let e = getD (s .list) i noEntry in
+    record { list = set (s .list) (s .kept) e; kept = keptWith (s .kept) tick (e .tick) }
 
-unfoldable pub swept : ℕ → ℕ → List Entry → ℕ → Swept
-swept tick count list zero = record { list = list; kept = 0 }
-swept tick count list (suc i) = sweep tick count i (swept tick count list i)
+unfoldable pub swept : ℕ → List Entry → ℕ → Swept
+swept tick list zero = record { list = list; kept = 0 }
+swept tick list (suc i) = sweep tick i (swept tick list i)
+
+pub record SweptTo (tick count : ℕ) (list list' : List Entry) (kept : ℕ) : Type 0 where
+  pub list-is : list' ≡ swept tick list count .list
+  pub kept-is : kept ≡ swept tick list count .kept
+
+-- The records from `start` up to `limit` become 0.
+unfoldable pub cleared : ℕ → ℕ → List Entry → List Entry
+cleared start limit list = take start list ++ replicate (limit - start) noEntry ++ drop limit list
 
 -- The entries kept of the first `count`, cleared records up to `limit`, and the list's own behind them.
 unfoldable pub compacted : ℕ → ℕ → ℕ → List Entry → List Entry

@@ -5,7 +5,7 @@ ghost use mathlib.Core.Path.{_≡_};
 ghost use Prim.Native.Nat.{_≤_};
 ghost use lib.ListN.{length, take};
 ghost use Rattle.model.specs.ReadLog.{entry, readsOf};
-ghost use Rattle.readlog.specs.Records.{lastOr, CompactedAs, appended};
+ghost use Rattle.readlog.specs.Records.{lastOr, SweptTo, cleared, CompactedAs, appended};
 
 // The tick of the last of `count` entries; `tick` where there is none.
 pub fn last_tick(list: &[Entry], count: usize, tick: u32) -> u32
@@ -32,23 +32,43 @@ pub fn reads_of(list: &[Entry], count: usize, block: u32) -> usize
     found
 }
 
+// Moves the entries of the window among the first `count` records to the front, in order, and answers how many they are. What stands
+// behind them is of no use.
+fn compact(list: &mut [Entry], count: usize, tick: u32) -> usize
+    requires { ⌜ count ≤ length (now list) ⌝ }
+    ensures { λ r. ⌜ SweptTo tick count (now (list .entry)) (now (list .exit)) r ⌝ }
+{
+    let mut kept: usize = 0;
+    let mut i: usize = 0;
+    while i < count {
+        let e = list[i];
+        list[kept] = e;
+        kept = window::keep(kept, tick, e.tick);
+        i += 1;
+    }
+    kept
+}
+
+// Clears the records from `start` up to `limit`.
+fn clear(list: &mut [Entry], start: usize, limit: usize)
+    requires { ⌜ (start ≤ limit) × (limit ≤ length (now list)) ⌝ }
+    ensures { λ r. ⌜ now (list .exit) ≡ cleared start limit (now (list .entry)) ⌝ }
+{
+    let mut i = start;
+    while i < limit {
+        list[i] = Entry { block: 0, tick: 0 };
+        i += 1;
+    }
+}
+
 // Drops the entries that are too old: the others move to the front in order, and the later records below `limit` are cleared. Answers how
 // many are kept.
 pub fn drop_old(list: &mut [Entry], limit: usize, count: usize, tick: u32) -> usize
     requires { ⌜ (limit ≤ length (now list)) × (count ≤ limit) ⌝ }
     ensures { λ r. ⌜ CompactedAs tick limit count (now (list .entry)) (now (list .exit)) r ⌝ }
 {
-    let mut kept: usize = 0;
-    let mut i: usize = 0;
-    while i < limit {
-        let e = list[i];
-        list[i] = Entry { block: 0, tick: 0 };
-        let s = window::sift(e, i, count, tick, kept);
-        let at = s.at;
-        list[at] = s.entry;
-        kept = s.kept;
-        i += 1;
-    }
+    let kept = compact(list, count, tick);
+    clear(list, kept, limit);
     kept
 }
 

@@ -1,11 +1,9 @@
--- What becomes of each record of a list, one after the other, and of a call's refusal code.
-use mathlib.Core.Bool.{Bool, cond, not, _&&_}
+-- What is counted of each entry of a list, one after the other, and what becomes of a call's refusal code.
+use mathlib.Core.Bool.{cond, not}
 use Prim.Native.Nat.{ℕ, zero, suc, _+_, max}
 use lib.Dec.{ltb, eqb}
-use Rattle.model.specs.declared.Entry.{Entry}
 use Rattle.model.specs.Refusal.{refuseIf, orElse}
-use Rattle.model.specs.ReadLog.{noEntry, age, inWindow, longestGap}
-use Rattle.window.specs.declared.Sifted.{Sifted}
+use Rattle.model.specs.ReadLog.{age, window, longestGap}
 use Rattle.window.specs.declared.ReadsAnswer.{ReadsAnswer}
 use Rattle.window.specs.declared.ReadsAnswer.the-variants.{Refused, Number}
 
@@ -17,16 +15,9 @@ gapCode code tick last = orElse code (refuseIf (not (ltb (age tick last) longest
 unfoldable pub unrefused : ℕ → ℕ → ℕ
 unrefused code n = cond (eqb code 0) n 0
 
--- Whether record i is an entry that is kept.
-unfoldable pub isKept : Entry → ℕ → ℕ → ℕ → Bool
-isKept e i count tick = ltb i count && inWindow tick e
-
--- The record stored and its place: an entry that is kept behind those kept before, else a cleared record where it stood.
-unfoldable pub sifted : Entry → ℕ → ℕ → ℕ → ℕ → Sifted
-sifted e i count tick kept =
-    cond (isKept e i count tick)
-    (record { entry = e; at = kept; kept = kept + 1 })
-    (record { entry = noEntry; at = i; kept = kept })
+-- The number of entries kept, with the next one.
+unfoldable pub keptWith : ℕ → ℕ → ℕ → ℕ
+keptWith kept now tick = cond (ltb (age now tick) window) (kept + 1) kept
 
 -- The number of a block's entries, with the next record's.
 unfoldable pub tallied : ℕ → ℕ → ℕ → ℕ

@@ -1,9 +1,8 @@
-// The reads of the last two hours, on numbers: ages, how far a lent list is used, and what becomes of each of its records.
-use model::Entry;
+// The reads of the last two hours, on numbers: ages, how far a lent list is used, and which of its entries count.
 ghost use mathlib.Core.Path.{_≡_};
-ghost use Prim.Native.Nat.{_≤_, _<_, _^_};
+ghost use Prim.Native.Nat.{_<_, _^_};
 ghost use Rattle.model.specs.ReadLog.{age, usable, standing};
-ghost use Rattle.window.specs.Window.{gapCode, unrefused, sifted, tallied, readNumber, popularityNumber};
+ghost use Rattle.window.specs.Window.{gapCode, unrefused, keptWith, tallied, readNumber, popularityNumber};
 
 // The most records of a list that are used.
 const MAX_ENTRIES: usize = 4096;
@@ -13,13 +12,6 @@ const WINDOW: u32 = 7200000;
 
 // The last tick's age from which a read is refused 20.
 const LONGEST_GAP: u32 = 2147483648;
-
-// What becomes of a record while a list is compacted: the entry to store, where, and how many are kept so far.
-pub struct Sifted {
-    pub entry: Entry,
-    pub at: usize,
-    pub kept: usize,
-}
 
 // What both calls answer: refused with its number, or a number of entries.
 pub enum ReadsAnswer {
@@ -78,27 +70,15 @@ pub fn unrefused(code: u8, n: usize) -> usize
     0
 }
 
-// What becomes of record i of a list with `count` entries: an entry of the window moves behind those kept, any other record is cleared.
-pub fn sift(e: Entry, i: usize, count: usize, tick: u32, kept: usize) -> Sifted
-    requires { ⌜ kept ≤ i ⌝ }
-    ensures { λ r. ⌜ r ≡ sifted e i count tick kept ⌝ }
+// The number of entries kept, one entry further: it is kept if it is in the window.
+pub fn keep(kept: usize, now: u32, tick: u32) -> usize
+    requires { ⌜ kept < 2 ^ 63 ⌝ }
+    ensures { λ r. ⌜ r ≡ keptWith kept now tick ⌝ }
 {
-    let cleared = Sifted {
-        entry: Entry { block: 0, tick: 0 },
-        at: i,
-        kept: kept,
-    };
-    if i >= count {
-        return cleared;
+    if age(now, tick) < WINDOW {
+        return kept + 1;
     }
-    if age(tick, e.tick) >= WINDOW {
-        return cleared;
-    }
-    Sifted {
-        entry: e,
-        at: kept,
-        kept: kept + 1,
-    }
+    kept
 }
 
 // The number of a block's entries, one record further.
