@@ -17,18 +17,18 @@ use denote.Index.{elem-put, opens-slice, closes-slice}
 use denote.Struct.Laws as LL
 use denote.Triple.Walked.{stay-slice, goes-slice, stay-dropped, goes-dropped}
 use Rattle.readlog.proofs.Prelude.{_≡_, refl, sym, ap, subst, inl, inr, List, [], _∷_, WellFounded, InvImage·wf, ℕ, _+_, _*_, _-_}
-use Rattle.readlog.proofs.Prelude.{_≤_, _<_, _^_, eq-or-lt-of-le, arith, add-one-dec, lt-ltb, le-ltb, Nat·lt-wfRel, T, lit<, length}
-use Rattle.readlog.proofs.Prelude.{URA, fullShare, Ty, named, w64, tyInt, tyBool, tyPtr, Val, vint, vbool, vptr, SProp, ent, Lft, GName}
-use Rattle.readlog.proofs.Prelude.{Share, ftrue, fat, froom, fdies, flft, fobor, Memory, Routine, afterTurn, Heap, Out, Env, afterSeq}
-use Rattle.readlog.proofs.Prelude.{afterBlock, Calls, Loops, Wp, atReturn, WpFn, Tables, Atoms, WpFn-mono, Fun, givenOf, tables}
-use Rattle.readlog.proofs.Prelude.{tablesOf, Given, Item, ‵, runs, anyQ, atRet, _⊛_, ⋆, Sq, _$_, _∵_, !, qed, by, move, drop, split}
-use Rattle.readlog.proofs.Prelude.{join, rewrite, fsplit, fjoin, suffices, frame, done, whole, sub, look-in, look, store, init, forget}
-use Rattle.readlog.proofs.Prelude.{stop, hop, fld, from, load, lit, of-opd, bin, assigns, assigns-last, and-then, no-more, first, blocks}
-use Rattle.readlog.proofs.Prelude.{stays, leaves-loop, returns, enter, alloc1, alloc0, params1, pass1, pass0, free1, free0, exec, Below}
-use Rattle.readlog.proofs.Prelude.{again, loops, yes, owns, Is, shows, uint-vals, uint-tells, usize, RefT, now, sliceVal, Room}
-use Rattle.readlog.proofs.Prelude.{at-slice, slice-vals, codedHoleys, heres, place-is, row, elem-out, plain, owned, nothing, Vals}
-use Rattle.readlog.proofs.Prelude.{onEntry, Meets, tripleOf, entered, says, needs, Stays, walkOf, AllGo, Walks, ends-at, walked}
-use Rattle.readlog.proofs.Prelude.{walk-meets}
+use Rattle.readlog.proofs.Prelude.{_≤_, _<_, _^_, eq-or-lt-of-le, arith, add-one-dec, lt-ltb, le-ltb, Nat·lt-wfRel, T, lit<}
+use Rattle.readlog.proofs.Prelude.{length, URA, fullShare, Ty, named, w64, tyInt, tyBool, tyPtr, Val, vint, vbool, vptr, SProp}
+use Rattle.readlog.proofs.Prelude.{ent, Lft, GName, Share, ftrue, fat, froom, fdies, flft, fobor, Memory, Routine, afterTurn, Heap}
+use Rattle.readlog.proofs.Prelude.{Out, Env, afterSeq, afterBlock, Calls, Loops, Wp, atReturn, WpFn, Tables, Atoms, WpFn-mono, Fun}
+use Rattle.readlog.proofs.Prelude.{givenOf, tables, tablesOf, Given, Item, ‵, runs, anyQ, atRet, _⊛_, ⋆, Sq, _$_, _∵_, !, qed, by}
+use Rattle.readlog.proofs.Prelude.{move, drop, split, join, rewrite, fsplit, fjoin, suffices, frame, done, whole, sub, look-in}
+use Rattle.readlog.proofs.Prelude.{look, store, init, forget, stop, hop, fld, from, load, lit, of-opd, bin, assigns, assigns-last}
+use Rattle.readlog.proofs.Prelude.{and-then, no-more, first, blocks, stays, leaves-loop, returns, enter, alloc1, alloc0, params1}
+use Rattle.readlog.proofs.Prelude.{pass1, pass0, free1, free0, exec, Below, again, loops, yes, owns, Is, shows, uint-vals}
+use Rattle.readlog.proofs.Prelude.{uint-tells, usize, RefT, now, sliceVal, Room, at-slice, slice-vals, codedHoleys, heres}
+use Rattle.readlog.proofs.Prelude.{place-is, row, elem-out, plain, owned, nothing, Vals, onEntry, Meets, tripleOf, entered, says}
+use Rattle.readlog.proofs.Prelude.{needs, Stays, walkOf, AllGo, Walks, ends-at, walked, walk-meets}
 use Rattle.readlog.proofs.Entries.{entryRow, entry-vals, entry-tells, mutList, place-fits}
 use Rattle.readlog.proofs.ClearLaws.{cleared-none, cleared-next, cleared-length}
 use Rattle.model.specs.declared.Entry.{Entry}

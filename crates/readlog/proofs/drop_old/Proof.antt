@@ -17,14 +17,14 @@ use denote.Triple.Walked.{gave-slice, goes-gave-slice, stay-dropped, goes-droppe
 use Rattle.readlog.proofs.Prelude.{_≡_, refl, sym, _∙_, ap, subst, List, [], _∷_, ℕ, _≤_, _<_, _^_, T, length, URA, fullShare, Ty}
 use Rattle.readlog.proofs.Prelude.{named, w32, w64, tyInt, Val, vint, SProp, ent, id⊢, Lft, GName, Share, ftrue, fat, froom, fdies}
 use Rattle.readlog.proofs.Prelude.{flft, Memory, Routine, Heap, Env, WpFn, Tables, Atoms, sem, fmOf, WpFn-mono, Fun, fact, givenOf}
-use Rattle.readlog.proofs.Prelude.{tables, tablesOf, Given, ‵, raw, runs, atRet, _⊛_, some, later, ⋆, Sq, _$_, _∵_, !, qed, by, move}
-use Rattle.readlog.proofs.Prelude.{drop, use1, split, join, pick, rewrite, fsplit, fjoin, suffices, frame, await, done, whole, sub}
-use Rattle.readlog.proofs.Prelude.{look-in, look, init, forget, stop, hop, fld, from, load, of-opd, assigns, land, and-then, no-more}
-use Rattle.readlog.proofs.Prelude.{returns, enter, alloc1, alloc0, params1, pass1, pass0, free1, free0, yes, owns, Is, shows}
-use Rattle.readlog.proofs.Prelude.{uint-vals, uint-tells, uint-makes, uint-lawful, u32, usize, RefT, now, sliceVal, Room, slice-vals}
-use Rattle.readlog.proofs.Prelude.{plain, only, owned, facts, heard, nothing, Contract, Triple, calls-at, ensured, lasts, Vals, onEntry}
-use Rattle.readlog.proofs.Prelude.{Meets, tripleOf, entered, cited, says, needs, Stays, walkOf, AllGo, Walks, ends-at, walked}
-use Rattle.readlog.proofs.Prelude.{walk-meets}
+use Rattle.readlog.proofs.Prelude.{tables, tablesOf, Given, ‵, raw, runs, atRet, _⊛_, some, later, ⋆, Sq, _$_, _∵_, !, qed, by}
+use Rattle.readlog.proofs.Prelude.{move, drop, use1, split, join, pick, rewrite, fsplit, fjoin, suffices, frame, await, done}
+use Rattle.readlog.proofs.Prelude.{whole, sub, look-in, look, init, forget, stop, hop, fld, from, load, of-opd, assigns, land}
+use Rattle.readlog.proofs.Prelude.{and-then, no-more, returns, enter, alloc1, alloc0, params1, pass1, pass0, free1, free0, yes}
+use Rattle.readlog.proofs.Prelude.{owns, Is, shows, uint-vals, uint-tells, uint-makes, uint-lawful, u32, usize, RefT, now}
+use Rattle.readlog.proofs.Prelude.{sliceVal, Room, slice-vals, plain, only, owned, facts, heard, nothing, Contract, Triple}
+use Rattle.readlog.proofs.Prelude.{calls-at, ensured, lasts, Vals, onEntry, Meets, tripleOf, entered, cited, says, needs, Stays}
+use Rattle.readlog.proofs.Prelude.{walkOf, AllGo, Walks, ends-at, walked, walk-meets}
 use Rattle.readlog.proofs.Entries.{entryRow, mutList}
 use Rattle.readlog.proofs.Lent.{LentAgain, lends-again, comes-back}
 use Rattle.readlog.proofs.CompactLaws.{swept-most, cleared-compacted}
