@@ -1,6 +1,5 @@
 -- `reads::read` meets its contract: a walk of its MIR, by hand. The list is lent to `last_tick` as `&` and to `drop_old` as `&mut`, each for a lifetime of the call, and comes back; `append` is given it for good. What the six answers come to is in `Laws`.
 -- Assumes nothing.
-mod Lent
 use Rattle.readlog.proofs.Prelude.{_≡_, refl, sym, _∙_, ap, subst, List, [], _∷_, ℕ, _≤_, _<_, _^_, arith, T, length}
 use Rattle.readlog.proofs.Prelude.{URA, fullShare, Ty, named, w32, w64, tyInt, Val, vint, SProp, ent, emp, snd∗, exE, id⊢, Lft, GName}
 use Rattle.readlog.proofs.Prelude.{Share, ftrue, fat, froom, fdies, flft, Memory, Routine, Heap, Env, WpFn, Tables, Atoms, sem, fmOf}
@@ -14,6 +13,7 @@ use Rattle.readlog.proofs.Prelude.{ShrSlice, Room, slice-vals, shr-slice-tells,
 use Rattle.readlog.proofs.Prelude.{calls-at, ensured, lasts, Vals, onEntry, Meets, tripleOf, entered, cited, says, Stays, stay-none}
 use Rattle.readlog.proofs.Prelude.{stay-none-slice, walkOf, AllGo, goes-none, goes-none-slice, Walks, ends-at, walked, walk-meets}
 use Rattle.readlog.proofs.Entries.{entryRow}
+use Rattle.readlog.proofs.Lent.{LentShared, LentAgain, lends-shared, shared-back, lends-again, comes-back}
 use mathlib.Core.Path.{ap₂}
 use mir.Syntax.{imm, mut, erased, w8, tyUnit, tyRef}
 use mir.Val.{hasTy, WT}
@@ -69,7 +69,6 @@ use Rattle.window.proofs.read_answer.Symbol.{name as #window·read-answer}
 use Rattle.window.proofs.read_answer.Met as answer-thm
 use Rattle.reads.specs.Answers.{readsOutcome}
 use Rattle.reads.proofs.Laws.{standing-room, limit-room, count-limit, read-is}
-use Rattle.reads.proofs.read.Proof.Lent.{LentShared, LentAgain, lends-shared, shared-back, lends-again, comes-back}
 use Rattle.reads.proofs.read.Key.{name as #reads·read}
 use Rattle.reads.proofs.read as f
 use Rattle.reads.proofs.read.Statement as stated

@@ -1,4 +1,5 @@
--- A `&mut` slice that is lent for one call, as `&` or as `&mut`, and comes back to its holder: at the list that it had, or at the last one that the callee says.
+-- A `&mut` slice that is lent for one call, as `&` or as `&mut`, and comes back to its holder: at the list that it had, or at the last one
+-- that the callee says.
 -- Assumes nothing.
 use mathlib.Core.Path.{_≡_, refl, sym, ap, subst}
 use mathlib.Core.List.{List, [], _∷_}
