@@ -5,7 +5,7 @@ use Prim.Native.Nat.{ℕ, _+_, _<_}
 use lib.Dec.{ltb}
 use Rattle.model.specs.declared.Entry.{Entry}
 use Rattle.model.specs.Calls.{Answer, turnedBack, answered}
-use Rattle.model.specs.ReadLog.{entry, tickBound, age, window, inWindow, longestGap, readCall, popularityCall}
+use Rattle.model.specs.ReadLog.{entry, tickBound, age, window, inWindow, gapBound, readCall, popularityCall}
 
 -- A call on reads: the bytes that it gets for the plan, and a read of a block at a tick, or a block's popularity.
 pub data ReadRequest : Type 0 where
@@ -75,7 +75,7 @@ recent (e ∷ later) = let rest = recent later in cond (ltb (elapsed e later) wi
 -- Successive accepted reads are less than 2 to the power 31 apart.
 unfoldable pub CloseTo : Entry → List Entry → Type 0
 CloseTo e [] = Unit {0}
-CloseTo e (next ∷ later) = (age (next .tick) (e .tick) < longestGap) × CloseTo next later
+CloseTo e (next ∷ later) = (age (next .tick) (e .tick) < gapBound) × CloseTo next later
 
 unfoldable pub Successive : List Entry → Type 0
 Successive [] = Unit {0}

@@ -60,12 +60,12 @@ unfoldable pub check19 : ℕ → ℕ → ℕ → ℕ
 check19 block blocks = refuseIf (not (ltb block blocks)) 19
 
 -- 20: the last tick's age is 2 to the power 31 or more.
-abbrev pub longestGap : ℕ
-longestGap = 2147483648
+abbrev pub gapBound : ℕ
+gapBound = 2147483648
 
 unfoldable pub check20 : ℕ → Option ℕ → ℕ → ℕ
 check20 now none later = later
-check20 now (some last) later = refuseIf (not (ltb (age now last) longestGap)) 20 later
+check20 now (some last) later = refuseIf (not (ltb (age now last) gapBound)) 20 later
 
 -- 21: the list is full after the dropping.
 unfoldable pub check21 : ℕ → ℕ → ℕ → ℕ

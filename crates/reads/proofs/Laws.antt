@@ -2,11 +2,10 @@
 -- Assumes nothing.
 use mathlib.Core.Path.{_≡_, refl, sym, ap, ap₂, _∙_}
 use mathlib.Core.Bool.{Bool, true, false, cond, not}
-use mathlib.Core.Logic.{_⊎_, inl, inr}
-use mathlib.Core.Option.{Option, none, some}
+use mathlib.Core.Option.{none}
 use mathlib.Core.List.{List, [], _∷_, _++_, append-nil}
-use Prim.Native.Nat.{ℕ, zero, suc, _+_, _-_, _<_, _≤_, min, max}
-use native.Mathlib.Decide.{decLt, ℕ-discrete}
+use Prim.Native.Nat.{ℕ, zero, suc, _+_, _-_, _<_, _≤_, max}
+use native.Mathlib.Decide.{decLt}
 use native.Mathlib.Omega.{arith}
 use borrow.Author.Tests.{lt-ltb, le-ltb, eqb-true, ne-eqb}
 use lib.Dec.{ltb, eqb}
@@ -16,9 +15,9 @@ use Rattle.order.specs.Select.{select}
 use Rattle.order.proofs.Selects.{select-all}
 use Rattle.model.specs.declared.Entry.{Entry}
 use Rattle.model.specs.Plan.{Plan, blockCount, isPaired, partner}
-use Rattle.model.specs.Refusal.{refuseIf, orElse, Verdict, refused, accepted, judge}
+use Rattle.model.specs.Refusal.{refuseIf, Verdict, refused, accepted, judge}
 use Rattle.model.specs.Calls.{OutcomeOver, answered, refuse, unless, onPlan}
-use Rattle.model.specs.ReadLog.{entry, noEntry, tickBound, inWindow, age, usable, standing, entriesIn, current, lastTick, longestGap, check19, check20, check21, readRefusal, noted, relisted, readCall, readsOf, popularityOf, popularityCall}
+use Rattle.model.specs.ReadLog.{entry, noEntry, tickBound, inWindow, age, usable, standing, entriesIn, current, lastTick, gapBound, check19, check20, check21, readRefusal, noted, relisted, readCall, readsOf, popularityOf, popularityCall}
 use Rattle.theory.proofs.Refusal.{judge-some}
 use Rattle.theory.proofs.ReadLog.{age-self}
 use Rattle.cluster.specs.Blocks.{mate}
@@ -78,7 +77,7 @@ module _ (verdict : Verdict) (block lent count : ℕ) where
 
 -- the last tick, or none, is judged as the tick found, or the read's own
 last-judged : (list : List Entry) (count tick later : ℕ) → count ≤ length list → tick < tickBound
-    → check20 tick (lastTick (take count list)) later ≡ refuseIf (not (ltb (age tick (lastOr list count tick)) longestGap)) 20 later
+    → check20 tick (lastTick (take count list)) later ≡ refuseIf (not (ltb (age tick (lastOr list count tick)) gapBound)) 20 later
 unfolding lastTick check20 lastOr
 last-judged list zero tick later room fits = rw (age-self tick fits) refl
 last-judged [] (suc n) tick later room fits = absurd (omega arith)
@@ -183,13 +182,13 @@ module _ (block tick count : ℕ) (list list' : List Entry) (kept : ℕ) where
             (judged-as (accepted p) last 19 (rw (le-ltb block (blockCount p) (omega arith))) done)
         | yes in-plan ↦
             rw (lt-ltb block (blockCount p) in-plan, last-judged list held tick _ (omega arith) fits)
-            (elim (decLt (age tick last) longestGap) [
+            (elim (decLt (age tick last) gapBound) [
               | no late ↦
-                  rw (le-ltb (age tick last) longestGap (omega arith))
-                  (judged-as (accepted p) last 20 (rw (lt-ltb block (blockCount p) in-plan, le-ltb (age tick last) longestGap (omega arith))) done)
+                  rw (le-ltb (age tick last) gapBound (omega arith))
+                  (judged-as (accepted p) last 20 (rw (lt-ltb block (blockCount p) in-plan, le-ltb (age tick last) gapBound (omega arith))) done)
               | yes soon ↦
-                  rw (lt-ltb (age tick last) longestGap soon)
-                  (judged-as (accepted p) last 0 (rw (lt-ltb block (blockCount p) in-plan, lt-ltb (age tick last) longestGap soon)) done)
+                  rw (lt-ltb (age tick last) gapBound soon)
+                  (judged-as (accepted p) last 0 (rw (lt-ltb block (blockCount p) in-plan, lt-ltb (age tick last) gapBound soon)) done)
             ])
       ]
 

@@ -5,7 +5,7 @@
 -- Assumes nothing.
 use mathlib.Core.Path.{_≡_, refl, sym, ap, _∙_, subst}
 use mathlib.Core.Bool.{Bool, true, false, cond, _&&_}
-use mathlib.Core.Logic.{_⊎_, inl, inr, ⊎-elim}
+use mathlib.Core.Logic.{_⊎_, ⊎-elim}
 use mathlib.Core.Option.{some, Option·none-ne-some}
 use mathlib.Core.List.{List, [], _∷_, _++_, append-assoc, append-nil}
 use Prim.Native.Nat.{ℕ, _+_, _<_, _≤_, min}
@@ -13,17 +13,17 @@ use native.Mathlib.Decide.{decLt}
 use native.Mathlib.Omega.{arith}
 use borrow.Author.Tests.{lt-ltb, le-ltb}
 use lib.Dec.{ltb}
-use lib.ListN.{length, getD, take, drop, length-append}
+use lib.ListN.{length, take, drop, length-append}
 use Rattle.order.specs.Select.{select}
 use Rattle.model.specs.declared.Entry.{Entry}
 use Rattle.model.specs.Plan.{Plan, blockCount}
 use Rattle.model.specs.Refusal.{judge, accepted}
-use Rattle.model.specs.Calls.{OutcomeOver, answered, refuse}
-use Rattle.model.specs.ReadLog.{entry, noEntry, tickBound, age, window, inWindow, usable, entriesIn, current, lastTick, longestGap, check19, readRefusal, noted, relisted, readCall, popularityOf, popularityCall}
+use Rattle.model.specs.Calls.{OutcomeOver, answered}
+use Rattle.model.specs.ReadLog.{entry, tickBound, age, window, inWindow, usable, entriesIn, current, lastTick, gapBound, check19, readRefusal, noted, relisted, readCall, popularityOf, popularityCall}
 use Rattle.model.specs.Histories.{ReadRequest, noteRead, askPopularity, ReadsCall, Log, countAfter, logged, playReads, ifAnswered, accepts, acceptedReads, inWindowSince, stillCounted, elapsed, recent, CloseTo, Successive, Ticks, AllTicks, emptyLog}
-use Rattle.theorems.specs.Histories.{Counted, ReadsClaim}
+use Rattle.theorems.specs.Histories.{ReadsClaim}
 use Rattle.theory.proofs.Calls.{onPlan-made, onPlan-cases}
-use Rattle.theory.proofs.ReadLog.{age-self, age-adds, age-bound, readRefusal-zero, ReadPassed, relisted-length, relisted-beyond, relisted-entries}
+use Rattle.theory.proofs.ReadLog.{age-self, age-adds, readRefusal-zero, ReadPassed, relisted-length, relisted-beyond, relisted-entries}
 
 -- ── The reads still counted ────────────────────────────────────────────────────────────────────────────────────────────
 
@@ -74,14 +74,14 @@ counted-last (e ∷ r ∷ later) = go (inWindowSince e (r ∷ later)) (stillCoun
 -- ── Successive reads ───────────────────────────────────────────────────────────────────────────────────────────────────
 
 close-more : (e : Entry) (later : List Entry) (next : Entry) → CloseTo e later
-    → ((last : ℕ) → lastTick (e ∷ later) ≡ some last → age (next .tick) last < longestGap)
+    → ((last : ℕ) → lastTick (e ∷ later) ≡ some last → age (next .tick) last < gapBound)
     → CloseTo e (later ++ (next ∷ []))
 unfolding CloseTo lastTick
 close-more e [] next close gap = (gap (e .tick) refl, tt)
 close-more e (r ∷ later) next close gap = (close .0, close-more r later next (close .1) gap)
 
 successive-more : (reads : List Entry) (next : Entry) → Successive reads
-    → ((last : ℕ) → lastTick reads ≡ some last → age (next .tick) last < longestGap)
+    → ((last : ℕ) → lastTick reads ≡ some last → age (next .tick) last < gapBound)
     → Successive (reads ++ (next ∷ []))
 unfolding Successive CloseTo
 successive-more [] next close gap = tt
@@ -106,7 +106,7 @@ since-time : (e r : Entry) (later : List Entry) → e .tick < tickBound → r .t
 unfolding inWindowSince elapsed Ticked CloseTo inWindow
 since-time e r [] fits-e fits-r all stands close = sym (lt-ltb (age (r .tick) (e .tick) + 0) window (omega arith))
 since-time e r (next ∷ later) fits-e fits-r all stands close =
-    let gap : age (next .tick) (r .tick) < longestGap = close .0 in
+    let gap : age (next .tick) (r .tick) < gapBound = close .0 in
     let adds : age (next .tick) (e .tick) ≡ age (r .tick) (e .tick) + age (next .tick) (r .tick)
     = age-adds (e .tick) (r .tick) (next .tick) fits-e fits-r (all .0) (omega arith) in
     elim (decLt (age (next .tick) (e .tick)) window) [

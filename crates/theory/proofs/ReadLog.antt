@@ -13,8 +13,7 @@ use lib.Seq.{take-at, drop-at}
 use Rattle.order.proofs.Booleans.{no-contradiction}
 use Rattle.model.specs.declared.Entry.{Entry}
 use Rattle.model.specs.Plan.{Plan, blockCount}
-use Rattle.model.specs.Refusal.{refuseIf}
-use Rattle.model.specs.ReadLog.{noEntry, tickBound, age, usable, entriesIn, current, lastTick, longestGap, check19, check20, check21, readRefusal, relisted}
+use Rattle.model.specs.ReadLog.{noEntry, tickBound, age, usable, entriesIn, current, lastTick, gapBound, check19, check20, check21, readRefusal, relisted}
 use Rattle.theory.proofs.Refusal.{refuseIf-zero, refuseIf-all}
 
 -- ── age ────────────────────────────────────────────────────────────────────────────────────────────────────────────────
@@ -51,7 +50,7 @@ check19-le block blocks later = refuseIf-all (λ n. n ≤ 21) (not (ltb block bl
 check20-le : (tick : ℕ) (last : Option ℕ) (later : ℕ) → later ≤ 21 → check20 tick last later ≤ 21
 unfolding check20
 check20-le tick none later l = l
-check20-le tick (some last) later l = refuseIf-all (λ n. n ≤ 21) (not (ltb (age tick last) longestGap)) 20 later (lit≤ tt) l
+check20-le tick (some last) later l = refuseIf-all (λ n. n ≤ 21) (not (ltb (age tick last) gapBound)) 20 later (lit≤ tt) l
 
 pub readRefusal-le : (block tick : ℕ) (list : List Entry) (count : ℕ) (p : Plan) → readRefusal block tick list count p ≤ 21
 unfolding readRefusal check21
@@ -63,7 +62,7 @@ readRefusal-le block tick list count p =
 -- What an accepted read has passed: checks 19, 20 and 21.
 pub record ReadPassed (block tick : ℕ) (list : List Entry) (count : ℕ) (p : Plan) : Type 0 where
   pub below : block < blockCount p
-  pub close : (last : ℕ) → lastTick (entriesIn list count) ≡ some last → age tick last < longestGap
+  pub close : (last : ℕ) → lastTick (entriesIn list count) ≡ some last → age tick last < gapBound
   pub room : length (current tick (entriesIn list count)) < usable (length list)
 
 not-less : (a b : ℕ) → not (ltb a b) ≡ false → a < b
@@ -74,12 +73,12 @@ not-less a b e = go (ltb a b) refl e
     go false is e = absurd (no-contradiction e)
 
 check20-zero : (tick : ℕ) (last : Option ℕ) (later : ℕ) → check20 tick last later ≡ 0
-    → ((t : ℕ) → last ≡ some t → age tick t < longestGap) × (later ≡ 0)
+    → ((t : ℕ) → last ≡ some t → age tick t < gapBound) × (later ≡ 0)
 unfolding check20
 check20-zero tick none later e = (λ t is. absurd (Option·none-ne-some t is), e)
 check20-zero tick (some last) later e =
-    let z = refuseIf-zero (not (ltb (age tick last) longestGap)) 19 later e in
-    (λ t is. subst (λ (n : ℕ). age tick n < longestGap) (Option·some-injective last t is) (not-less (age tick last) longestGap (z .0)), z .1)
+    let z = refuseIf-zero (not (ltb (age tick last) gapBound)) 19 later e in
+    (λ t is. subst (λ (n : ℕ). age tick n < gapBound) (Option·some-injective last t is) (not-less (age tick last) gapBound (z .0)), z .1)
 
 pub readRefusal-zero : (block tick : ℕ) (list : List Entry) (count : ℕ) (p : Plan) → readRefusal block tick list count p ≡ 0
     → ReadPassed block tick list count p

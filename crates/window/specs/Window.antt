@@ -3,13 +3,13 @@ use mathlib.Core.Bool.{cond, not}
 use Prim.Native.Nat.{ℕ, zero, suc, _+_, max}
 use lib.Dec.{ltb, eqb}
 use Rattle.model.specs.Refusal.{refuseIf, orElse}
-use Rattle.model.specs.ReadLog.{age, window, longestGap}
+use Rattle.model.specs.ReadLog.{age, window, gapBound}
 use Rattle.window.specs.declared.ReadsAnswer.{ReadsAnswer}
 use Rattle.window.specs.declared.ReadsAnswer.the-variants.{Refused, Number}
 
 -- The code so far, else 20 where the last tick's age is 2 to the power 31 or more.
 unfoldable pub gapCode : ℕ → ℕ → ℕ → ℕ
-gapCode code tick last = orElse code (refuseIf (not (ltb (age tick last) longestGap)) 20 0)
+gapCode code tick last = orElse code (refuseIf (not (ltb (age tick last) gapBound)) 20 0)
 
 -- So many where the code is 0, else none.
 unfoldable pub unrefused : ℕ → ℕ → ℕ

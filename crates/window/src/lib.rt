@@ -11,7 +11,7 @@ const MAX_ENTRIES: usize = 4096;
 const WINDOW: u32 = 7200000;
 
 // The last tick's age from which a read is refused 20.
-const LONGEST_GAP: u32 = 2147483648;
+const GAP_BOUND: u32 = 2147483648;
 
 // What both calls answer: refused with its number, or a number of entries.
 pub enum ReadsAnswer {
@@ -54,7 +54,7 @@ pub fn gap_refusal(code: u8, tick: u32, last: u32) -> u8
     if code != 0 {
         return code;
     }
-    if age(tick, last) < LONGEST_GAP {
+    if age(tick, last) < GAP_BOUND {
         return 0;
     }
     20

@@ -1,6 +1,5 @@
 -- `lookup::seek_in` meets its contract.
 -- Assumes nothing.
-use mathlib.Core.Path.{sym}
 use borrow.Author.Needs.{needs}
 use borrow.Author.Tests.{lt-ltb, le-ltb}
 use Rattle.plan.proofs.Laws.{planOf-blocks}
