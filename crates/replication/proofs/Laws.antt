@@ -1,39 +1,43 @@
 -- Laws of the choice of counts that several of its functions cite.
 -- Assumes nothing.
-use mathlib.Core.Path.{_≡_, refl, sym}
-use mathlib.Core.Bool.{Bool, true}
-use mathlib.Core.List.{List, [], _∷_}
-use Prim.Native.Nat.{ℕ, suc, _/_, _<_, _≤_}
-use native.Mathlib.Nat.{le-trans, le-of-eq}
-use borrow.Author.Tests.{eqb-true}
-use lib.Dec.{eqb}
+use mathlib.Core.Path.{_≡_, sym}
+use mathlib.Core.Bool.{true}
+use mathlib.Core.List.{List}
+use Prim.Native.Nat.{ℕ, _*_, _<_, _≤_, _∣_}
+use native.Mathlib.Nat.{le-trans, le-of-eq, le-of-lt}
+use native.Mathlib.Omega.{arith}
 use lib.ListN.{getD}
-use Rattle.order.specs.Search.{allb}
-use Rattle.order.proofs.Extremes.{allb-at}
-use Rattle.model.specs.Plan.{Plan, maxReplicas, upper}
+use Rattle.model.specs.Plan.{Plan, upper}
 use Rattle.model.specs.Replication.{limit as limitOf, unit, share, largestShare, need, reachable}
-use Rattle.theory.proofs.Replication.{need-is, reachable-parts, largestShare-term}
+use Rattle.theory.specs.Widths.{popularityBound}
+use Rattle.theory.proofs.Replication.{unit-divides, share-exact, need-is, reachable-parts, largestShare-term}
 use Rattle.cluster.specs.declared.Cluster.{Cluster}
-use Rattle.cluster.specs.Blocks.{popularityIn, mostIn, DemandsOf}
+use Rattle.cluster.specs.Blocks.{popularityIn, mostIn, DemandInRange, DemandsOf}
 use Rattle.cluster.proofs.Laws.{cluster-blocks, cluster-block, demands-popularity, demands-least, demands-most}
+use Rattle.replication.specs.declared.Fraction.{Fraction}
 use Rattle.replication.specs.declared.Tally.{Tally}
-use Rattle.replication.specs.Choice.{NeedOf, TallyOf}
+use Rattle.replication.specs.Choice.{FractionFits, NeedOf, TallyOf}
 
--- ── the table of quotients ───────────────────────────────────────────────────────────────────────
-pub quotients : List ℕ
-quotients = 840 ∷ 420 ∷ 280 ∷ 210 ∷ 168 ∷ 140 ∷ 120 ∷ 105 ∷ []
+-- ── FractionFits ─────────────────────────────────────────────────────────────────────────────────
+pub fraction-divides : (f : Fraction) → FractionFits f → f .count ∣ unit
+fraction-divides f fits = unit-divides (f .count) (fits .count-pos) (fits .count-max)
 
--- its rule, by one test that computes over all of it
-right : ℕ → Bool
-right k = eqb (getD quotients k 0) (unit / suc k)
+-- a block's popularity, with a count from 1 to its upper one
+pub fraction-of : (demand popularity count : ℕ) → DemandInRange demand → popularity ≡ popularityIn demand → 1 ≤ count → count ≤ mostIn demand
+    → FractionFits record { popularity = popularity; count = count }
+fraction-of demand popularity count d is pos max =
+    record {
+      popularity-max = rw is (le-of-lt (d .popularity-narrow));
+      count-pos = pos;
+      count-max = le-trans max (d .most-max);
+    }
 
-all-right : allb maxReplicas right ≡ true
-unfolding allb right quotients
-all-right = refl
+-- a single copy, whose share is the whole popularity
+pub fraction-one : (P : ℕ) → P ≤ popularityBound → FractionFits record { popularity = P; count = 1 }
+fraction-one P l = record { popularity-max = l; count-pos = omega arith; count-max = omega arith }
 
-pub quotients-are : (k : ℕ) → k < maxReplicas → getD (840 ∷ 420 ∷ 280 ∷ 210 ∷ 168 ∷ 140 ∷ 120 ∷ 105 ∷ []) k 0 ≡ unit / suc k
-unfolding right quotients
-quotients-are k l = eqb-true _ _ (allb-at maxReplicas right all-right k l)
+pub share-one : (P : ℕ) → share P 1 ≡ P * unit
+share-one P = let whole = share-exact P 1 (unit-divides 1 (omega arith) (omega arith)) in omega arith
 
 -- ── demands of a plan ────────────────────────────────────────────────────────────────────────────
 module _ (p : Plan) (c : Cluster) (demands : List ℕ) (of : DemandsOf p c demands) where

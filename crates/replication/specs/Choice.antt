@@ -13,24 +13,28 @@ use Rattle.theory.specs.Refusal.{Valid}
 use Rattle.theory.specs.Widths.{popularityBound, shareBound}
 use Rattle.cluster.specs.declared.Cluster.{Cluster}
 use Rattle.cluster.specs.Blocks.{popularityIn, leastIn, mostIn, DemandInRange, DemandsFit, DemandsOf, profileOf, ProfilesFit}
+use Rattle.replication.specs.declared.Fraction.{Fraction}
 use Rattle.replication.specs.declared.Extent.{Extent}
 use Rattle.replication.specs.declared.Bracket.{Bracket}
 use Rattle.replication.specs.declared.Tally.{Tally}
 
--- The unit's quotients, and a popularity and a count in their ranges.
-pub record ShareAsked (quotients : List ℕ) (popularity count : ℕ) : Type 0 where
-  pub quotients-are : (k : ℕ) → k < maxReplicas → getD quotients k 0 ≡ unit / suc k
-  pub popularity-narrow : popularity < popularityBound
-  pub count-pos : 1 ≤ count
-  pub count-max : count ≤ maxReplicas
+-- A popularity, or the least number that is none, and a count in its range; and the share that they stand for.
+pub record FractionFits (f : Fraction) : Type 0 where
+  pub popularity-max : f .popularity ≤ popularityBound
+  pub count-pos : 1 ≤ f .count
+  pub count-max : f .count ≤ maxReplicas
+
+abbrev pub shareAt : Fraction → ℕ
+shareAt f = share (f .popularity) (f .count)
 
 -- Estimates are reckoned in parts of a copy.
 abbrev pub parts : ℕ
 parts = 2 ^ 48
 
--- A popularity times the scale is at most the copies, in parts, that keep its share within the figure.
+-- A popularity times the scale is at most the copies, in parts, that keep its share within the figure; the next scale is too large.
 pub record ScaleOf (wanted scale : ℕ) : Type 0 where
   pub scale-max : scale * suc wanted ≤ unit * parts
+  pub scale-least : unit * parts < suc scale * suc wanted
 
 -- One block's demand, and a figure within which it can have its share.
 pub record NeedAsked (demand wanted scale : ℕ) : Type 0 where

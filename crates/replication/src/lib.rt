@@ -2,27 +2,32 @@
 use cluster::Cluster;
 ghost use mathlib.Core.Path.{_≡_};
 ghost use Prim.Native.Nat.{_<_, _≤_, min, max};
+ghost use lib.Dec.{ltb};
 ghost use Rattle.model.specs.Plan.{Plan};
-ghost use Rattle.model.specs.Replication.{share, figure};
+ghost use Rattle.model.specs.Replication.{figure};
 ghost use Rattle.theory.specs.Widths.{shareBound};
 ghost use Rattle.cluster.specs.Blocks.{DemandsFit, DemandsOf};
-ghost use Rattle.replication.specs.Choice.{ShareAsked, ScaleOf, NeedAsked, NeedOf, FigureAsked, TallyFits, TallyOf, ExtentFits, ExtentOf, BracketAsked, BracketFits, NarrowAsked, NarrowedTo, LimitedDemands, ChooseAsked, ChosenProfiles, ChosenAs};
+ghost use Rattle.replication.specs.Choice.{FractionFits, shareAt, ScaleOf, NeedAsked, NeedOf, FigureAsked, TallyFits, TallyOf, ExtentFits, ExtentOf, BracketAsked, BracketFits, NarrowAsked, NarrowedTo, LimitedDemands, ChooseAsked, ChosenProfiles, ChosenAs};
 
-// The units in a read, and its quotients by 1 to 8. A constant table is made anew where it is named, so a loop has a copy made before it.
+// The units in a read.
 const UNIT: u64 = 840;
-
-const QUOTIENTS: [u64; 8] = [840, 420, 280, 210, 168, 140, 120, 105];
 
 // Estimates are reckoned in parts of a copy, 2^48 to one copy: these, and the units in a read times these.
 const PARTS: u64 = 281474976710656;
 
-const UNIT_PARTS: u64 = 236438980436951040;
+const UNIT_PARTS: u64 = UNIT * PARTS;
 
-// No share is as large.
-const NO_SHARE: u64 = 18446744073709551615;
+// No popularity is as large.
+const POPULARITY_BOUND: u64 = 16777216;
 
 // The most copies over the limit that a probe reckons with.
 const MOST_OVER: u64 = 65536;
+
+// A share before it is divided: a block's popularity, and its count of copies.
+struct Fraction {
+    popularity: u64,
+    count: usize,
+}
 
 // The needs at a figure: their sum, their largest share, and the smallest share of a block with one copy less than its need.
 struct Tally {
@@ -67,12 +72,41 @@ fn larger(a: u64, b: u64) -> u64
     a
 }
 
-// The share of a copy of a block that has `count` of them, in units.
-fn share_at(quotients: &[u64; 8], popularity: u64, count: usize) -> u64
-    requires { ⌜ ShareAsked (now quotients) popularity count ⌝ }
-    ensures { λ r. ⌜ (r ≡ share popularity count) × (r < shareBound) ⌝ }
+// The share in units: the popularity times the unit's quotient by the count.
+fn share_at(at: Fraction) -> u64
+    requires { ⌜ FractionFits at ⌝ }
+    ensures { λ r. ⌜ r ≡ shareAt at ⌝ }
 {
-    popularity * quotients[count - 1]
+    at.popularity * (UNIT / at.count as u64)
+}
+
+// Shares are compared without a division: by the popularities, each times the other's count.
+fn is_less(a: Fraction, b: Fraction) -> bool
+    requires { ⌜ FractionFits a × FractionFits b ⌝ }
+    ensures { λ r. ⌜ r ≡ ltb (shareAt a) (shareAt b) ⌝ }
+{
+    a.popularity * (b.count as u64) < b.popularity * (a.count as u64)
+}
+
+// The smaller and the larger of two shares; the first one where they are equal.
+fn smaller_share(a: Fraction, b: Fraction) -> Fraction
+    requires { ⌜ FractionFits a × FractionFits b ⌝ }
+    ensures { λ r. ⌜ FractionFits r × (shareAt r ≡ min (shareAt a) (shareAt b)) ⌝ }
+{
+    if is_less(b, a) {
+        return b;
+    }
+    a
+}
+
+fn larger_share(a: Fraction, b: Fraction) -> Fraction
+    requires { ⌜ FractionFits a × FractionFits b ⌝ }
+    ensures { λ r. ⌜ FractionFits r × (shareAt r ≡ max (shareAt a) (shareAt b)) ⌝ }
+{
+    if is_less(a, b) {
+        return b;
+    }
+    a
 }
 
 // What a popularity is multiplied by to estimate the copies, in parts, that keep its share within the figure; rounded down.
@@ -84,17 +118,16 @@ fn scale_of(figure: u64) -> u64
 }
 
 // The least count from the least copies on whose share is within the figure: the popularity in units is at most figure × count. The
-// estimate is never too large, and hardly ever too small.
+// estimate is never too large, and at most one too small.
 fn needed(demand: u64, figure: u64, scale: u64) -> usize
     requires { ⌜ NeedAsked demand figure scale ⌝ }
     ensures { λ r. ⌜ NeedOf demand figure r ⌝ }
 {
     let popularity = cluster::popularity_of(demand);
-    let reads = popularity * UNIT;
     let estimate = (popularity * scale + (PARTS - 1)) / PARTS;
-    let mut k = larger(cluster::least_of(demand) as u64, estimate);
-    while figure * k < reads {
-        k += 1;
+    let k = larger(cluster::least_of(demand) as u64, estimate);
+    if figure * k < popularity * UNIT {
+        return k as usize + 1;
     }
     k as usize
 }
@@ -104,24 +137,34 @@ fn tally_of(demands: &[u64], cluster: Cluster, wanted: u64) -> Tally
     requires { ⌜ FigureAsked cluster (now demands) wanted ⌝ }
     ensures { λ r. ⌜ TallyFits cluster wanted r × ((p : Plan) → DemandsOf p cluster (now (demands .entry)) → TallyOf p wanted r) ⌝ }
 {
-    let quotients = QUOTIENTS;
     let scale = scale_of(wanted);
     let mut total: usize = 0;
-    let mut top: u64 = 0;
-    let mut next = NO_SHARE;
+    let mut top = Fraction {
+        popularity: 0,
+        count: 1,
+    };
+    let mut next = Fraction {
+        popularity: POPULARITY_BOUND,
+        count: 1,
+    };
     let mut i: usize = 0;
     while i < cluster.blocks {
         let demand = demands[i];
         let popularity = cluster::popularity_of(demand);
         let count = needed(demand, wanted, scale);
         total += count;
-        top = larger(top, share_at(&quotients, popularity, count));
+        top = larger_share(top, Fraction { popularity, count });
         if count > cluster::least_of(demand) {
-            next = smaller(next, share_at(&quotients, popularity, count - 1));
+            let count = count - 1;
+            next = smaller_share(next, Fraction { popularity, count });
         }
         i += 1;
     }
-    Tally { total, top, next }
+    Tally {
+        total,
+        top: share_at(top),
+        next: share_at(next),
+    }
 }
 
 // What the bisection starts from.
@@ -129,28 +172,28 @@ fn extent_of(demands: &[u64], cluster: Cluster) -> Extent
     requires { ⌜ DemandsFit cluster (now demands) ⌝ }
     ensures { λ r. ⌜ ExtentFits cluster r × ((p : Plan) → DemandsOf p cluster (now (demands .entry)) → ExtentOf p r) ⌝ }
 {
-    let quotients = QUOTIENTS;
-    let mut low: u64 = 0;
-    let mut high: u64 = 0;
+    let mut low = Fraction {
+        popularity: 0,
+        count: 1,
+    };
+    let mut high = low;
     let mut total: u64 = 0;
     let mut copies: usize = 0;
     let mut i: usize = 0;
     while i < cluster.blocks {
         let demand = demands[i];
         let popularity = cluster::popularity_of(demand);
-        let least = cluster::least_of(demand);
-        low = larger(
-            low,
-            share_at(&quotients, popularity, cluster::most_of(demand)),
-        );
-        high = larger(high, share_at(&quotients, popularity, least));
+        let count = cluster::most_of(demand);
+        low = larger_share(low, Fraction { popularity, count });
+        let count = cluster::least_of(demand);
+        high = larger_share(high, Fraction { popularity, count });
         total += popularity;
-        copies += least;
+        copies += count;
         i += 1;
     }
     Extent {
-        low,
-        high,
+        low: share_at(low),
+        high: share_at(high),
         popularity: total,
         copies,
     }
@@ -250,13 +293,13 @@ fn fill(items: &mut [u64], cluster: Cluster, wanted: u64)
     ensures { λ r. ⌜ ((p : Plan) → DemandsOf p cluster (now (items .entry)) → wanted ≡ figure p
         → ChosenProfiles p cluster (now (items .entry)) (now (items .exit))) ⌝ }
 {
-    let quotients = QUOTIENTS;
     let scale = scale_of(wanted);
     let mut i: usize = 0;
     while i < cluster.blocks {
         let demand = items[i];
+        let popularity = cluster::popularity_of(demand);
         let count = needed(demand, wanted, scale);
-        let share = share_at(&quotients, cluster::popularity_of(demand), count);
+        let share = share_at(Fraction { popularity, count });
         let spread = cluster::spread_asked(demand);
         items[i] = cluster::profile(share, count, spread, cluster::link_of(demand));
         i += 1;

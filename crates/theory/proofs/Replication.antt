@@ -3,15 +3,16 @@
 -- Assumes nothing.
 use mathlib.Core.Path.{_≡_, refl, ap, sym, _∙_}
 use mathlib.Core.Logic.{_↔_, inl, inr}
-use mathlib.Core.Bool.{Bool, true, false, _||_}
-use Prim.Native.Nat.{ℕ, suc, _+_, _*_, _-_, _/_, _≤_, _<_}
-use native.Mathlib.Nat.{mul-comm, mul-assoc, zero-div, le-of-mul-le-mul-right, mul-le-mul-left, mul-le-mul-right, div-le-self, div-eq-of-eq-mul-left, le-add-right, le-of-eq, le-min, min-le-right, mul-le-mul, le-antisymm, le-trans, le-refl, eq-or-lt-of-le}
+use mathlib.Core.Bool.{Bool, true, false}
+use Prim.Native.Nat.{ℕ, suc, _+_, _*_, _-_, _/_, _%_, _≤_, _<_, _∣_}
+use native.Mathlib.Nat.{mul-comm, zero-div, le-of-mul-le-mul-right, mul-le-mul-left, mul-le-mul-right, div-le-self, dvd-of-mod-eq-zero, dvd-mul-left-of-dvd, pos-of-dvd-of-pos, div-mul-cancel, mul-div-assoc, le-add-right, le-of-eq, le-min, min-le-right, mul-le-mul, le-antisymm, le-trans, le-refl, eq-or-lt-of-le}
 use native.Mathlib.Decide.{decLt, decLe}
 use native.Mathlib.Omega.{arith}
-use borrow.Author.Tests.{eqb-true, ne-eqb, leb-true, le-leb}
+use borrow.Author.Tests.{eqb-true, leb-true, le-leb}
 use lib.Dec.{eqb, leb}
 use Rattle.order.specs.Sum.{sum}
 use Rattle.order.specs.Search.{allb}
+use Rattle.order.proofs.Arithmetic.{div-antitone}
 use Rattle.order.proofs.Booleans.{no-contradiction, not-so, and-iff, leb-iff}
 use Rattle.order.proofs.Sums.{sum-cong, sum-mono, sum-mul, sum-same}
 use Rattle.order.proofs.Extremes.{least-le, least-passes, least-first, allb-at, allb-iff, largest-term, largest-le}
@@ -20,7 +21,7 @@ use Rattle.model.specs.Refusal.{maxMachines, maxCapacity}
 use Rattle.model.specs.Replication.{limit, FeasibleCounts, unit, share, largestShare, need, reachable, figure, chosen}
 use Rattle.theory.specs.Widths.{popularityBound, shareBound}
 use Rattle.theory.specs.Refusal.{ValidBlock, Shaped, Valid}
-use Rattle.theory.specs.Replication.{ShareLaws, EvenPairs, ChosenLaws, ChosenUnique}
+use Rattle.theory.specs.Replication.{UnitDivides, ShareLaws, EvenPairs, ChosenLaws, ChosenUnique}
 use Rattle.theory.proofs.Plan.{partner-paired, partner-popularity, partner-minReplicas, upper-max, upper-same}
 
 -- ── limit ────────────────────────────────────────────────────────────────────────────────────────
@@ -56,39 +57,57 @@ feasibleCounts-least p v =
     }
 
 -- ── share ────────────────────────────────────────────────────────────────────────────────────────
--- whether a count divides the unit
-divides : ℕ → Bool
-divides k = eqb k 0 || eqb (unit / k * k) unit
+-- whether all numbers from 1 on divide the units
+allDivide : ℕ → ℕ → Bool
+allDivide most units = allb most (λ j. eqb (units % suc j) 0)
 
--- every count from 1 to 8 divides the unit
-unit-exact : (k : ℕ) → 1 ≤ k → k ≤ maxReplicas → unit / k * k ≡ unit
-unfolding divides allb
-unit-exact k pos max =
-    let every : allb (suc maxReplicas) divides ≡ true = refl in
-    let here = allb-at (suc maxReplicas) divides every k (omega arith) in
-    let other = ne-eqb k 0 (λ e. omega arith) in
-    eqb-true _ _ (rw other at here)
+allDivide-at : (most units : ℕ) → allDivide most units ≡ true → (k : ℕ) → 1 ≤ k → k ≤ most → k ∣ units
+unfolding allDivide
+allDivide-at most units every k pos max =
+    let back : suc (k - 1) ≡ k = omega arith in
+    rw back at (dvd-of-mod-eq-zero (suc (k - 1)) (eqb-true _ _ (allb-at most _ every (k - 1) (omega arith))))
 
--- the popularity's share in whole units
-whole : (P k : ℕ) → 1 ≤ k → k ≤ maxReplicas → P * unit ≡ P * (unit / k) * k
-whole P k pos max = ap (λ (x : ℕ). P * x) (sym (unit-exact k pos max)) ∙ sym (mul-assoc P (unit / k) k)
+-- those up to the most copies do, by computing the test
+pub unit-divides : UnitDivides
+unfolding allDivide allb
+unit-divides = allDivide-at _ _ refl
 
--- a share is the popularity times the unit's quotient by the count
-pub share-quotient : (P k : ℕ) → 1 ≤ k → k ≤ maxReplicas → P * (unit / k) ≡ share P k
+-- at a count that divides the unit a share is whole,
+pub share-exact : (P k : ℕ) → k ∣ unit → share P k * k ≡ P * unit
 unfolding share
-share-quotient P k pos max = sym (div-eq-of-eq-mul-left pos (whole P k pos max))
+share-exact P k d = div-mul-cancel k (dvd-mul-left-of-dvd k d P)
 
-pub share-exact : (P k : ℕ) → 1 ≤ k → k ≤ maxReplicas → share P k * k ≡ P * unit
-share-exact P k pos max = rw (← share-quotient P k pos max) (sym (whole P k pos max))
+-- and it is the popularity times the quotient
+pub share-quotient : (P k : ℕ) → k ∣ unit → P * (unit / k) ≡ share P k
+unfolding share
+share-quotient P k d = sym (mul-div-assoc k P d)
 
 -- a share is within f exactly if f times the count covers the popularity
-pub share-within : (P k f : ℕ) → 1 ≤ k → k ≤ maxReplicas → (share P k ≤ f) ↔ (P * unit ≤ f * k)
-share-within P k f pos max = rw (← share-exact P k pos max) (λ l. mul-le-mul-right k l, λ l. le-of-mul-le-mul-right l pos)
+pub share-within : (P k f : ℕ) → k ∣ unit → (share P k ≤ f) ↔ (P * unit ≤ f * k)
+share-within P k f d =
+    rw (← share-exact P k d) (λ l. mul-le-mul-right k l, λ l. le-of-mul-le-mul-right l (pos-of-dvd-of-pos d (omega arith)))
 
-pub share-falls : (P j k : ℕ) → 1 ≤ j → j ≤ k → k ≤ maxReplicas → share P k ≤ share P j
-share-falls P j k pos more max =
-    share-within P k (share P j) (omega arith) max .1
-    (le-trans (le-of-eq (sym (share-exact P j pos (omega arith)))) (mul-le-mul-left (share P j) more))
+-- two shares compare as the popularities do, each times the other's count
+pub share-compares : (P j Q k : ℕ) → j ∣ unit → k ∣ unit → (share P j ≤ share Q k) ↔ (P * k ≤ Q * j)
+share-compares P j Q k dj dk = (
+  λ l.
+      let units : share P j * j * k ≤ share Q k * j * k = mul-le-mul-right k (mul-le-mul-right j l) in
+      omega (arith, whole-k, whole-j),
+  λ l.
+      let units : P * k * unit ≤ Q * j * unit = mul-le-mul-right unit l in
+      let covered : P * unit * k ≤ share Q k * j * k = omega (arith, whole-k) in
+      share-within P j (share Q k) dj .1 (le-of-mul-le-mul-right covered (pos-of-dvd-of-pos dk (omega arith))),
+)
+  where
+    whole-j : share P j * j * k ≡ P * unit * k
+    whole-j = ap (λ (x : ℕ). x * k) (share-exact P j dj)
+
+    whole-k : share Q k * k * j ≡ Q * unit * j
+    whole-k = ap (λ (x : ℕ). x * j) (share-exact Q k dk)
+
+pub share-falls : (P j k : ℕ) → 1 ≤ j → j ≤ k → share P k ≤ share P j
+unfolding share
+share-falls P j k = div-antitone (P * unit) j k
 
 -- a share is at most the whole popularity, and so within its bound
 pub share-whole : (P k : ℕ) → share P k ≤ P * unit
@@ -106,12 +125,13 @@ pub share-laws : ShareLaws
 share-laws =
     record {
       exact = share-exact;
+      divides = unit-divides;
       falls = share-falls;
       conserved = λ p count v c.
           sum-cong (blockCount p) _ (λ i. unit * blockOf p i .popularity)
           (λ i l.
           let range = feasibleCounts-range p count (v .shaped) c i l in
-          mul-comm _ _ ∙ share-exact _ _ (range .0) (range .1) ∙ mul-comm _ _)
+          mul-comm _ _ ∙ share-exact _ _ (unit-divides _ (range .0) (range .1)) ∙ mul-comm _ _)
           ∙ sum-mul (blockCount p) unit (λ i. blockOf p i .popularity);
     }
 
@@ -155,11 +175,10 @@ module _ (p : Plan) (i : ℕ) (b : ValidBlock p i) (f : ℕ) where
   need-is k low high l less =
       let first = need-first k low high l in
       let min = need-min in
-      let max = upper-max p i in
       elim (decLt (need p f i) k) [
         | yes m ↦ absurd
             (omega
-            (arith, less (omega arith), need-within (omega arith), share-falls (blockOf p i .popularity) (need p f i) (k - 1) (omega (arith, b .min-pos)) (omega arith) (omega arith)))
+            (arith, less (omega arith), need-within (omega arith), share-falls (blockOf p i .popularity) (need p f i) (k - 1) (omega (arith, b .min-pos)) (omega arith)))
         | no m ↦ omega arith
       ]
 
@@ -228,7 +247,7 @@ module _ (p : Plan) (v : Valid p) where
       let b = v .shaped .block i l in
       let in-upper = reachable-parts p f .0 e .0 i l in
       le-trans
-      (share-falls (blockOf p i .popularity) (need p f i) (upper p i) (le-trans (b .min-pos) (need-min p i b f)) in-upper (upper-max p i))
+      (share-falls (blockOf p i .popularity) (need p f i) (upper p i) (le-trans (b .min-pos) (need-min p i b f)) in-upper)
       (need-within p i b f in-upper))
 
   -- where the needs at f are above the limit, nothing is reachable below f, nor from f on as long as the needs stay

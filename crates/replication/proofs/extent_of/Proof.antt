@@ -2,17 +2,23 @@
 -- Assumes nothing.
 use mathlib.Core.Path.{_≡_, ap₂, sym, _∙_}
 use Prim.Native.Nat.{ℕ, _+_, _-_, _*_, _<_, _≤_, max}
+use native.Mathlib.Nat.{le-trans, le-of-eq}
 use native.Mathlib.Omega.{arith}
+use denote.Ref.{now}
+use lib.ListN.{getD}
 use Rattle.order.specs.Search.{largest}
 use Rattle.order.specs.Sum.{sum}
 use Rattle.order.proofs.Extremes.{largest-step, largest-zero}
 use Rattle.order.proofs.Sums.{sum-zero, sum-step}
 use Rattle.model.specs.Plan.{Plan, maxReplicas, blockCount, blockOf, upper, minTotal}
+use Rattle.model.specs.Refusal.{maxBlocks}
 use Rattle.model.specs.Replication.{share, largestShare}
 use Rattle.theory.specs.Widths.{popularityBound, shareBound}
-use Rattle.cluster.specs.Blocks.{DemandsOf}
+use Rattle.theory.proofs.Replication.{share-bound, share-none}
+use Rattle.cluster.specs.Blocks.{leastIn, mostIn, DemandInRange, DemandsOf}
 use Rattle.cluster.proofs.Laws.{cluster-blocks, demands-popularity, demands-least, demands-most}
-use Rattle.replication.proofs.Laws.{quotients-are}
+use Rattle.replication.specs.Choice.{FractionFits, shareAt}
+use Rattle.replication.proofs.Laws.{fraction-of, fraction-one}
 use Rattle.replication.proofs.extent_of.Statement.{statement}
 use Rattle.replication.proofs.extent_of.Tie as tie
 
@@ -24,21 +30,35 @@ abbrev leastShare : Plan → ℕ → ℕ
 leastShare p i = share (blockOf p i .popularity) (blockOf p i .minReplicas)
 
 abbrev Inv-loop : tie.InvT-loop
-Inv-loop demands cluster quotients low₀ high₀ total₀ copies₀ i₀ low high total copies i =
+Inv-loop demands cluster low₀ high₀ total₀ copies₀ i₀ low high total copies i =
     (i ≤ cluster .blocks)
-    × (low < shareBound)
-    × (high < shareBound)
+    × FractionFits low
+    × (shareAt low < shareBound)
+    × FractionFits high
+    × (shareAt high < shareBound)
     × (total ≤ popularityBound * i)
     × (copies ≤ maxReplicas * i)
     × ((p : Plan) → DemandsOf p cluster demands
-    → (low ≡ largest i (mostShare p)) × (high ≡ largest i (leastShare p)) × (copies ≡ sum i (λ k. blockOf p k .minReplicas)))
+    → (shareAt low ≡ largest i (mostShare p))
+    × (shareAt high ≡ largest i (leastShare p))
+    × (copies ≡ sum i (λ k. blockOf p k .minReplicas)))
 
 abbrev μ-loop : tie.MeasureT-loop
-μ-loop demands cluster quotients low₀ high₀ total₀ copies₀ i₀ low high total copies i = cluster .blocks - i
+μ-loop demands cluster low₀ high₀ total₀ copies₀ i₀ low high total copies i = cluster .blocks - i
 
 loop-holds : tie.Need-loop-holds Inv-loop μ-loop
 loop-holds c =
-    (omega arith, omega arith, omega arith, omega arith, omega arith, λ p of. (sym (largest-zero _), sym (largest-zero _), sym (sum-zero _)))
+    let fits = fraction-one 0 (omega arith) in
+    let none = share-none 1 in (
+      omega arith,
+      fits,
+      omega arith,
+      fits,
+      omega arith,
+      omega arith,
+      omega arith,
+      λ p of. (none ∙ sym (largest-zero _), none ∙ sym (largest-zero _), sym (sum-zero _)),
+    )
 
 mul-demand : tie.Need-mul-demand Inv-loop μ-loop
 mul-demand c = omega arith
@@ -46,37 +66,47 @@ mul-demand c = omega arith
 shared-slice-read-demand : tie.Need-shared-slice-read-demand Inv-loop μ-loop
 shared-slice-read-demand c = omega arith
 
-share-at-requires : tie.Need-share-at-requires Inv-loop μ-loop
-share-at-requires c κs =
-    let at = c .before .before .before .before .before .before .before in
-    let d = at .before .before .pre .each (at .loop .i) (omega arith) in
-    record { quotients-are = quotients-are; popularity-narrow = omega arith; count-pos = omega arith; count-max = omega arith }
-
-share-at-requires-2 : tie.Need-share-at-requires-2 Inv-loop μ-loop
-share-at-requires-2 c κs =
-    let at = c .before .before .before .before .before .before .before .before .before .before in
-    let d = at .before .before .pre .each (at .loop .i) (omega arith) in
-    record { quotients-are = quotients-are; popularity-narrow = omega arith; count-pos = omega arith; count-max = omega arith }
-
 -- the block's numbers are in their ranges
-module _ (c : tie.After-larger2 Inv-loop μ-loop) where
+module _ (c : tie.After-popularity-of Inv-loop μ-loop) where
   abbrev At : tie.At-loop Inv-loop μ-loop
-  At = c .before .before .before .before .before .before .before .before .before .before .before .before
+  At = c .before .before .before .before
 
-  popularity-here : c .before .before .before .before .before .before .before .before .popularity-of .result ≤ popularityBound
-  popularity-here = let d = At .before .before .pre .each (At .loop .i) (omega arith) in omega arith
+  abbrev demand : ℕ
+  demand = getD (now (At .before .before .args .demands)) (At .loop .i) 0
 
-  least-here : c .before .before .before .before .before .before .before .least-of .result ≤ maxReplicas
-  least-here = let d = At .before .before .pre .each (At .loop .i) (omega arith) in omega arith
+  demand-here : DemandInRange demand
+  demand-here = At .before .before .pre .each (At .loop .i) (omega arith)
 
-  blocks-max : At .before .before .args .cluster .blocks ≤ 1024
+  popularity-here : c .popularity-of .result < popularityBound
+  popularity-here = rw (c .popularity-of .ensures) (demand-here .popularity-narrow)
+
+  fraction-here : (count : ℕ) → leastIn demand ≤ count → count ≤ mostIn demand
+      → FractionFits record { popularity = c .popularity-of .result; count = count }
+  fraction-here count low = fraction-of _ _ _ demand-here (c .popularity-of .ensures) (le-trans (demand-here .least-pos) low)
+
+  blocks-max : At .before .before .args .cluster .blocks ≤ maxBlocks
   blocks-max = At .before .before .pre .in-range .blocks-max
 
+larger-share-requires : tie.Need-larger-share-requires Inv-loop μ-loop
+larger-share-requires c κs =
+    let here = c .before in
+    (At here .loop .inv .1, fraction-here here _ (rw (c .most-of .ensures) (demand-here here .least-most)) (le-of-eq (c .most-of .ensures)))
+
+-- as many copies as the least
+least-here : (c : tie.After-least-of Inv-loop μ-loop)
+    → FractionFits record { popularity = c .before .before .before .popularity-of .result; count = c .least-of .result }
+least-here c =
+    let here = c .before .before .before in
+    fraction-here here _ (le-of-eq (sym (c .least-of .ensures))) (rw (c .least-of .ensures) (demand-here here .least-most))
+
+larger-share-requires-2 : tie.Need-larger-share-requires-2 Inv-loop μ-loop
+larger-share-requires-2 c κs = (At (c .before .before .before) .loop .inv .3, least-here c)
+
 add-total : tie.Need-add-total Inv-loop μ-loop
-add-total c = omega (arith, popularity-here c, blocks-max c)
+add-total c = let here = c .before .before .before .before in omega (arith, popularity-here here, blocks-max here)
 
 add-copies : tie.Need-add-copies Inv-loop μ-loop
-add-copies c = omega (arith, least-here c, blocks-max c)
+add-copies c = omega (arith, least-here (c .before) .count-max, blocks-max (c .before .before .before .before))
 
 add-i : tie.Need-add-i Inv-loop μ-loop
 add-i c = omega arith
@@ -86,45 +116,55 @@ loop-less c = omega arith
 
 loop-again : tie.Need-loop-again Inv-loop μ-loop
 loop-again c =
-    let at = At c in
+    let here = c .before .before .before .before in
+    let at = At here in
     let i = at .loop .i in
+    let inv = at .loop .inv in
     let l : i < at .before .before .args .cluster .blocks = omega arith in
-    let most = c .before .before .before .before .share-at in
-    let least = c .before .share-at2 in (
+    let most = c .before .before .before .most-of in
+    let least = c .before .least-of in
+    let low = c .before .before .larger-share .ensures in
+    let high = c .larger-share2 .ensures in (
       omega arith,
-      omega (arith, most .ensures .1),
-      omega (arith, least .ensures .1),
-      omega (arith, popularity-here c),
-      omega (arith, least-here c),
+      low .0,
+      omega (arith, low .1, share-bound _ (most .result) (popularity-here here)),
+      high .0,
+      omega (arith, high .1, share-bound _ (least .result) (popularity-here here)),
+      omega (arith, popularity-here here),
+      omega (arith, least-here (c .before) .count-max),
       λ p of.
-          let popularity-is = c .before .before .before .before .before .before .before .before .popularity-of .ensures ∙ demands-popularity p _ _ of i l in
-          let least-is = c .before .before .before .before .before .before .before .least-of .ensures ∙ demands-least p _ _ of i l in
-          let most-is = c .before .before .before .before .before .most-of .ensures ∙ demands-most p _ _ of i l in
-          let before = at .loop .inv .5 p of in (
-            c .before .before .before .larger .ensures
-                ∙ ap₂ max (before .0) (most .ensures .0 ∙ ap₂ share popularity-is most-is)
-                ∙ sym (largest-step i (mostShare p)),
-            c .larger2 .ensures
-                ∙ ap₂ max (before .1) (least .ensures .0 ∙ ap₂ share popularity-is least-is)
-                ∙ sym (largest-step i (leastShare p)),
+          let popularity-is = here .popularity-of .ensures ∙ demands-popularity p _ _ of i l in
+          let least-is = least .ensures ∙ demands-least p _ _ of i l in
+          let most-is = most .ensures ∙ demands-most p _ _ of i l in
+          let before = inv .7 p of in (
+            low .1 ∙ ap₂ max (before .0) (ap₂ share popularity-is most-is) ∙ sym (largest-step i (mostShare p)),
+            high .1 ∙ ap₂ max (before .1) (ap₂ share popularity-is least-is) ∙ sym (largest-step i (leastShare p)),
             ap₂ _+_ (before .2) least-is ∙ sym (sum-step i (λ k. blockOf p k .minReplicas)),
           ),
     )
 
+share-at-requires : tie.Need-share-at-requires Inv-loop μ-loop
+share-at-requires c κs = c .before .before .loop .inv .1
+
+share-at-requires-2 : tie.Need-share-at-requires-2 Inv-loop μ-loop
+share-at-requires-2 c κs = c .before .before .before .loop .inv .3
+
 returns : tie.Need-returns Inv-loop μ-loop
 unfolding largestShare minTotal
 returns c =
-    let at = c .before .before in
-    let inv = at .loop .inv in (
+    let at = c .before .before .before .before in
+    let inv = at .loop .inv in
+    let low-is = c .before .share-at .ensures in
+    let high-is = c .share-at2 .ensures in (
       record {
-        low-narrow = inv .1;
-        high-narrow = inv .2;
+        low-narrow = rw low-is (inv .2);
+        high-narrow = rw high-is (inv .4);
         popularity-max = omega arith;
       },
       λ p of.
           let all : at .loop .i ≡ blockCount p = omega (arith, cluster-blocks p _ (of .cluster)) in
-          let passed = rw all at (inv .5 p of) in
-          record { low-is = passed .0; high-is = passed .1; copies-is = passed .2 },
+          let passed = rw all at (inv .7 p of) in
+          record { low-is = low-is ∙ passed .0; high-is = high-is ∙ passed .1; copies-is = passed .2 },
     )
 
 pub extent-of-spec : {M : Type 1} → statement M
@@ -138,14 +178,14 @@ extent-of-spec =
     shared-slice-read-demand
     (λ c κs. tt)
     (λ c κs. tt)
+    larger-share-requires
     (λ c κs. tt)
-    share-at-requires
-    (λ c κs. tt)
-    share-at-requires-2
-    (λ c κs. tt)
+    larger-share-requires-2
     add-total
     add-copies
     add-i
     loop-less
     loop-again
+    share-at-requires
+    share-at-requires-2
     returns)

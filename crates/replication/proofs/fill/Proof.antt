@@ -11,26 +11,27 @@ use Rattle.order.specs.Table.{filled}
 use Rattle.order.proofs.Tables.{filled-none, filled-more, getD-filled}
 use Rattle.model.specs.Plan.{Plan, maxReplicas, blockCount, blockOf}
 use Rattle.model.specs.Replication.{share, figure, need, chosen}
-use Rattle.theory.proofs.Replication.{share-whole, feasibleCounts-range, chosen-laws}
+use Rattle.theory.specs.Widths.{popularityBound}
+use Rattle.theory.proofs.Replication.{share-bound, share-whole, feasibleCounts-range, chosen-laws}
 use Rattle.cluster.specs.declared.Cluster.{Cluster}
 use Rattle.cluster.specs.Blocks.{popularityIn, spreadAsked, linkIn, profileOf, DemandsFit, DemandsOf, ProfilesFit}
 use Rattle.cluster.proofs.Laws.{cluster-blocks, cluster-block, demands-popularity, demands-spread, demands-link, profileOf-share, profileOf-link, linked-mate}
-use Rattle.replication.specs.Choice.{NeedAsked}
-use Rattle.replication.proofs.Laws.{quotients-are, need-of}
+use Rattle.replication.specs.Choice.{FractionFits, NeedAsked}
+use Rattle.replication.proofs.Laws.{fraction-of, need-of}
 use Rattle.replication.proofs.fill.Statement.{statement}
 use Rattle.replication.proofs.fill.Tie as tie
 
 abbrev Inv-loop : tie.InvT-loop
-Inv-loop items₀ cluster wanted quotients scale i₀ items i =
+Inv-loop items₀ cluster wanted scale i₀ items i =
     (i ≤ cluster .blocks)
     × (length items ≡ length items₀)
     × ((k : ℕ) → i ≤ k → getD items k 0 ≡ getD items₀ k 0)
     × ((p : Plan) → DemandsOf p cluster items₀ → wanted ≡ figure p → items ≡ filled i (profileOf p (chosen p)) items₀)
 
 abbrev μ-loop : tie.MeasureT-loop
-μ-loop items₀ cluster wanted quotients scale i₀ items i = cluster .blocks - i
+μ-loop items₀ cluster wanted scale i₀ items i = cluster .blocks - i
 
--- chosen counts are from 1 to 8
+-- chosen counts are from 1 to the most copies
 chosen-range : (p : Plan) (c : Cluster) (demands : List ℕ) → DemandsOf p c demands → (i : ℕ) → i < c .blocks
     → (1 ≤ chosen p i) × (chosen p i ≤ maxReplicas)
 chosen-range p c demands of i l =
@@ -60,21 +61,21 @@ module _ (c : tie.After-slice-known2 Inv-loop μ-loop) where
 -- the count found is the block's chosen count
 module _ (c : tie.After-needed Inv-loop μ-loop) where
   abbrev At : tie.At-loop Inv-loop μ-loop
-  At = c .before .before .before .before
+  At = c .before .before .before .before .before
 
   chosen-here : (p : Plan) → let a = At .before .before .before .args in
       DemandsOf p (a .cluster) (now (a .items)) → a .wanted ≡ figure p → c .needed .result ≡ chosen p (At .loop .i)
   unfolding chosen
   chosen-here p of same =
       let i = At .loop .i in
-      let found = rw (kept (c .before)) at (c .needed .ensures) in
+      let found = rw (kept (c .before .before)) at (c .needed .ensures) in
       need-of p _ _ of i _ _ (omega arith) found .0 ∙ ap (λ (x : ℕ). need p x i) same
 
-  count-here : (1 ≤ c .needed .result) × (c .needed .result ≤ maxReplicas)
-  count-here =
-      let d = asked-here (c .before) .in-range in
+  fraction-here : FractionFits record { popularity = c .before .popularity-of .result; count = c .needed .result }
+  fraction-here =
+      let d = asked-here (c .before .before) .in-range in
       let found = c .needed .ensures in
-      (omega (arith, found .low, d .least-pos), omega (arith, found .high, d .most-max))
+      fraction-of _ _ _ d (c .before .popularity-of .ensures) (omega (arith, found .low, d .least-pos)) (found .high)
 
 -- the profiles are in range
 profiles-fit : (p : Plan) (c : Cluster) (demands profiles₀ profiles : List ℕ) → DemandsFit c demands → DemandsOf p c demands
@@ -111,24 +112,24 @@ slice-read-demand : tie.Need-slice-read-demand Inv-loop μ-loop
 slice-read-demand c = omega (arith, c .before .before .before .before .before .before .pre .fit .room)
 
 needed-requires : tie.Need-needed-requires Inv-loop μ-loop
-needed-requires c κs = asked-here c
+needed-requires c κs = asked-here (c .before)
 
 share-at-requires : tie.Need-share-at-requires Inv-loop μ-loop
-share-at-requires c κs =
-    let d = asked-here (c .before .before .before) .in-range in
-    let count = count-here (c .before .before) in
-    record { quotients-are = quotients-are; popularity-narrow = omega (arith, d .popularity-narrow); count-pos = count .0; count-max = count .1 }
+share-at-requires c κs = fraction-here c
 
 profile-requires : tie.Need-profile-requires Inv-loop μ-loop
 profile-requires c κs =
-    let few = count-here (c .before .before .before .before .before) .1 in
-    (c .before .before .share-at .ensures .1, omega arith, omega arith, omega arith)
+    let found = c .before .before .before in
+    let d = asked-here (found .before .before) .in-range in
+    let popular : found .before .popularity-of .result < popularityBound = rw (found .before .popularity-of .ensures) (d .popularity-narrow) in
+    let few = fraction-here found .count-max in
+    (rw (c .before .before .share-at .ensures) (share-bound _ _ popular), omega arith, omega arith, omega arith)
 
 mul-items : tie.Need-mul-items Inv-loop μ-loop
 mul-items c = omega arith
 
 slice-write-items : tie.Need-slice-write-items Inv-loop μ-loop
-slice-write-items c = omega (arith, c .before .before .before .before .before .before .before .before .before .before .before .before .before .pre .fit .room)
+slice-write-items c = omega (arith, At (c .before .before .before .before) .before .before .before .pre .fit .room)
 
 add-i : tie.Need-add-i Inv-loop μ-loop
 add-i c = omega arith
@@ -139,7 +140,7 @@ loop-less c = omega arith
 loop-again : tie.Need-loop-again Inv-loop μ-loop
 unfolding profileOf
 loop-again c =
-    let found = c .before .before .before .before .before .before in
+    let found = c .before .before .before .before in
     let at = At found in
     let start = at .before .before .before in
     let i = at .loop .i in
@@ -152,8 +153,8 @@ loop-again c =
           let count-is = chosen-here found p of same in
           let spread-is = ap spreadAsked (inv .2 i (omega arith)) ∙ demands-spread p _ _ of i l in
           let link-is = ap linkIn (inv .2 i (omega arith)) ∙ demands-link p _ _ of i l in
-          let share-is = c .before .before .before .share-at .ensures .0
-          ∙ ap₂ share (c .before .before .before .before .popularity-of .ensures ∙ ap popularityIn (inv .2 i (omega arith)) ∙ demands-popularity p _ _ of i l) count-is in
+          let share-is = c .before .before .before .share-at .ensures
+          ∙ ap₂ share (found .before .popularity-of .ensures ∙ ap popularityIn (inv .2 i (omega arith)) ∙ demands-popularity p _ _ of i l) count-is in
           filled-more i _ _ _ _ (inv .3 p of same) (omega (arith, start .pre .fit .room)) (omega arith),
     )
 
@@ -178,8 +179,8 @@ fill-spec =
     loop-holds
     mul-demand
     slice-read-demand
-    needed-requires
     (λ c κs. tt)
+    needed-requires
     share-at-requires
     (λ c κs. tt)
     (λ c κs. tt)

@@ -1,162 +1,180 @@
--- `replication::needed` meets its contract. The loop's invariant: the count is lawful, and one copy less is not enough.
+-- `replication::needed` meets its contract: a count below the estimate is not enough, and one more than it is.
 -- Assumes nothing.
+use borrow.Author.Needs.{needs}
 use mathlib.Core.Path.{_≡_, ap, ap₂, _∙_}
 use Prim.Native.Nat.{ℕ, suc, _+_, _-_, _*_, _/_, _<_, _≤_, max}
-use native.Mathlib.Nat.{mul-le-mul, mul-le-mul-left, mul-le-mul-right, lt-of-not-le}
+use native.Mathlib.Nat.{mul-le-mul, mul-le-mul-left, mul-le-mul-right, lt-of-not-le, le-of-lt}
+use native.Mathlib.Numerals.{add-one}
 use native.Mathlib.Decide.{decLt, decLe}
 use native.Mathlib.Omega.{arith}
 use Rattle.model.specs.Plan.{maxReplicas}
-use Rattle.model.specs.Replication.{unit}
-use Rattle.theory.proofs.Replication.{share-within}
+use Rattle.model.specs.Replication.{unit, share}
+use Rattle.theory.specs.Widths.{popularityBound}
+use Rattle.theory.proofs.Replication.{unit-divides, share-within}
 use Rattle.cluster.specs.Blocks.{popularityIn, leastIn, mostIn}
-use Rattle.replication.specs.Choice.{parts, ScaleOf, NeedAsked}
+use Rattle.replication.specs.Choice.{parts, NeedAsked, NeedOf}
 use Rattle.replication.proofs.needed.Statement.{statement}
 use Rattle.replication.proofs.needed.Tie as tie
 
-abbrev Inv-loop : tie.InvT-loop
-Inv-loop demand figure scale popularity reads estimate k₀ k =
-    (leastIn demand ≤ k)
-    × (k ≤ mostIn demand)
-    × (leastIn demand < k → figure * (k - 1) < popularityIn demand * unit)
+-- where k is not below the popularity times the scale, and one copy more is not enough, the figure in parts is hardly above k in parts
+short-gap : (P figure scale k Z : ℕ) → unit * Z < suc scale * suc figure → P * scale ≤ k * Z → figure * suc k < P * unit
+    → suc figure * Z ≤ k * Z + P * figure
+short-gap P figure scale k Z least covered short =
+    let scaled : P * suc (unit * Z) ≤ P * (suc scale * suc figure) = mul-le-mul-left P least in
+    let more : P * scale * suc figure ≤ k * Z * suc figure = mul-le-mul-right (suc figure) covered in
+    let lacking : suc (figure * suc k) * Z ≤ P * unit * Z = mul-le-mul-right Z short in
+    omega arith
 
-abbrev μ-loop : tie.MeasureT-loop
-μ-loop demand figure scale popularity reads estimate k₀ k = suc (mostIn demand) - k
+small-figure : (figure k product : ℕ) → suc figure * parts ≤ k * parts + product → product ≤ popularityBound * figure → k ≤ maxReplicas
+    → figure < maxReplicas
+small-figure figure k product gap narrow max = omega arith
 
--- the upper count is enough
 module _ (demand figure scale : ℕ) (asked : NeedAsked demand figure scale) where
-  enough : popularityIn demand * unit ≤ figure * mostIn demand
-  enough =
-      let d = asked .in-range in
-      share-within _ _ figure (omega (arith, d .least-pos, d .least-most)) (d .most-max) .0 (asked .most-within)
+  abbrev P : ℕ
+  P = popularityIn demand
 
-  -- a product with the scale is at most 8 in parts
-  product-max : popularityIn demand * scale ≤ maxReplicas * parts
+  -- the copies that the popularity times the scale makes, rounded up
+  abbrev estimate : ℕ
+  estimate = (P * scale + (parts - 1)) / parts
+
+  -- a lawful count is enough exactly if its share is within the figure
+  enough-within : (k : ℕ) → leastIn demand ≤ k → k ≤ mostIn demand → P * unit ≤ figure * k → share P k ≤ figure
+  enough-within k low high =
+      let d = asked .in-range in
+      share-within P k figure (unit-divides k (omega (arith, d .least-pos)) (omega (arith, d .most-max))) .1
+
+  short-above : (k : ℕ) → leastIn demand ≤ k → k ≤ mostIn demand → figure * k < P * unit → figure < share P k
+  short-above k low high l =
+      let d = asked .in-range in
+      let within = share-within P k figure (unit-divides k (omega (arith, d .least-pos)) (omega (arith, d .most-max))) .0 in
+      lt-of-not-le (λ h. omega (arith, within h))
+
+  -- the upper count is
+  most-enough : P * unit ≤ figure * mostIn demand
+  most-enough =
+      let d = asked .in-range in
+      share-within P (mostIn demand) figure (unit-divides _ (omega (arith, d .least-pos, d .least-most)) (d .most-max)) .0 (asked .most-within)
+
+  short-most : (k : ℕ) → figure * k < P * unit → k < mostIn demand
+  short-most k l = lt-of-not-le (λ h. let more : figure * mostIn demand ≤ figure * k = mul-le-mul-left figure h in omega (arith, most-enough))
+
+  most-max : figure * mostIn demand ≤ figure * maxReplicas
+  most-max = mul-le-mul-left figure (asked .in-range .most-max)
+
+  -- a product with the scale is at most the most copies in parts
+  product-max : P * scale ≤ maxReplicas * parts
   product-max =
-      let P = popularityIn demand in
       elim (decLe (P * scale) (maxReplicas * parts)) [
         | yes l ↦ l
         | no l ↦ absurd
             (let more : suc (maxReplicas * parts) * suc figure ≤ P * scale * suc figure = mul-le-mul-right (suc figure) (lt-of-not-le l) in
             let scaled : P * (scale * suc figure) ≤ P * (unit * parts) = mul-le-mul-left P (asked .scale-of .scale-max) in
-            let most : figure * mostIn demand ≤ figure * maxReplicas = mul-le-mul-left figure (asked .in-range .most-max) in
-            omega (arith, enough))
+            omega (arith, most-enough, most-max))
       ]
 
--- a count below the estimate is not enough
-estimate-below : (P figure scale e j : ℕ) → ScaleOf figure scale → e * parts < P * scale + parts → j < e → figure * j < P * unit
-estimate-below P figure scale e j of l less =
-    elim (decLt (figure * j) (P * unit)) [
-      | yes h ↦ h
-      | no h ↦ absurd
-          (let more : suc (j * parts) * suc figure ≤ P * scale * suc figure = mul-le-mul-right (suc figure) (omega arith) in
-          let scaled : P * (scale * suc figure) ≤ P * (unit * parts) = mul-le-mul-left P (of .scale-max) in
-          omega arith)
-    ]
+  -- a count below the estimate is not enough
+  estimate-below : (j : ℕ) → j < estimate → figure * j < P * unit
+  estimate-below j less =
+      elim (decLt (figure * j) (P * unit)) [
+        | yes l ↦ l
+        | no l ↦ absurd
+            (let more : suc (j * parts) * suc figure ≤ P * scale * suc figure = mul-le-mul-right (suc figure) (omega arith) in
+            let scaled : P * (scale * suc figure) ≤ P * (unit * parts) = mul-le-mul-left P (asked .scale-of .scale-max) in
+            omega arith)
+      ]
 
-popularity-of-requires : tie.Need-popularity-of-requires Inv-loop μ-loop
-popularity-of-requires c κs = tt
+  estimate-max : estimate ≤ mostIn demand
+  estimate-max =
+      elim (decLe estimate (mostIn demand)) [
+        | yes l ↦ l
+        | no l ↦ absurd (omega (arith, estimate-below (mostIn demand) (omega arith), most-enough))
+      ]
 
-mul-reads : tie.Need-mul-reads Inv-loop μ-loop
-mul-reads c = omega arith
+  -- one copy more than the estimate is: the estimate falls short by less than a copy, as the figure is not small where the
+  -- popularity is not 0
+  estimate-next : (k : ℕ) → estimate ≤ k → k ≤ mostIn demand → P * unit ≤ figure * suc k
+  estimate-next k low high =
+      elim (decLe (P * unit) (figure * suc k)) [
+        | yes l ↦ l
+        | no l ↦ absurd
+            (let gap = short-gap P figure scale k parts (asked .scale-of .scale-least) (omega arith) (lt-of-not-le l) in
+            let narrow : P * figure ≤ popularityBound * figure = mul-le-mul-right figure (le-of-lt (asked .in-range .popularity-narrow)) in
+            let few : figure < maxReplicas = small-figure figure k (P * figure) gap narrow (omega (arith, asked .in-range .most-max)) in
+            omega (arith, most-enough, most-max))
+      ]
 
-product-here : (c : tie.After-popularity-of Inv-loop μ-loop) → c .popularity-of .result * c .before .args .scale ≤ maxReplicas * parts
-product-here c = rw (c .popularity-of .ensures) (product-max _ _ _ (c .before .pre))
+mul-estimate : tie.Need-mul-estimate
+mul-estimate c = rw (c .popularity-of .ensures) (omega (arith, product-max _ _ _ (c .before .pre)))
 
-mul-estimate : tie.Need-mul-estimate Inv-loop μ-loop
-mul-estimate c = omega (arith, product-here c)
+add-estimate : tie.Need-add-estimate
+add-estimate c = rw (c .popularity-of .ensures) (omega (arith, product-max _ _ _ (c .before .pre)))
 
-sub-estimate : tie.Need-sub-estimate Inv-loop μ-loop
-sub-estimate c = omega arith
+-- the count to begin with
+module _ (c : tie.After-larger) where
+  abbrev Start : tie.Start
+  Start = c .before .before .before
 
-add-estimate : tie.Need-add-estimate Inv-loop μ-loop
-add-estimate c = omega (arith, product-here c)
+  count-is : c .larger .result ≡ max (leastIn (Start .args .demand)) (estimate (Start .args .demand) (Start .args .figure) (Start .args .scale) (Start .pre))
+  count-is =
+      c .larger .ensures
+      ∙ ap₂ max (c .before .least-of .ensures)
+      (ap (λ (x : ℕ). (x * Start .args .scale + (parts - 1)) / parts) (c .before .before .popularity-of .ensures))
 
-loop-holds : tie.Need-loop-holds Inv-loop μ-loop
-loop-holds c =
-    let start = c .before .before .before in
-    let a = start .args in
-    let P = popularityIn (a .demand) in
-    let e = (P * a .scale + 281474976710655) / parts in
-    let below : (j : ℕ) → j < e → a .figure * j < P * unit =
-    λ j l. estimate-below P (a .figure) (a .scale) e j (start .pre .scale-of) (omega arith) l
-    in
-    let found =
-    c .larger .ensures
-    ∙ ap₂ max (c .before .least-of .ensures) (ap (λ (x : ℕ). (x * a .scale + 281474976710655) / parts) (c .before .before .popularity-of .ensures))
-    in
-    let few : e ≤ mostIn (a .demand) =
-    elim (decLe e (mostIn (a .demand))) [
-      | yes l ↦ l
-      | no l ↦ absurd (omega (arith, below (mostIn (a .demand)) (omega arith), enough _ _ _ (start .pre)))
-    ]
-    in
-    (omega arith, omega arith, λ l. below _ (omega arith))
+  count-max : c .larger .result ≤ mostIn (Start .args .demand)
+  count-max = omega (arith, count-is, estimate-max _ _ _ (Start .pre), Start .pre .in-range .least-most)
 
-mul-loop : tie.Need-mul-loop Inv-loop μ-loop
-mul-loop c =
-    let inv = c .loop .inv in
-    let asked = c .before .before .before .before .pre in
-    let product = mul-le-mul (asked .wanted-narrow) (inv .1) in
+mul-if1 : tie.Need-mul-if1
+mul-if1 c =
+    let asked = Start c .pre in
+    let product = mul-le-mul (asked .wanted-narrow) (count-max c) in
     omega (arith, asked .in-range .most-max)
 
-add-k : tie.Need-add-k Inv-loop μ-loop
-add-k c = omega arith
+add-result : tie.Need-add-result
+add-result c = omega (arith, count-max (c .before), Start (c .before) .pre .in-range .most-max)
 
--- a count that is not enough is below the upper count
-below-most : (c : tie.In-loop Inv-loop μ-loop) → c .before .loop .k < mostIn (c .before .before .before .before .before .args .demand)
-below-most c =
-    let inv = c .before .loop .inv in
-    elim (decLt (c .before .loop .k) (mostIn (c .before .before .before .before .before .args .demand))) [
-      | yes l ↦ l
-      | no l ↦ absurd
-          (let same : c .before .loop .k ≡ mostIn (c .before .before .before .before .before .args .demand) = omega arith in
-          omega (arith, c .loop-test .taken, rw (← same) at (enough _ _ _ (c .before .before .before .before .before .pre))))
-    ]
-
-loop-less : tie.Need-loop-less Inv-loop μ-loop
-loop-less c = omega (arith, below-most c)
-
-loop-again : tie.Need-loop-again Inv-loop μ-loop
-loop-again c =
-    let inv = c .before .loop .inv in (
-      omega arith,
-      omega (arith, below-most c),
-      λ l. let back : c .before .loop .k + 1 - 1 ≡ c .before .loop .k = omega arith in rw back (omega arith),
-    )
-
-returns : tie.Need-returns Inv-loop μ-loop
+returns : tie.Need-returns
 returns c =
-    let at = c .before in
-    let inv = at .loop .inv in
-    let asked = at .before .before .before .before .pre in
-    let d = asked .in-range in
+    let asked = Start (c .before) .pre in
+    let P-is = c .before .before .before .popularity-of .ensures in
+    let k = c .before .larger .result in
+    let back : k + 1 - 1 ≡ k = omega arith in
+    let short : Start (c .before) .args .figure * k < popularityIn (Start (c .before) .args .demand) * unit = rw (← P-is) (c .if1 .taken) in
+    let below = short-most _ _ _ asked k short in
     record {
-      low = inv .0;
-      high = inv .1;
-      within = share-within _ (at .loop .k) _ (omega (arith, d .least-pos)) (omega (arith, d .most-max)) .1 (omega arith);
+      low = omega (arith, count-is (c .before));
+      high = omega arith;
+      within = enough-within _ _ _ asked (k + 1) (omega (arith, count-is (c .before))) (omega arith)
+          (rw add-one (estimate-next _ _ _ asked k (omega (arith, count-is (c .before))) (count-max (c .before))));
+      less-above = λ l. rw back (short-above _ _ _ asked k (omega (arith, count-is (c .before))) (count-max (c .before)) short);
+    }
+
+returns-2 : tie.Need-returns-2
+returns-2 c =
+    let asked = Start (c .before) .pre in
+    let P-is = c .before .before .before .popularity-of .ensures in
+    let k = c .before .larger .result in
+    let low : leastIn (Start (c .before) .args .demand) ≤ k = omega (arith, count-is (c .before)) in
+    let high = count-max (c .before) in
+    record {
+      low = low;
+      high = high;
+      within = enough-within _ _ _ asked k low high (rw (← P-is) (c .if1 .left));
       less-above = λ l.
-          lt-of-not-le
-          (λ h.
-          let w = share-within _ (at .loop .k - 1) _ (omega (arith, d .least-pos)) (omega (arith, d .most-max)) .0 h in
-          omega (arith, inv .2 l));
+          short-above _ _ _ asked (k - 1) (omega arith) (omega arith) (estimate-below _ _ _ asked (k - 1) (omega (arith, count-is (c .before))));
     }
 
 pub needed-spec : {M : Type 1} → statement M
 needed-spec =
     tie.close
     (tie.spec
-    Inv-loop
-    μ-loop
-    popularity-of-requires
-    mul-reads
+    (λ c κs. tt)
     mul-estimate
-    sub-estimate
+    (λ c. search needs)
     add-estimate
     (λ c κs. tt)
     (λ c κs. tt)
-    loop-holds
-    mul-loop
-    add-k
-    loop-less
-    loop-again
-    returns)
+    mul-if1
+    (λ c. search needs)
+    add-result
+    returns
+    returns-2)

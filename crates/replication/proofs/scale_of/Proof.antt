@@ -1,9 +1,11 @@
--- `replication::scale_of` meets its contract: a quotient times its divisor is at most the number divided.
+-- `replication::scale_of` meets its contract: a quotient times its divisor is at most the number divided, and the next one's is above it.
 -- Assumes nothing.
 use borrow.Author.Needs.{needs}
-use Prim.Native.Nat.{_+_}
-use native.Mathlib.Nat.{div-mul-le-self}
+use Prim.Native.Nat.{_+_, _*_}
+use native.Mathlib.Nat.{div-mul-le-self, lt-div-mul-add}
 use native.Mathlib.Omega.{arith}
+use Rattle.model.specs.Replication.{unit}
+use Rattle.replication.specs.Choice.{parts}
 use Rattle.replication.proofs.scale_of.Statement.{statement}
 use Rattle.replication.proofs.scale_of.Tie as tie
 
@@ -14,7 +16,11 @@ div-result : tie.Need-div-result
 div-result c = search needs
 
 returns : tie.Need-returns
-returns c = record { scale-max = omega (arith, div-mul-le-self 236438980436951040 (c .args .figure + 1)) }
+returns c =
+    record {
+      scale-max = omega (arith, div-mul-le-self (unit * parts) (c .args .figure + 1));
+      scale-least = omega (arith, lt-div-mul-add {a = unit * parts} {b = c .args .figure + 1} (omega arith));
+    }
 
 pub scale-of-spec : {M : Type 1} → statement M
 scale-of-spec = tie.close (tie.spec add-result div-result returns)
