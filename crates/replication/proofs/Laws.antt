@@ -9,8 +9,9 @@ use native.Mathlib.Omega.{arith}
 use lib.ListN.{getD}
 use Rattle.model.specs.Plan.{Plan, upper}
 use Rattle.model.specs.Replication.{limit as limitOf, unit, share, largestShare, need, reachable}
+use Rattle.theory.specs.Refusal.{Valid}
 use Rattle.theory.specs.Widths.{popularityBound}
-use Rattle.theory.proofs.Replication.{unit-divides, share-exact, need-is, reachable-parts, largestShare-term}
+use Rattle.theory.proofs.Replication.{unit-divides, share-exact, need-is, need-falls, reachable-parts, largestShare-term}
 use Rattle.cluster.specs.declared.Cluster.{Cluster}
 use Rattle.cluster.specs.Blocks.{popularityIn, mostIn, DemandInRange, DemandsOf}
 use Rattle.cluster.proofs.Laws.{cluster-blocks, cluster-block, demands-popularity, demands-least, demands-most}
@@ -68,3 +69,14 @@ module _ (p : Plan) (c : Cluster) (demands : List ℕ) (of : DemandsOf p c deman
 -- a figure is reachable where the needs are within the limit
 pub tally-reached : (p : Plan) (wanted : ℕ) (t : Tally) → TallyOf p wanted t → t .total ≤ limitOf p → reachable p wanted ≡ true
 tally-reached p wanted t of l = reachable-parts p wanted .1 (of .in-upper, le-trans (le-of-eq (sym (of .total-is))) l)
+
+-- and so is the next share where the needs there are
+pub tally-next-reached : (p : Plan) (wanted : ℕ) (t : Tally) → Valid p → TallyOf p wanted t → wanted < t .next → t .fewer ≤ limitOf p
+    → reachable p (t .next) ≡ true
+tally-next-reached p wanted t v of above l =
+    reachable-parts p (t .next) .1 (
+      λ i i-in.
+          let reaches = of .in-upper i i-in in
+          le-trans (need-falls p i (v .shaped .block i i-in) wanted (t .next) (le-of-lt above) reaches) reaches,
+      le-trans (le-of-eq (sym (of .fewer-is))) l,
+    )

@@ -2,7 +2,7 @@
 use mathlib.Core.Path.{_≡_}
 use mathlib.Core.List.{List}
 use mathlib.Core.Bool.{true, false}
-use Prim.Native.Nat.{ℕ, suc, _*_, _-_, _/_, _^_, _<_, _≤_}
+use Prim.Native.Nat.{ℕ, suc, _*_, _-_, _^_, _<_, _≤_}
 use lib.ListN.{getD}
 use Rattle.order.specs.Sum.{sum}
 use Rattle.order.specs.Table.{filled}
@@ -14,6 +14,7 @@ use Rattle.theory.specs.Widths.{popularityBound, shareBound}
 use Rattle.cluster.specs.declared.Cluster.{Cluster}
 use Rattle.cluster.specs.Blocks.{popularityIn, leastIn, mostIn, DemandInRange, DemandsFit, DemandsOf, profileOf, ProfilesFit}
 use Rattle.replication.specs.declared.Fraction.{Fraction}
+use Rattle.replication.specs.declared.NextShare.{NextShare}
 use Rattle.replication.specs.declared.Extent.{Extent}
 use Rattle.replication.specs.declared.Bracket.{Bracket}
 use Rattle.replication.specs.declared.Tally.{Tally}
@@ -26,6 +27,19 @@ pub record FractionFits (f : Fraction) : Type 0 where
 
 abbrev pub shareAt : Fraction → ℕ
 shareAt f = share (f .popularity) (f .count)
+
+-- A next share, and one block's share more that is not above it.
+pub record NextAsked (next : NextShare) (share : Fraction) : Type 0 where
+  pub next-fits : FractionFits (next .share)
+  pub share-fits : FractionFits share
+  pub share-max : shareAt share ≤ shareAt (next .share)
+  pub blocks-room : next .blocks < maxBlocks
+
+-- That share, and how many blocks have it.
+pub record NextAs (next : NextShare) (share : Fraction) (r : NextShare) : Type 0 where
+  pub share-is : r .share ≡ share
+  pub tied : shareAt share ≡ shareAt (next .share) → r .blocks ≡ suc (next .blocks)
+  pub replaced : shareAt share < shareAt (next .share) → r .blocks ≡ 1
 
 -- Estimates are reckoned in parts of a copy.
 abbrev pub parts : ℕ
@@ -59,14 +73,14 @@ pub record FigureAsked (c : Cluster) (demands : List ℕ) (wanted : ℕ) : Type 
 -- The needs at a figure: what holds of their numbers, and what they say of plan p.
 pub record TallyFits (c : Cluster) (wanted : ℕ) (t : Tally) : Type 0 where
   pub total-max : t .total ≤ maxReplicas * c .blocks
-  pub top-max : t .top ≤ wanted
+  pub fewer-max : t .fewer ≤ t .total
   pub next-above : wanted < t .next
 
 pub record TallyOf (p : Plan) (wanted : ℕ) (t : Tally) : Type 0 where
   pub total-is : t .total ≡ sum (blockCount p) (need p wanted)
-  pub top-is : t .top ≡ largestShare p (need p wanted)
   pub in-upper : (i : ℕ) → i < blockCount p → need p wanted i ≤ upper p i
   pub same : (f : ℕ) → wanted ≤ f → f < t .next → (i : ℕ) → i < blockCount p → need p f i ≡ need p wanted i
+  pub fewer-is : t .fewer ≡ sum (blockCount p) (need p (t .next))
 
 -- What the bisection starts from: its numbers, and what they are of plan p.
 pub record ExtentFits (c : Cluster) (e : Extent) : Type 0 where
@@ -101,18 +115,19 @@ pub record BracketOf (p : Plan) (b : Bracket) : Type 0 where
   pub reached : reachable p (b .high) ≡ true
 
 -- A probe of it.
-pub record NarrowAsked (b : Bracket) (t : Tally) (limit : ℕ) : Type 0 where
+pub record NarrowAsked (b : Bracket) (wanted : ℕ) (t : Tally) (limit : ℕ) : Type 0 where
   pub fits : BracketFits b
-  pub total-max : t .total ≤ maxReplicas * maxBlocks
+  pub low-max : b .low ≤ wanted
+  pub wanted-less : wanted < b .high
+  pub next-above : wanted < t .next
+  pub fewer-max : t .fewer ≤ maxReplicas * maxBlocks
   pub limit-max : limit ≤ maxMachines * maxCapacity
-  pub low-less : b .low < t .next
-  pub high-less : t .top < b .high
 
 -- What is left after it.
-pub record NarrowedTo (b : Bracket) (t : Tally) (limit : ℕ) (r : Bracket) : Type 0 where
+pub record NarrowedTo (b : Bracket) (wanted : ℕ) (t : Tally) (limit : ℕ) (r : Bracket) : Type 0 where
   pub fits : BracketFits r
-  pub less : b .low < b .high → r .high - r .low < b .high - b .low
-  pub of : (p : Plan) (wanted : ℕ) → Valid p → limit ≡ limitOf p → TallyOf p wanted t → BracketOf p b → BracketOf p r
+  pub less : r .high - r .low < b .high - b .low
+  pub of : (p : Plan) → Valid p → limit ≡ limitOf p → TallyOf p wanted t → BracketOf p b → BracketOf p r
 
 -- The demands and the copies in all that plan p allows.
 pub record LimitedDemands (p : Plan) (c : Cluster) (demands : List ℕ) (limit : ℕ) : Type 0 where
@@ -124,6 +139,11 @@ pub record ChooseAsked (c : Cluster) (demands : List ℕ) (limit : ℕ) : Type 0
   pub fit : DemandsFit c demands
   pub plan : Plan
   pub limited : LimitedDemands plan c demands limit
+
+-- The needs at this figure are plan p's chosen counts.
+pub record FigureOf (p : Plan) (f : ℕ) : Type 0 where
+  pub reached : reachable p f ≡ true
+  pub counts-are : (i : ℕ) → i < blockCount p → need p f i ≡ chosen p i
 
 -- The profiles of plan p's blocks at the chosen counts, in their ranges, in the place of the demands; the later items stay.
 pub record ChosenProfiles (p : Plan) (c : Cluster) (demands profiles : List ℕ) : Type 0 where

@@ -4,10 +4,9 @@ ghost use mathlib.Core.Path.{_≡_};
 ghost use Prim.Native.Nat.{_<_, _≤_, min, max};
 ghost use lib.Dec.{ltb};
 ghost use Rattle.model.specs.Plan.{Plan};
-ghost use Rattle.model.specs.Replication.{figure};
 ghost use Rattle.theory.specs.Widths.{shareBound};
 ghost use Rattle.cluster.specs.Blocks.{DemandsFit, DemandsOf};
-ghost use Rattle.replication.specs.Choice.{FractionFits, shareAt, ScaleOf, NeedAsked, NeedOf, FigureAsked, TallyFits, TallyOf, ExtentFits, ExtentOf, BracketAsked, BracketFits, NarrowAsked, NarrowedTo, LimitedDemands, ChooseAsked, ChosenProfiles, ChosenAs};
+ghost use Rattle.replication.specs.Choice.{FractionFits, shareAt, NextAsked, NextAs, ScaleOf, NeedAsked, NeedOf, FigureAsked, TallyFits, TallyOf, ExtentFits, ExtentOf, BracketAsked, BracketFits, NarrowAsked, NarrowedTo, LimitedDemands, ChooseAsked, FigureOf, ChosenAs};
 
 // The units in a read.
 const UNIT: u64 = 840;
@@ -29,11 +28,17 @@ struct Fraction {
     count: usize,
 }
 
-// The needs at a figure: their sum, their largest share, and the smallest share of a block with one copy less than its need.
+// The smallest share of a block with one copy less than its need, and how many blocks have it.
+struct NextShare {
+    share: Fraction,
+    blocks: usize,
+}
+
+// The needs at a figure: their sum, the next share, and the sum of the needs there.
 struct Tally {
     total: usize,
-    top: u64,
     next: u64,
+    fewer: usize,
 }
 
 // The largest shares at the upper counts and at the least copies; the sums of the popularities and of the least copies.
@@ -80,6 +85,17 @@ fn share_at(at: Fraction) -> u64
     at.popularity * (UNIT / at.count as u64)
 }
 
+// The larger of a share and another one, which is divided only where it is the larger.
+fn raised(top: u64, share: Fraction) -> u64
+    requires { ⌜ (top < shareBound) × FractionFits share ⌝ }
+    ensures { λ r. ⌜ r ≡ max top (shareAt share) ⌝ }
+{
+    if top * (share.count as u64) < share.popularity * UNIT {
+        return share_at(share);
+    }
+    top
+}
+
 // Shares are compared without a division: by the popularities, each times the other's count.
 fn is_less(a: Fraction, b: Fraction) -> bool
     requires { ⌜ FractionFits a × FractionFits b ⌝ }
@@ -88,25 +104,17 @@ fn is_less(a: Fraction, b: Fraction) -> bool
     a.popularity * (b.count as u64) < b.popularity * (a.count as u64)
 }
 
-// The smaller and the larger of two shares; the first one where they are equal.
-fn smaller_share(a: Fraction, b: Fraction) -> Fraction
-    requires { ⌜ FractionFits a × FractionFits b ⌝ }
-    ensures { λ r. ⌜ FractionFits r × (shareAt r ≡ min (shareAt a) (shareAt b)) ⌝ }
+// The next share with one block more, whose share with one copy less is not above it.
+fn next_with(next: NextShare, share: Fraction) -> NextShare
+    requires { ⌜ NextAsked next share ⌝ }
+    ensures { λ r. ⌜ NextAs next share r ⌝ }
 {
-    if is_less(b, a) {
-        return b;
+    let smallest = next.share;
+    if is_less(share, smallest) {
+        return NextShare { share, blocks: 1 };
     }
-    a
-}
-
-fn larger_share(a: Fraction, b: Fraction) -> Fraction
-    requires { ⌜ FractionFits a × FractionFits b ⌝ }
-    ensures { λ r. ⌜ FractionFits r × (shareAt r ≡ max (shareAt a) (shareAt b)) ⌝ }
-{
-    if is_less(a, b) {
-        return b;
-    }
-    a
+    let blocks = next.blocks + 1;
+    NextShare { share, blocks }
 }
 
 // What a popularity is multiplied by to estimate the copies, in parts, that keep its share within the figure; rounded down.
@@ -139,31 +147,36 @@ fn tally_of(demands: &[u64], cluster: Cluster, wanted: u64) -> Tally
 {
     let scale = scale_of(wanted);
     let mut total: usize = 0;
-    let mut top = Fraction {
-        popularity: 0,
-        count: 1,
-    };
-    let mut next = Fraction {
+    let none = Fraction {
         popularity: POPULARITY_BOUND,
         count: 1,
+    };
+    let mut next = NextShare {
+        share: none,
+        blocks: 0,
     };
     let mut i: usize = 0;
     while i < cluster.blocks {
         let demand = demands[i];
-        let popularity = cluster::popularity_of(demand);
         let count = needed(demand, wanted, scale);
         total += count;
-        top = larger_share(top, Fraction { popularity, count });
         if count > cluster::least_of(demand) {
+            let popularity = cluster::popularity_of(demand);
             let count = count - 1;
-            next = smaller_share(next, Fraction { popularity, count });
+            let share = Fraction { popularity, count };
+            let smallest = next.share;
+            if !is_less(smallest, share) {
+                next = next_with(next, share);
+            }
         }
         i += 1;
     }
+    let fewer = total - next.blocks;
+    let share = next.share;
     Tally {
         total,
-        top: share_at(top),
-        next: share_at(next),
+        next: share_at(share),
+        fewer,
     }
 }
 
@@ -172,11 +185,8 @@ fn extent_of(demands: &[u64], cluster: Cluster) -> Extent
     requires { ⌜ DemandsFit cluster (now demands) ⌝ }
     ensures { λ r. ⌜ ExtentFits cluster r × ((p : Plan) → DemandsOf p cluster (now (demands .entry)) → ExtentOf p r) ⌝ }
 {
-    let mut low = Fraction {
-        popularity: 0,
-        count: 1,
-    };
-    let mut high = low;
+    let mut low: u64 = 0;
+    let mut high: u64 = 0;
     let mut total: u64 = 0;
     let mut copies: usize = 0;
     let mut i: usize = 0;
@@ -184,16 +194,16 @@ fn extent_of(demands: &[u64], cluster: Cluster) -> Extent
         let demand = demands[i];
         let popularity = cluster::popularity_of(demand);
         let count = cluster::most_of(demand);
-        low = larger_share(low, Fraction { popularity, count });
+        low = raised(low, Fraction { popularity, count });
         let count = cluster::least_of(demand);
-        high = larger_share(high, Fraction { popularity, count });
+        high = raised(high, Fraction { popularity, count });
         total += popularity;
         copies += count;
         i += 1;
     }
     Extent {
-        low: share_at(low),
-        high: share_at(high),
+        low,
+        high,
         popularity: total,
         copies,
     }
@@ -219,8 +229,9 @@ fn bracket_of(extent: Extent, limit: usize, blocks: usize) -> Bracket
     }
 }
 
-// The next figure to try: by interpolation, where the needs would use the whole limit if they went with 1 / figure between both ends. At
-// turn 7 it is the middle, so that the bracket is halved whatever the plan is.
+// The next figure to try: by interpolation, where the needs would be half a copy over the limit if they went with 1 / figure between both
+// ends, since the search ends both at the limit and one copy over it. At turn 7 it is the middle, so that the bracket is halved whatever the
+// plan is.
 fn probe(bracket: Bracket) -> u64
     requires { ⌜ BracketFits bracket × (bracket .low < bracket .high) ⌝ }
     ensures { λ r. ⌜ (bracket .low ≤ r) × (r < bracket .high) ⌝ }
@@ -229,8 +240,8 @@ fn probe(bracket: Bracket) -> u64
     if bracket.turn == 7 {
         return bracket.low + range / 2;
     }
-    let over = bracket.low * bracket.over;
-    let both = over + bracket.high * bracket.spare;
+    let over = bracket.low * (2 * bracket.over);
+    let both = over + bracket.high * (2 * bracket.spare + 1);
     let weight = over / (both / 65536 + 1);
     bracket.low + range * weight / 65536
 }
@@ -245,65 +256,79 @@ fn turn_after(turn: u64) -> u64
     turn + 1
 }
 
-// The bracket after a probe: each end moves to a share.
-fn narrowed(bracket: Bracket, tally: Tally, limit: usize) -> Bracket
-    requires { ⌜ NarrowAsked bracket tally limit ⌝ }
-    ensures { λ r. ⌜ NarrowedTo bracket tally limit r ⌝ }
+// The bracket after a probe. The upper end moves to the probe where that is reachable. Else the lower end moves to the next share; where
+// that is reachable it is the least figure, and the bracket closes.
+fn narrowed(bracket: Bracket, wanted: u64, tally: Tally, limit: usize) -> Bracket
+    requires { ⌜ NarrowAsked bracket wanted tally limit ⌝ }
+    ensures { λ r. ⌜ NarrowedTo bracket wanted tally limit r ⌝ }
 {
     let turn = turn_after(bracket.turn);
-    if tally.total > limit {
-        let over = tally.total - limit;
+    if tally.total <= limit {
+        let spare = limit - tally.total;
+        return Bracket {
+            low: bracket.low,
+            high: wanted,
+            over: bracket.over,
+            spare: spare as u64,
+            turn,
+        };
+    }
+    if tally.fewer <= limit {
         return Bracket {
             low: tally.next,
-            high: bracket.high,
-            over: over as u64,
+            high: smaller(tally.next, bracket.high),
+            over: 0,
             spare: bracket.spare,
             turn,
         };
     }
-    let spare = limit - tally.total;
+    let over = tally.fewer - limit;
     Bracket {
-        low: bracket.low,
-        high: tally.top,
-        over: bracket.over,
-        spare: spare as u64,
+        low: tally.next,
+        high: bracket.high,
+        over: over as u64,
+        spare: bracket.spare,
         turn,
     }
 }
 
-// The least figure that feasible counts reach, by bisection. Needs that use the whole limit have it as their largest share.
+// A figure whose needs are the chosen counts, by bisection: the least that is reachable, or one whose needs use the whole limit.
 fn best_figure(demands: &[u64], limit: usize, cluster: Cluster) -> u64
     requires { ⌜ ChooseAsked cluster (now demands) limit ⌝ }
-    ensures { λ r. ⌜ ((p : Plan) → LimitedDemands p cluster (now (demands .entry)) limit → r ≡ figure p) × (r < shareBound) ⌝ }
+    ensures { λ r. ⌜ ((p : Plan) → LimitedDemands p cluster (now (demands .entry)) limit → FigureOf p r) × (r < shareBound) ⌝ }
 {
     let mut bracket = bracket_of(extent_of(demands, cluster), limit, cluster.blocks);
     while bracket.low < bracket.high {
-        let tally = tally_of(demands, cluster, probe(bracket));
+        let wanted = probe(bracket);
+        let tally = tally_of(demands, cluster, wanted);
         if tally.total == limit {
-            return tally.top;
+            return wanted;
         }
-        bracket = narrowed(bracket, tally, limit);
+        bracket = narrowed(bracket, wanted, tally, limit);
     }
     bracket.high
 }
 
-// Puts the blocks' profiles, at the counts within the plan's figure, in the place of their demands.
-fn fill(items: &mut [u64], cluster: Cluster, wanted: u64)
+// Puts the blocks' profiles, at the needs within a figure, in the place of their demands, and answers the largest share.
+fn fill(items: &mut [u64], cluster: Cluster, wanted: u64) -> u64
     requires { ⌜ FigureAsked cluster (now items) wanted ⌝ }
-    ensures { λ r. ⌜ ((p : Plan) → DemandsOf p cluster (now (items .entry)) → wanted ≡ figure p
-        → ChosenProfiles p cluster (now (items .entry)) (now (items .exit))) ⌝ }
+    ensures { λ r. ⌜ ((p : Plan) → DemandsOf p cluster (now (items .entry)) → FigureOf p wanted
+        → ChosenAs p cluster (now (items .entry)) (now (items .exit)) r) ⌝ }
 {
     let scale = scale_of(wanted);
+    let mut top: u64 = 0;
     let mut i: usize = 0;
     while i < cluster.blocks {
         let demand = items[i];
         let popularity = cluster::popularity_of(demand);
         let count = needed(demand, wanted, scale);
         let share = share_at(Fraction { popularity, count });
+        top = larger(top, share);
         let spread = cluster::spread_asked(demand);
         items[i] = cluster::profile(share, count, spread, cluster::link_of(demand));
         i += 1;
     }
+    top
 }
 
 // Puts the blocks' profiles at the chosen counts in the place of their demands, and answers the largest share.
@@ -313,6 +338,5 @@ pub fn choose(items: &mut [u64], limit: usize, cluster: Cluster) -> u64
         → ChosenAs p cluster (now (items .entry)) (now (items .exit)) r) ⌝ }
 {
     let figure = best_figure(items, limit, cluster);
-    fill(items, cluster, figure);
-    figure
+    fill(items, cluster, figure)
 }

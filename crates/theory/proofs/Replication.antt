@@ -5,7 +5,7 @@ use mathlib.Core.Path.{_≡_, refl, ap, sym, _∙_}
 use mathlib.Core.Logic.{_↔_, inl, inr}
 use mathlib.Core.Bool.{Bool, true, false}
 use Prim.Native.Nat.{ℕ, suc, _+_, _*_, _-_, _/_, _%_, _≤_, _<_, _∣_}
-use native.Mathlib.Nat.{mul-comm, zero-div, le-of-mul-le-mul-right, mul-le-mul-left, mul-le-mul-right, div-le-self, dvd-of-mod-eq-zero, dvd-mul-left-of-dvd, pos-of-dvd-of-pos, div-mul-cancel, mul-div-assoc, le-add-right, le-of-eq, le-min, min-le-right, mul-le-mul, le-antisymm, le-trans, le-refl, eq-or-lt-of-le}
+use native.Mathlib.Nat.{mul-comm, zero-div, le-of-mul-le-mul-right, mul-le-mul-left, mul-le-mul-right, div-le-self, dvd-of-mod-eq-zero, dvd-mul-left-of-dvd, pos-of-dvd-of-pos, div-mul-cancel, mul-div-assoc, le-add-right, le-of-eq, lt-of-not-le, le-min, min-le-right, mul-le-mul, le-antisymm, le-trans, le-refl, eq-or-lt-of-le}
 use native.Mathlib.Decide.{decLt, decLe}
 use native.Mathlib.Omega.{arith}
 use borrow.Author.Tests.{eqb-true, leb-true, le-leb}
@@ -109,6 +109,15 @@ pub share-falls : (P j k : ℕ) → 1 ≤ j → j ≤ k → share P k ≤ share 
 unfolding share
 share-falls P j k = div-antitone (P * unit) j k
 
+-- strictly, where it is not 0 and both counts divide the unit
+pub share-strict : (P j k : ℕ) → j ∣ unit → k ∣ unit → j < k → 0 < share P k → share P k < share P j
+share-strict P j k dj dk more pos =
+    lt-of-not-le
+    (λ l.
+    let fewer : share P j * j ≤ share P k * j = mul-le-mul-right j l in
+    let less : share P k * suc j ≤ share P k * k = mul-le-mul-left (share P k) more in
+    omega (arith, share-exact P j dj, share-exact P k dk))
+
 -- a share is at most the whole popularity, and so within its bound
 pub share-whole : (P k : ℕ) → share P k ≤ P * unit
 unfolding share
@@ -191,6 +200,24 @@ module _ (p : Plan) (i : ℕ) (b : ValidBlock p i) (f g : ℕ) (l : f ≤ g) (re
   pub need-same : (blockOf p i .minReplicas < need p f i → g < share (blockOf p i .popularity) (need p f i - 1))
       → need p g i ≡ need p f i
   need-same = need-is p i b g (need p f i) (need-min p i b f) reaches (le-trans (need-within p i b f reaches) l)
+
+module _ (p : Plan) (i : ℕ) (b : ValidBlock p i) (f : ℕ) (reaches : need p f i ≤ upper p i) (more : blockOf p i .minReplicas < need p f i) where
+  -- one copy less than the need is above the figure,
+  pub need-less-above : f < share (blockOf p i .popularity) (need p f i - 1)
+  need-less-above =
+      lt-of-not-le (λ l. let first = need-first p i b f (need p f i - 1) (omega arith) (omega arith) l in omega arith)
+
+  -- and is the need at its own share
+  pub need-less : need p (share (blockOf p i .popularity) (need p f i - 1)) i ≡ need p f i - 1
+  need-less =
+      let P = blockOf p i .popularity in
+      let k = need p f i - 1 in
+      let max = upper-max p i in
+      need-is p i b (share P k) k (omega arith) (omega arith) (le-refl _)
+      (λ l.
+      let least = b .min-pos in
+      share-strict P (k - 1) k (unit-divides _ (omega arith) (omega arith)) (unit-divides _ (omega arith) (omega arith)) (omega arith)
+      (omega (arith, need-less-above)))
 
 -- it goes by the block's popularity, its least copies and its upper count
 need-alike : (p : Plan) (f i j : ℕ) → blockOf p i .popularity ≡ blockOf p j .popularity → blockOf p i .minReplicas ≡ blockOf p j .minReplicas
@@ -304,24 +331,16 @@ module _ (p : Plan) (v : Valid p) where
   pub figure-optimal : (count : ℕ → ℕ) → FeasibleCounts p count → figure p ≤ largestShare p count
   figure-optimal count c = figure-least _ (reachable-counts p v _ count c (le-refl _))
 
-  -- needs that use the whole limit have the figure as their largest share: at a smaller one the block that has it needs a copy more
-  pub figure-full : (f : ℕ) → reachable p f ≡ true → sum (blockCount p) (need p f) ≡ limit p → figure p ≡ largestShare p (need p f)
-  unfolding largestShare
+  -- needs that use the whole limit are those at the figure: they are at most as many, and these are within the limit
+  pub figure-full : (f : ℕ) → reachable p f ≡ true → sum (blockCount p) (need p f) ≡ limit p
+      → (i : ℕ) → i < blockCount p → need p f i ≡ need p (figure p) i
   figure-full f e full =
-      le-antisymm (figure-optimal (need p f) (reachable-feasible p v f e))
-      (largest-le (blockCount p) _ (figure p)
-      (λ i l. rw (same i l) (need-within p i (v .shaped .block i l) (figure p) (in-upper i l))))
+      sum-same (blockCount p) (need p f) (need p (figure p)) fewer
+      (le-trans (reachable-parts p (figure p) .0 figure-reachable .1) (le-of-eq (sym full)))
     where
-      in-upper : (i : ℕ) → i < blockCount p → need p (figure p) i ≤ upper p i
-      in-upper = reachable-parts p (figure p) .0 figure-reachable .0
-
       fewer : (i : ℕ) → i < blockCount p → need p f i ≤ need p (figure p) i
-      fewer i l = need-falls p i (v .shaped .block i l) (figure p) f (figure-least f e) (in-upper i l)
-
-      same : (i : ℕ) → i < blockCount p → need p f i ≡ need p (figure p) i
-      same =
-          sum-same (blockCount p) (need p f) (need p (figure p)) fewer
-          (le-trans (reachable-parts p (figure p) .0 figure-reachable .1) (le-of-eq (sym full)))
+      fewer i l =
+          need-falls p i (v .shaped .block i l) (figure p) f (figure-least f e) (reachable-parts p (figure p) .0 figure-reachable .0 i l)
 
 -- ── chosen ───────────────────────────────────────────────────────────────────────────────────────
 module _ (p : Plan) (v : Valid p) where

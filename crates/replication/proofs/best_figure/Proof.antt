@@ -1,6 +1,6 @@
 -- `replication::best_figure` meets its contract. The loop's invariant: the upper end is reachable, and nothing below the lower end is.
 -- Assumes nothing.
-use mathlib.Core.Path.{sym, _∙_}
+use mathlib.Core.Path.{ap, sym, _∙_}
 use mathlib.Core.List.{List}
 use Prim.Native.Nat.{ℕ, _-_, _*_, _≤_}
 use native.Mathlib.Nat.{le-trans, le-of-eq}
@@ -8,6 +8,7 @@ use native.Mathlib.Omega.{arith}
 use Rattle.order.proofs.Booleans.{not-so}
 use Rattle.model.specs.Plan.{Plan, blockOf, minTotal}
 use Rattle.model.specs.Refusal.{maxMachines, maxCapacity}
+use Rattle.model.specs.Replication.{need, chosen}
 use Rattle.theory.proofs.Replication.{limit-max, feasibleCounts-least, reachable-counts, reachable-upper, figure-by-bisection, figure-full}
 use Rattle.cluster.specs.declared.Cluster.{Cluster}
 use Rattle.replication.specs.Choice.{BracketFits, BracketOf, LimitedDemands, ChooseAsked}
@@ -82,6 +83,7 @@ tally-of-requires c κs =
     }
 
 returns : tie.Need-returns Inv-loop μ-loop
+unfolding chosen
 returns c =
     let counted = c .before .before in
     let at = counted .before .before .before .before in
@@ -89,10 +91,12 @@ returns c =
       λ p of.
           let tally = counted .tally-of .ensures .1 p (of .demands-of) in
           let full = c .if2 .taken ∙ of .limit-is in
-          tally .top-is
-          ∙ sym
-          (figure-full p (of .demands-of .cluster .valid) _ (tally-reached p _ _ tally (le-of-eq full)) (sym (tally .total-is) ∙ full)),
-      omega (arith, counted .tally-of .ensures .0 .top-max, probe .1, at .loop .inv .0 .high-narrow),
+          let reached = tally-reached p _ _ tally (le-of-eq full) in
+          record {
+            reached = reached;
+            counts-are = figure-full p (of .demands-of .cluster .valid) _ reached (sym (tally .total-is) ∙ full);
+          },
+      omega (arith, probe .1, at .loop .inv .0 .high-narrow),
     )
 
 narrowed-requires : tie.Need-narrowed-requires Inv-loop μ-loop
@@ -104,14 +108,15 @@ narrowed-requires c κs =
     let tally = counted .tally-of .ensures .0 in
     record {
       fits = at .loop .inv .0;
-      total-max = omega (arith, tally .total-max, asked .fit .in-range .blocks-max);
+      low-max = probe .0;
+      wanted-less = probe .1;
+      next-above = tally .next-above;
+      fewer-max = omega (arith, tally .fewer-max, tally .total-max, asked .fit .in-range .blocks-max);
       limit-max = limit-here _ _ _ asked;
-      low-less = omega (arith, probe .0, tally .next-above);
-      high-less = omega (arith, probe .1, tally .top-max);
     }
 
 loop-less : tie.Need-loop-less Inv-loop μ-loop
-loop-less c = c .narrowed .ensures .less (c .before .before .before .before .before .if1 .taken)
+loop-less c = c .narrowed .ensures .less
 
 loop-again : tie.Need-loop-again Inv-loop μ-loop
 loop-again c =
@@ -119,16 +124,18 @@ loop-again c =
     let inv = counted .before .before .before .before .loop .inv in (
       c .narrowed .ensures .fits,
       λ p of.
-          c .narrowed .ensures .of p _ (of .demands-of .cluster .valid) (of .limit-is)
+          c .narrowed .ensures .of p (of .demands-of .cluster .valid) (of .limit-is)
           (counted .tally-of .ensures .1 p (of .demands-of)) (inv .1 p of),
     )
 
 returns-2 : tie.Need-returns-2 Inv-loop μ-loop
+unfolding chosen
 returns-2 c =
     let inv = c .before .before .loop .inv in (
       λ p of.
           let at = inv .1 p of in
-          sym (figure-by-bisection p (of .demands-of .cluster .valid) _ (at .reached) (λ f l. at .unreached f (omega arith))),
+          let figure-is = figure-by-bisection p (of .demands-of .cluster .valid) _ (at .reached) (λ f l. at .unreached f (omega arith)) in
+          record { reached = at .reached; counts-are = λ i l. ap (λ (f : ℕ). need p f i) (sym figure-is) },
       inv .0 .high-narrow,
     )
 

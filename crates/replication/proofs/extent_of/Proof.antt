@@ -14,11 +14,11 @@ use Rattle.model.specs.Plan.{Plan, maxReplicas, blockCount, blockOf, upper, min
 use Rattle.model.specs.Refusal.{maxBlocks}
 use Rattle.model.specs.Replication.{share, largestShare}
 use Rattle.theory.specs.Widths.{popularityBound, shareBound}
-use Rattle.theory.proofs.Replication.{share-bound, share-none}
+use Rattle.theory.proofs.Replication.{share-bound}
 use Rattle.cluster.specs.Blocks.{leastIn, mostIn, DemandInRange, DemandsOf}
 use Rattle.cluster.proofs.Laws.{cluster-blocks, demands-popularity, demands-least, demands-most}
-use Rattle.replication.specs.Choice.{FractionFits, shareAt}
-use Rattle.replication.proofs.Laws.{fraction-of, fraction-one}
+use Rattle.replication.specs.Choice.{FractionFits}
+use Rattle.replication.proofs.Laws.{fraction-of}
 use Rattle.replication.proofs.extent_of.Statement.{statement}
 use Rattle.replication.proofs.extent_of.Tie as tie
 
@@ -32,33 +32,19 @@ leastShare p i = share (blockOf p i .popularity) (blockOf p i .minReplicas)
 abbrev Inv-loop : tie.InvT-loop
 Inv-loop demands cluster low₀ high₀ total₀ copies₀ i₀ low high total copies i =
     (i ≤ cluster .blocks)
-    × FractionFits low
-    × (shareAt low < shareBound)
-    × FractionFits high
-    × (shareAt high < shareBound)
+    × (low < shareBound)
+    × (high < shareBound)
     × (total ≤ popularityBound * i)
     × (copies ≤ maxReplicas * i)
     × ((p : Plan) → DemandsOf p cluster demands
-    → (shareAt low ≡ largest i (mostShare p))
-    × (shareAt high ≡ largest i (leastShare p))
-    × (copies ≡ sum i (λ k. blockOf p k .minReplicas)))
+    → (low ≡ largest i (mostShare p)) × (high ≡ largest i (leastShare p)) × (copies ≡ sum i (λ k. blockOf p k .minReplicas)))
 
 abbrev μ-loop : tie.MeasureT-loop
 μ-loop demands cluster low₀ high₀ total₀ copies₀ i₀ low high total copies i = cluster .blocks - i
 
 loop-holds : tie.Need-loop-holds Inv-loop μ-loop
 loop-holds c =
-    let fits = fraction-one 0 (omega arith) in
-    let none = share-none 1 in (
-      omega arith,
-      fits,
-      omega arith,
-      fits,
-      omega arith,
-      omega arith,
-      omega arith,
-      λ p of. (none ∙ sym (largest-zero _), none ∙ sym (largest-zero _), sym (sum-zero _)),
-    )
+    (omega arith, omega arith, omega arith, omega arith, omega arith, λ p of. (sym (largest-zero _), sym (largest-zero _), sym (sum-zero _)))
 
 mul-demand : tie.Need-mul-demand Inv-loop μ-loop
 mul-demand c = omega arith
@@ -87,8 +73,8 @@ module _ (c : tie.After-popularity-of Inv-loop μ-loop) where
   blocks-max : At .before .before .args .cluster .blocks ≤ maxBlocks
   blocks-max = At .before .before .pre .in-range .blocks-max
 
-larger-share-requires : tie.Need-larger-share-requires Inv-loop μ-loop
-larger-share-requires c κs =
+raised-requires : tie.Need-raised-requires Inv-loop μ-loop
+raised-requires c κs =
     let here = c .before in
     (At here .loop .inv .1, fraction-here here _ (rw (c .most-of .ensures) (demand-here here .least-most)) (le-of-eq (c .most-of .ensures)))
 
@@ -99,8 +85,8 @@ least-here c =
     let here = c .before .before .before in
     fraction-here here _ (le-of-eq (sym (c .least-of .ensures))) (rw (c .least-of .ensures) (demand-here here .least-most))
 
-larger-share-requires-2 : tie.Need-larger-share-requires-2 Inv-loop μ-loop
-larger-share-requires-2 c κs = (At (c .before .before .before) .loop .inv .3, least-here c)
+raised-requires-2 : tie.Need-raised-requires-2 Inv-loop μ-loop
+raised-requires-2 c κs = (At (c .before .before .before) .loop .inv .2, least-here c)
 
 add-total : tie.Need-add-total Inv-loop μ-loop
 add-total c = let here = c .before .before .before .before in omega (arith, popularity-here here, blocks-max here)
@@ -123,48 +109,38 @@ loop-again c =
     let l : i < at .before .before .args .cluster .blocks = omega arith in
     let most = c .before .before .before .most-of in
     let least = c .before .least-of in
-    let low = c .before .before .larger-share .ensures in
-    let high = c .larger-share2 .ensures in (
+    let low-is = c .before .before .raised .ensures in
+    let high-is = c .raised2 .ensures in (
       omega arith,
-      low .0,
-      omega (arith, low .1, share-bound _ (most .result) (popularity-here here)),
-      high .0,
-      omega (arith, high .1, share-bound _ (least .result) (popularity-here here)),
+      omega (arith, low-is, share-bound _ (most .result) (popularity-here here)),
+      omega (arith, high-is, share-bound _ (least .result) (popularity-here here)),
       omega (arith, popularity-here here),
       omega (arith, least-here (c .before) .count-max),
       λ p of.
           let popularity-is = here .popularity-of .ensures ∙ demands-popularity p _ _ of i l in
           let least-is = least .ensures ∙ demands-least p _ _ of i l in
           let most-is = most .ensures ∙ demands-most p _ _ of i l in
-          let before = inv .7 p of in (
-            low .1 ∙ ap₂ max (before .0) (ap₂ share popularity-is most-is) ∙ sym (largest-step i (mostShare p)),
-            high .1 ∙ ap₂ max (before .1) (ap₂ share popularity-is least-is) ∙ sym (largest-step i (leastShare p)),
+          let before = inv .5 p of in (
+            low-is ∙ ap₂ max (before .0) (ap₂ share popularity-is most-is) ∙ sym (largest-step i (mostShare p)),
+            high-is ∙ ap₂ max (before .1) (ap₂ share popularity-is least-is) ∙ sym (largest-step i (leastShare p)),
             ap₂ _+_ (before .2) least-is ∙ sym (sum-step i (λ k. blockOf p k .minReplicas)),
           ),
     )
 
-share-at-requires : tie.Need-share-at-requires Inv-loop μ-loop
-share-at-requires c κs = c .before .before .loop .inv .1
-
-share-at-requires-2 : tie.Need-share-at-requires-2 Inv-loop μ-loop
-share-at-requires-2 c κs = c .before .before .before .loop .inv .3
-
 returns : tie.Need-returns Inv-loop μ-loop
 unfolding largestShare minTotal
 returns c =
-    let at = c .before .before .before .before in
-    let inv = at .loop .inv in
-    let low-is = c .before .share-at .ensures in
-    let high-is = c .share-at2 .ensures in (
+    let at = c .before .before in
+    let inv = at .loop .inv in (
       record {
-        low-narrow = rw low-is (inv .2);
-        high-narrow = rw high-is (inv .4);
+        low-narrow = inv .1;
+        high-narrow = inv .2;
         popularity-max = omega arith;
       },
       λ p of.
           let all : at .loop .i ≡ blockCount p = omega (arith, cluster-blocks p _ (of .cluster)) in
-          let passed = rw all at (inv .7 p of) in
-          record { low-is = low-is ∙ passed .0; high-is = high-is ∙ passed .1; copies-is = passed .2 },
+          let passed = rw all at (inv .5 p of) in
+          record { low-is = passed .0; high-is = passed .1; copies-is = passed .2 },
     )
 
 pub extent-of-spec : {M : Type 1} → statement M
@@ -178,14 +154,12 @@ extent-of-spec =
     shared-slice-read-demand
     (λ c κs. tt)
     (λ c κs. tt)
-    larger-share-requires
+    raised-requires
     (λ c κs. tt)
-    larger-share-requires-2
+    raised-requires-2
     add-total
     add-copies
     add-i
     loop-less
     loop-again
-    share-at-requires
-    share-at-requires-2
     returns)

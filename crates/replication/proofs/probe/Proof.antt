@@ -14,21 +14,24 @@ use Rattle.replication.proofs.probe.Tie as tie
 
 module _ (b : Bracket) (asked : BracketFits b × (b .low < b .high)) where
   abbrev over : ℕ
-  over = b .low * b .over
+  over = b .low * (2 * b .over)
 
   abbrev both : ℕ
-  both = over + b .high * b .spare
+  both = over + b .high * (2 * b .spare + 1)
 
   abbrev weight : ℕ
   weight = over / (both / 65536 + 1)
 
-  over-max : over ≤ shareBound * (maxMachines * maxCapacity)
+  over-max : over ≤ shareBound * (2 * (maxMachines * maxCapacity))
   over-max =
       let narrow : b .low ≤ shareBound = omega (arith, asked .0 .high-narrow, asked .1) in
-      mul-le-mul narrow (asked .0 .over-max)
+      mul-le-mul narrow (mul-le-mul-left 2 (asked .0 .over-max))
 
-  spare-max : b .high * b .spare ≤ shareBound * (maxMachines * maxCapacity)
-  spare-max = let narrow : b .high ≤ shareBound = omega (arith, asked .0 .high-narrow) in mul-le-mul narrow (asked .0 .spare-max)
+  spare-max : b .high * (2 * b .spare + 1) ≤ shareBound * (2 * (maxMachines * maxCapacity) + 1)
+  spare-max =
+      let narrow : b .high ≤ shareBound = omega (arith, asked .0 .high-narrow) in
+      let twice : 2 * b .spare + 1 ≤ 2 * (maxMachines * maxCapacity) + 1 = omega (arith, asked .0 .spare-max) in
+      mul-le-mul narrow twice
 
   weight-below : weight < 65536
   weight-below = div-lt-iff-lt-mul {k = both / 65536 + 1} (omega arith) .1 (omega arith)
@@ -47,28 +50,37 @@ returns : tie.Need-returns
 returns c = search needs
 
 mul-over : tie.Need-mul-over
-mul-over c = omega (arith, over-max _ (c .before .before .before .before .pre))
+mul-over c = omega (arith, c .before .before .before .before .pre .0 .over-max)
+
+mul-over-2 : tie.Need-mul-over-2
+mul-over-2 c = omega (arith, over-max _ (c .before .before .before .before .before .pre))
 
 mul-both : tie.Need-mul-both
-mul-both c = let asked = c .before .before .before .before .before .pre in omega (arith, over-max _ asked, spare-max _ asked)
+mul-both c = omega (arith, c .before .before .before .before .before .before .pre .0 .spare-max)
 
 add-both : tie.Need-add-both
-add-both c = let asked = c .before .before .before .before .before .pre in omega (arith, over-max _ asked, spare-max _ asked)
+add-both c = omega (arith, c .before .before .before .before .before .before .pre .0 .spare-max)
+
+mul-both-2 : tie.Need-mul-both-2
+mul-both-2 c = omega (arith, spare-max _ (c .before .before .before .before .before .before .before .pre))
+
+add-both-2 : tie.Need-add-both-2
+add-both-2 c = let asked = c .before .before .before .before .before .before .before .pre in omega (arith, over-max _ asked, spare-max _ asked)
 
 add-weight : tie.Need-add-weight
-add-weight c = let asked = c .before .before .before .before .before .pre in omega (arith, over-max _ asked, spare-max _ asked)
+add-weight c = let asked = c .before .before .before .before .before .before .before .pre in omega (arith, over-max _ asked, spare-max _ asked)
 
 div-weight : tie.Need-div-weight
 div-weight c = search needs
 
 mul-result : tie.Need-mul-result
-mul-result c = let asked = c .before .before .before .before .before .pre in omega (arith, way-max _ asked)
+mul-result c = let asked = c .before .before .before .before .before .before .before .pre in omega (arith, way-max _ asked)
 
 add-result-2 : tie.Need-add-result-2
-add-result-2 c = let asked = c .before .before .before .before .before .before .pre in omega (arith, way-max _ asked)
+add-result-2 c = let asked = c .before .before .before .before .before .before .before .before .pre in omega (arith, way-max _ asked)
 
 returns-2 : tie.Need-returns-2
-returns-2 c = let way = way-max _ (c .before .before .before .before .before .before .pre) in (omega arith, omega arith)
+returns-2 c = let way = way-max _ (c .before .before .before .before .before .before .before .before .pre) in (omega arith, omega arith)
 
 pub probe-spec : {M : Type 1} → statement M
 probe-spec =
@@ -78,8 +90,11 @@ probe-spec =
     add-result
     returns
     mul-over
+    mul-over-2
     mul-both
     add-both
+    mul-both-2
+    add-both-2
     add-weight
     div-weight
     mul-result

@@ -1,64 +1,127 @@
--- `replication::tally_of` meets its contract. The loop's invariant: the sum and the largest share of the needs passed; below the smallest
--- share of one copy less they stay as they are.
+-- `replication::tally_of` meets its contract. The loop's invariant: the sum of the needs passed; below the smallest share of one copy less
+-- they stay as they are, and there each block that has it needs one copy less.
 -- Assumes nothing.
 use mathlib.Core.Path.{_≡_, ap, ap₂, sym, subst, _∙_}
 use mathlib.Core.List.{List}
-use mathlib.Core.Logic.{⊎-elim}
-use Prim.Native.Nat.{ℕ, _+_, _-_, _*_, _<_, _≤_, min, max}
-use native.Mathlib.Nat.{le-refl}
+use mathlib.Core.Logic.{inl, inr, ⊎-elim}
+use Prim.Native.Nat.{ℕ, suc, _+_, _-_, _*_, _<_, _≤_, min}
+use native.Mathlib.Nat.{le-refl, le-of-lt, eq-or-lt-of-le, min-eq-left, min-eq-right}
+use native.Mathlib.Decide.{decLt}
 use native.Mathlib.Omega.{arith}
 use borrow.Author.Count.{below-none, below-more}
+use borrow.Author.Tests.{ltb-true, ltb-false, not-true, not-false}
 use denote.Ref.{now}
 use lib.ListN.{getD}
 use Rattle.order.specs.Search.{largest}
 use Rattle.order.specs.Sum.{sum}
 use Rattle.order.proofs.Extremes.{largest-step, largest-zero}
-use Rattle.order.proofs.Sums.{sum-zero, sum-step}
+use Rattle.order.proofs.Sums.{sum-zero, sum-step, sum-cong}
 use Rattle.model.specs.Plan.{Plan, maxReplicas, blockCount, blockOf, upper}
-use Rattle.model.specs.Replication.{share, largestShare, need}
+use Rattle.model.specs.Refusal.{maxBlocks}
+use Rattle.model.specs.Replication.{share, need}
 use Rattle.theory.specs.Widths.{popularityBound}
-use Rattle.theory.proofs.Replication.{share-none, need-same}
+use Rattle.theory.specs.Refusal.{ValidBlock}
+use Rattle.theory.proofs.Replication.{need-same, need-less, need-less-above}
 use Rattle.cluster.specs.declared.Cluster.{Cluster}
 use Rattle.cluster.specs.Blocks.{popularityIn, leastIn, DemandInRange, DemandsOf}
 use Rattle.cluster.proofs.Laws.{cluster-blocks, cluster-block, demands-popularity, demands-least}
 use Rattle.replication.specs.declared.Fraction.{Fraction}
-use Rattle.replication.specs.Choice.{FractionFits, shareAt, NeedOf}
+use Rattle.replication.specs.declared.NextShare.{NextShare}
+use Rattle.replication.specs.Choice.{FractionFits, shareAt, NextAs}
 use Rattle.replication.proofs.Laws.{fraction-of, fraction-one, share-one, need-of}
 use Rattle.replication.proofs.tally_of.Statement.{statement}
 use Rattle.replication.proofs.tally_of.Tie as tie
-
--- block i's share at its need
-abbrev needShare : Plan → ℕ → ℕ → ℕ
-needShare p wanted i = share (blockOf p i .popularity) (need p wanted i)
 
 -- block i's need is lawful, and the same for a figure from `wanted` on and below `next`
 abbrev Stays : Plan → ℕ → ℕ → ℕ → Type 0
 Stays p wanted next i = (need p wanted i ≤ upper p i) × ((f : ℕ) → wanted ≤ f → f < next → need p f i ≡ need p wanted i)
 
--- so it is where `next` is not above the share of one copy less than the count found
-stays : (p : Plan) (c : Cluster) (demands : List ℕ) → DemandsOf p c demands → (i wanted r next : ℕ) → i < c .blocks
-    → let demand = getD demands i 0 in
-    NeedOf demand wanted r → (leastIn demand < r → next ≤ share (popularityIn demand) (r - 1)) → Stays p wanted next i
-stays p c demands of i wanted r next l found less =
-    let block = cluster-block p c (of .cluster) i l in
-    let here = need-of p c demands of i wanted r l found in
-    let in-upper = rw (here .0) at (here .1) in
-    let less-here = rw (demands-popularity p c demands of i l, demands-least p c demands of i l, here .0) at less in
-    (in-upper, λ f from end. need-same p i block wanted f from in-upper (λ more. omega (arith, less-here more)))
+-- the needs of the blocks passed, at the next share and below it
+pub record Passed (p : Plan) (wanted next blocks total i : ℕ) : Type 0 where
+  pub total-is : total ≡ sum i (need p wanted)
+  pub stays : (k : ℕ) → k < i → Stays p wanted next k
+  pub fewer-is : sum i (need p next) + blocks ≡ total
+
+module _ (p : Plan) (wanted i next blocks total : ℕ) (block : ValidBlock p i) (passed : Passed p wanted next blocks total i) where
+  abbrev count : ℕ
+  count = need p wanted i
+
+  -- the share of one copy less
+  abbrev less : ℕ
+  less = share (blockOf p i .popularity) (count - 1)
+
+  -- the next block, which needs as many copies at the next share, or fewer
+  passed-step : (next' blocks' : ℕ) → next' ≤ next → Stays p wanted next' i → sum i (need p next') + need p next' i + blocks' ≡ total + count
+      → Passed p wanted next' blocks' (total + count) (i + 1)
+  passed-step next' blocks' down here fewer =
+      record {
+        total-is = ap (λ (x : ℕ). x + count) (passed .total-is) ∙ sym (sum-step i (need p wanted));
+        stays = below-more _ i
+            (λ k l. let before = passed .stays k l in (before .0, λ f from end. before .1 f from (omega arith)))
+            here;
+        fewer-is = ap (λ (x : ℕ). x + blocks') (sum-step i (need p next')) ∙ fewer;
+      }
+
+  module _ (in-upper : count ≤ upper p i) (from : wanted < next) where
+    -- a block that has its least copies keeps them
+    passed-least : count ≤ blockOf p i .minReplicas → Passed p wanted next blocks (total + count) (i + 1)
+    passed-least few =
+        let same : (f : ℕ) → wanted ≤ f → need p f i ≡ count =
+        λ f l. need-same p i block wanted f l in-upper (λ more. absurd (omega arith))
+        in
+        passed-step next blocks (le-refl _) (in-upper, λ f l end. same f l)
+        (omega (arith, same next (omega arith), passed .fewer-is))
+
+    module _ (more : blockOf p i .minReplicas < count) where
+      above : wanted < less
+      above = need-less-above p i block wanted in-upper more
+
+      -- up to the share of one copy less its need stays, and there it is one less
+      same-below : (f : ℕ) → wanted ≤ f → f < less → need p f i ≡ count
+      same-below f l below = need-same p i block wanted f l in-upper (λ m. below)
+
+      one-less : need p less i ≡ count - 1
+      one-less = need-less p i block wanted in-upper more
+
+      -- that share, where it is the smallest
+      passed-replaced : less < next → Passed p wanted less 1 (total + count) (i + 1)
+      passed-replaced l =
+          let before = sum-cong i (need p less) (need p wanted) (λ k k-in. passed .stays k k-in .1 less (omega (arith, above)) l) in
+          passed-step less 1 (omega arith) (in-upper, same-below)
+          (omega (arith, before, one-less, passed .total-is))
+
+      passed-tied : next ≡ less → Passed p wanted next (suc blocks) (total + count) (i + 1)
+      passed-tied e =
+          let here : need p next i ≡ count - 1 = rw e one-less in
+          passed-step next (suc blocks) (le-refl _) (in-upper, λ f l end. same-below f l (rw e at end))
+          (omega (arith, here, passed .fewer-is))
+
+      passed-kept : next < less → Passed p wanted next blocks (total + count) (i + 1)
+      passed-kept l =
+          passed-step next blocks (le-refl _) (in-upper, λ f from end. same-below f from (omega arith))
+          (omega (arith, same-below next (omega arith) l, passed .fewer-is))
+
+      -- one of the two, where it is not above the next share
+      passed-more : (next' blocks' : ℕ) → less ≤ next → next' ≡ less → (less ≡ next → blocks' ≡ suc blocks) → (less < next → blocks' ≡ 1)
+          → Passed p wanted next' blocks' (total + count) (i + 1)
+      passed-more next' blocks' at-most is tied replaced =
+          elim (eq-or-lt-of-le at-most) [
+            | inl e ↦ rw (is ∙ e, tied e) (passed-tied (sym e))
+            | inr l ↦ rw (is, replaced l) (passed-replaced l)
+          ]
 
 abbrev Inv-loop : tie.InvT-loop
-Inv-loop demands cluster wanted scale total₀ top₀ next₀ i₀ total top next i =
+Inv-loop demands cluster wanted scale total₀ next₀ i₀ total next i =
     (i ≤ cluster .blocks)
     × (total ≤ maxReplicas * i)
-    × FractionFits top
-    × (shareAt top ≤ wanted)
-    × FractionFits next
-    × (wanted < shareAt next)
-    × ((p : Plan) → DemandsOf p cluster demands
-    → (total ≡ sum i (need p wanted)) × (shareAt top ≡ largest i (needShare p wanted)) × ((k : ℕ) → k < i → Stays p wanted (shareAt next) k))
+    × (next .blocks ≤ i)
+    × (next .blocks ≤ total)
+    × FractionFits (next .share)
+    × (wanted < shareAt (next .share))
+    × ((p : Plan) → DemandsOf p cluster demands → Passed p wanted (shareAt (next .share)) (next .blocks) total i)
 
 abbrev μ-loop : tie.MeasureT-loop
-μ-loop demands cluster wanted scale total₀ top₀ next₀ i₀ total top next i = cluster .blocks - i
+μ-loop demands cluster wanted scale total₀ next₀ i₀ total next i = cluster .blocks - i
 
 scale-of-requires : tie.Need-scale-of-requires Inv-loop μ-loop
 scale-of-requires c κs = c .before .pre .wanted-narrow
@@ -67,11 +130,11 @@ loop-holds : tie.Need-loop-holds Inv-loop μ-loop
 loop-holds c = (
   omega arith,
   omega arith,
-  fraction-one 0 (omega arith),
-  omega (arith, share-none 1),
+  omega arith,
+  omega arith,
   fraction-one popularityBound (le-refl _),
   omega (arith, share-one popularityBound, c .before .before .pre .wanted-narrow),
-  λ p of. (sym (sum-zero _), share-none 1 ∙ sym (largest-zero _), below-none _),
+  λ p of. record { total-is = sym (sum-zero _); stays = below-none _; fewer-is = omega (arith, sum-zero (need p (share popularityBound 1))) },
 )
 
 mul-demand : tie.Need-mul-demand Inv-loop μ-loop
@@ -80,48 +143,74 @@ mul-demand c = omega arith
 shared-slice-read-demand : tie.Need-shared-slice-read-demand Inv-loop μ-loop
 shared-slice-read-demand c = omega (arith, c .before .before .before .before .before .before .pre .fit .room)
 
--- the block's demand is in its ranges
-demand-here : (c : tie.After-popularity-of Inv-loop μ-loop)
-    → DemandInRange (getD (now (c .before .before .before .before .before .before .before .args .demands)) (c .before .before .before .before .loop .i) 0)
-demand-here c = c .before .before .before .before .before .before .before .pre .fit .each _ (omega arith)
-
 needed-requires : tie.Need-needed-requires Inv-loop μ-loop
 needed-requires c κs =
-    let at = c .before .before .before .before in
+    let at = c .before .before .before in
     let asked = at .before .before .before .pre in
     record {
-      in-range = demand-here c;
+      in-range = asked .fit .each _ (omega arith);
       wanted-narrow = asked .wanted-narrow;
       scale-of = at .before .scale-of .ensures;
       most-within = asked .most-within (at .loop .i) (omega arith);
     }
 
--- the count found is from 1 to the most copies
-count-range : (c : tie.After-needed Inv-loop μ-loop) → (1 ≤ c .needed .result) × (c .needed .result ≤ maxReplicas)
-count-range c =
-    let d = demand-here (c .before) in
-    let found = c .needed .ensures in
-    (omega (arith, found .low), omega (arith, found .high))
+-- the block's demand is in its ranges, and the count found is from 1 to the most copies
+module _ (c : tie.After-needed Inv-loop μ-loop) where
+  abbrev At : tie.At-loop Inv-loop μ-loop
+  At = c .before .before .before .before
+
+  abbrev demand : ℕ
+  demand = getD (now (At .before .before .before .args .demands)) (At .loop .i) 0
+
+  demand-here : DemandInRange demand
+  demand-here = At .before .before .before .pre .fit .each _ (omega arith)
+
+  count-range : (1 ≤ c .needed .result) × (c .needed .result ≤ maxReplicas)
+  count-range =
+      let d = demand-here in
+      let found = c .needed .ensures in
+      (omega (arith, found .low, d .least-pos), omega (arith, found .high, d .most-max))
+
+  blocks-max : At .before .before .before .args .cluster .blocks ≤ maxBlocks
+  blocks-max = At .before .before .before .pre .fit .in-range .blocks-max
 
 add-total : tie.Need-add-total Inv-loop μ-loop
-add-total c = omega (arith, count-range c .1, c .before .before .before .before .before .before .before .before .pre .fit .in-range .blocks-max)
-
-larger-share-requires : tie.Need-larger-share-requires Inv-loop μ-loop
-larger-share-requires c κs =
-    let at = c .before .before .before .before .before in
-    (at .loop .inv .2, fraction-of _ _ _ (demand-here (c .before)) (c .before .popularity-of .ensures) (count-range c .0) (c .needed .ensures .high))
+add-total c = omega (arith, count-range c .1, blocks-max c)
 
 sub-count : tie.Need-sub-count Inv-loop μ-loop
 sub-count c = omega arith
 
-smaller-share-requires : tie.Need-smaller-share-requires Inv-loop μ-loop
-smaller-share-requires c κs =
-    let found = c .before .before .before in
-    let at = found .before .before .before .before .before in
-    let d = demand-here (found .before) in (
-      at .loop .inv .4,
-      fraction-of _ _ _ d (found .before .popularity-of .ensures) (omega (arith, d .least-pos)) (omega (arith, found .needed .ensures .high)),
-    )
+-- one copy less is a count, too
+less-fits : (c : tie.After-popularity-of Inv-loop μ-loop)
+    → FractionFits record { popularity = c .popularity-of .result; count = c .before .before .before .needed .result - 1 }
+less-fits c =
+    let least = c .before .before in
+    let here = least .before in
+    let d = demand-here here in
+    fraction-of _ _ _ d (c .popularity-of .ensures)
+    (omega (arith, c .before .if2 .taken, least .least-of .ensures, d .least-pos))
+    (omega (arith, here .needed .ensures .high))
+
+is-less-requires : tie.Need-is-less-requires Inv-loop μ-loop
+is-less-requires c κs = (At (c .before .before .before .before) .loop .inv .4, less-fits (c .before))
+
+-- where the test says so, its share is not above the next one
+less-most : (c : tie.Then3 Inv-loop μ-loop)
+    → share (c .before .before .before .popularity-of .result) (c .before .before .before .before .before .before .needed .result - 1)
+    ≤ shareAt (At (c .before .before .before .before .before .before) .loop .next .share)
+less-most c = ltb-false _ _ (sym (c .before .is-less .ensures) ∙ not-true _ (c .if3 .taken))
+
+next-with-requires : tie.Need-next-with-requires Inv-loop μ-loop
+next-with-requires c κs =
+    let popular = c .before .before .before in
+    let here = popular .before .before .before in
+    let inv = At here .loop .inv in
+    record {
+      next-fits = inv .4;
+      share-fits = less-fits popular;
+      share-max = less-most c;
+      blocks-room = omega (arith, inv .2, blocks-max here);
+    }
 
 add-i : tie.Need-add-i Inv-loop μ-loop
 add-i c = omega arith
@@ -129,88 +218,138 @@ add-i c = omega arith
 loop-less : tie.Need-loop-less Inv-loop μ-loop
 loop-less c = omega arith
 
--- what a turn makes of the top and of the next share
+-- what a turn makes of the next share
 module _ (c : tie.Joined2 Inv-loop μ-loop) where
-  abbrev At : tie.At-loop Inv-loop μ-loop
-  At = c .before .before .before .before .before .before .before .before
+  abbrev Here : tie.After-needed Inv-loop μ-loop
+  Here = c .before .before
 
-  abbrev demand : ℕ
-  demand = getD (now (At .before .before .before .args .demands)) (At .loop .i) 0
+  abbrev Loop : tie.At-loop Inv-loop μ-loop
+  Loop = At Here
 
-  abbrev count : ℕ
-  count = c .before .before .before .needed .result
+  abbrev found : ℕ
+  found = Here .needed .result
 
-  popularity-is : c .before .before .before .before .popularity-of .result ≡ popularityIn demand
-  popularity-is = c .before .before .before .before .popularity-of .ensures
+  i-below : Loop .loop .i < Loop .before .before .before .args .cluster .blocks
+  i-below = omega arith
 
-  -- a share that may stand for the next one after the turn
-  abbrev IsNext : Fraction → Type 0
-  IsNext f =
-      FractionFits f
-      × (At .before .before .before .args .wanted < shareAt f)
-      × (shareAt f ≤ shareAt (At .loop .next))
-      × (leastIn demand < count → shareAt f ≤ share (popularityIn demand) (count - 1))
+  abbrev IsNext : NextShare → Type 0
+  IsNext next =
+      (next .blocks ≤ suc (Loop .loop .next .blocks))
+      × FractionFits (next .share)
+      × (Loop .before .before .before .args .wanted < shareAt (next .share))
+      × ((p : Plan) → let a = Loop .before .before .before .args in
+      DemandsOf p (a .cluster) (now (a .demands))
+      → Passed p (a .wanted) (shareAt (next .share)) (next .blocks) (Loop .loop .total + found) (Loop .loop .i + 1))
+
+  -- the count found is the block's need
+  module _ (p : Plan) (of : DemandsOf p (Loop .before .before .before .args .cluster) (now (Loop .before .before .before .args .demands))) where
+    block : ValidBlock p (Loop .loop .i)
+    block = cluster-block p _ (of .cluster) _ i-below
+
+    need-here : found ≡ need p (Loop .before .before .before .args .wanted) (Loop .loop .i)
+    need-here = need-of p _ _ of _ _ _ i-below (Here .needed .ensures) .0
+
+    in-upper : need p (Loop .before .before .before .args .wanted) (Loop .loop .i) ≤ upper p (Loop .loop .i)
+    in-upper = rw (← need-here) (need-of p _ _ of _ _ _ i-below (Here .needed .ensures) .1)
+
+    least-here : c .before .least-of .result ≡ blockOf p (Loop .loop .i) .minReplicas
+    least-here = c .before .least-of .ensures ∙ demands-least p _ _ of _ i-below
 
   next-is : IsNext (c .if2 .next)
   next-is =
-      let inv = At .loop .inv in
+      let inv = Loop .loop .inv in
+      let wanted = Loop .before .before .before .args .wanted in
+      let total = Loop .loop .total in
+      let i = Loop .loop .i in
       ⊎-elim
       (λ w.
-      let less-is = w .1 .ensures .1 ∙ ap (λ (P : ℕ). min (shareAt (At .loop .next)) (share P (count - 1))) popularity-is in
-      let above = c .before .before .before .needed .ensures .less-above (omega arith) in
-      subst IsNext (sym (w .2)) (w .1 .ensures .0, omega arith, omega arith, λ l. omega arith))
-      (λ w. subst IsNext (sym (w .1)) (inv .4, inv .5, le-refl _, λ l. absurd (omega arith)))
+      let popular : tie.After-popularity-of Inv-loop μ-loop =
+      record { before = record { before = c .before; if2 = w .0 }; popularity-of = w .1 }
+      in
+      let at-most =
+      less-most (record { before = record { before = record { before = popular; smallest = w .2 }; is-less = w .3 }; if3 = w .4 })
+      in
+      let joined = w .5 .ensures in
+      let above = Here .needed .ensures .less-above (omega (arith, w .0 .taken, c .before .least-of .ensures)) in
+      let less-is = ap (λ (P : ℕ). share P (found - 1)) (w .1 .ensures) in
+      subst IsNext (sym (w .6)) (
+        elim (eq-or-lt-of-le at-most) [ inl e ↦ omega (arith, joined .tied e) | inr l ↦ omega (arith, joined .replaced l) ],
+        rw (joined .share-is) (less-fits popular),
+        rw (joined .share-is) (omega (arith, above, less-is)),
+        λ p of.
+            let same = ap₂ (λ (P k : ℕ). share P (k - 1)) (w .1 .ensures ∙ demands-popularity p _ _ of i i-below) (need-here p of) in
+            subst (λ (k : ℕ). Passed p wanted (shareAt (w .5 .result .share)) (w .5 .result .blocks) (total + k) (i + 1))
+            (sym (need-here p of))
+            (passed-more p wanted i _ _ total (block p of) (inv .6 p of) (in-upper p of) (inv .5)
+            (omega (arith, w .0 .taken, least-here p of, need-here p of)) _ _
+            (omega (arith, at-most, same))
+            (ap shareAt (joined .share-is) ∙ same)
+            (λ e. joined .tied (same ∙ e))
+            (λ l. joined .replaced (omega (arith, same)))),
+      ))
+      (⊎-elim
+      (λ w.
+      subst IsNext (sym (w .5)) (
+        omega arith,
+        inv .4,
+        inv .5,
+        λ p of.
+            let same = ap₂ (λ (P k : ℕ). share P (k - 1)) (w .1 .ensures ∙ demands-popularity p _ _ of i i-below) (need-here p of) in
+            let kept = ltb-true (shareAt (Loop .loop .next .share)) (share (w .1 .result) (found - 1)) (sym (w .3 .ensures) ∙ not-false _ (w .4 .left)) in
+            subst (λ (k : ℕ). Passed p wanted (shareAt (Loop .loop .next .share)) (Loop .loop .next .blocks) (total + k) (i + 1))
+            (sym (need-here p of))
+            (passed-kept p wanted i _ _ total (block p of) (inv .6 p of) (in-upper p of) (inv .5)
+            (omega (arith, w .0 .taken, least-here p of, need-here p of))
+            (omega (arith, kept, same))),
+      ))
+      (λ w.
+      subst IsNext (sym (w .1)) (
+        omega arith,
+        inv .4,
+        inv .5,
+        λ p of.
+            subst (λ (k : ℕ). Passed p wanted (shareAt (Loop .loop .next .share)) (Loop .loop .next .blocks) (total + k) (i + 1))
+            (sym (need-here p of))
+            (passed-least p wanted i _ _ total (block p of) (inv .6 p of) (in-upper p of) (inv .5)
+            (omega (arith, w .0 .left, least-here p of, need-here p of))),
+      )))
       (c .if2 .came)
 
 loop-again : tie.Need-loop-again Inv-loop μ-loop
 loop-again c =
-    let at = At c in
-    let i = at .loop .i in
-    let inv = at .loop .inv in
-    let l : i < at .before .before .before .args .cluster .blocks = omega arith in
-    let found = c .before .before .before .needed .ensures in
-    let larger = c .before .before .larger-share .ensures in
-    let top-is = larger .1 ∙ ap (λ (P : ℕ). max (shareAt (at .loop .top)) (share P (count c))) (popularity-is c) in
+    let here = Here c in
+    let inv = Loop c .loop .inv in
+    let range = count-range here in
     let next = next-is c in (
       omega arith,
-      omega (arith, count-range (c .before .before .before) .1),
-      larger .0,
-      omega (arith, top-is, found .within),
-      next .0,
+      omega (arith, range .1),
+      omega (arith, next .0, inv .2),
+      omega (arith, next .0, inv .3, range .0),
       next .1,
-      λ p of.
-          let passed = inv .6 p of in
-          let need-is = need-of p _ _ of i _ _ l found .0 in (
-            ap₂ _+_ (passed .0) need-is ∙ sym (sum-step i (need p _)),
-            top-is ∙ ap₂ max (passed .1) (ap₂ share (demands-popularity p _ _ of i l) need-is) ∙ sym (largest-step i (needShare p _)),
-            below-more _ i
-                (λ k below. (passed .2 k below .0, λ f from end. passed .2 k below .1 f from (omega (arith, next .2))))
-                (stays p _ _ of i _ _ _ l found (next .3)),
-          ),
+      next .2,
+      next .3,
     )
 
-share-at-requires : tie.Need-share-at-requires Inv-loop μ-loop
-share-at-requires c κs = c .before .before .loop .inv .2
+sub-fewer : tie.Need-sub-fewer Inv-loop μ-loop
+sub-fewer c = c .before .before .before .loop .inv .3
 
-share-at-requires-2 : tie.Need-share-at-requires-2 Inv-loop μ-loop
-share-at-requires-2 c κs = c .before .before .before .loop .inv .4
+share-at-requires : tie.Need-share-at-requires Inv-loop μ-loop
+share-at-requires c κs = c .before .before .before .before .loop .inv .4
 
 returns : tie.Need-returns Inv-loop μ-loop
-unfolding largestShare
 returns c =
-    let at = c .before .before .before .before in
+    let at = c .before .before .before .before .before in
     let inv = at .loop .inv in
-    let top-is = c .before .share-at .ensures in
-    let next-is = c .share-at2 .ensures in (
-      record { total-max = omega arith; top-max = rw top-is (inv .3); next-above = rw next-is (inv .5) },
+    let next-is = c .share-at .ensures in (
+      record { total-max = omega arith; fewer-max = omega arith; next-above = rw next-is (inv .5) },
       λ p of.
           let all : at .loop .i ≡ blockCount p = omega (arith, cluster-blocks p _ (of .cluster)) in
           let passed = rw all at (inv .6 p of) in
           record {
-            total-is = passed .0;
-            top-is = top-is ∙ passed .1;
-            in-upper = λ i l. passed .2 i l .0;
-            same = λ f from below i l. passed .2 i l .1 f from (rw next-is at below);
+            total-is = passed .total-is;
+            in-upper = λ i l. passed .stays i l .0;
+            same = λ f from below i l. passed .stays i l .1 f from (rw next-is at below);
+            fewer-is = rw next-is (omega (arith, passed .fewer-is));
           },
     )
 
@@ -224,16 +363,16 @@ tally-of-spec =
     loop-holds
     mul-demand
     shared-slice-read-demand
-    (λ c κs. tt)
     needed-requires
     add-total
-    larger-share-requires
+    (λ c κs. tt)
     (λ c κs. tt)
     sub-count
-    smaller-share-requires
+    is-less-requires
+    next-with-requires
     add-i
     loop-less
     loop-again
+    sub-fewer
     share-at-requires
-    share-at-requires-2
     returns)
