@@ -292,12 +292,17 @@ fn narrowed(bracket: Bracket, wanted: u64, tally: Tally, limit: usize) -> Bracke
     }
 }
 
-// A figure whose needs are the chosen counts, by bisection: the least that is reachable, or one whose needs use the whole limit.
+// A figure whose needs are the chosen counts, by bisection: the least that is reachable, or one whose needs use the whole limit. Where the
+// least copies do, no other figure is tried.
 fn best_figure(demands: &[u64], limit: usize, cluster: Cluster) -> u64
     requires { ⌜ ChooseAsked cluster (now demands) limit ⌝ }
     ensures { λ r. ⌜ ((p : Plan) → LimitedDemands p cluster (now (demands .entry)) limit → FigureOf p r) × (r < shareBound) ⌝ }
 {
-    let mut bracket = bracket_of(extent_of(demands, cluster), limit, cluster.blocks);
+    let extent = extent_of(demands, cluster);
+    if extent.copies == limit {
+        return extent.high;
+    }
+    let mut bracket = bracket_of(extent, limit, cluster.blocks);
     while bracket.low < bracket.high {
         let wanted = probe(bracket);
         let tally = tally_of(demands, cluster, wanted);

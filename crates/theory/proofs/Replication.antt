@@ -177,6 +177,10 @@ module _ (p : Plan) (i : ℕ) (b : ValidBlock p i) (f : ℕ) where
       let h = least-first (enough p f i) (room p i) (k - blockOf p i .minReplicas) (omega arith) here in
       omega arith
 
+  -- the least copies, where they keep the share within f
+  pub need-enough : share (blockOf p i .popularity) (blockOf p i .minReplicas) ≤ f → need p f i ≡ blockOf p i .minReplicas
+  need-enough l = le-antisymm (need-first (blockOf p i .minReplicas) (le-refl _) (b .min-upper) l) need-min
+
   -- a count within f, where one copy less would be above it
   pub need-is : (k : ℕ) → blockOf p i .minReplicas ≤ k → k ≤ upper p i → share (blockOf p i .popularity) k ≤ f
       → (blockOf p i .minReplicas < k → f < share (blockOf p i .popularity) (k - 1))
@@ -369,11 +373,7 @@ module _ (p : Plan) (v : Valid p) where
         figure-is = le-antisymm most (figure-optimal p v _ feasible);
         within = λ i l. le-trans (largestShare-term p (chosen p) i l) most;
         smallest-count = λ i k l. need-first p i (v .shaped .block i l) (figure p) k;
-        unpopular = λ i l none.
-            let b = v .shaped .block i l in
-            le-antisymm
-            (need-first p i b (figure p) (blockOf p i .minReplicas) (le-refl _) (b .min-upper) (rw (none, share-none) (omega arith)))
-            (need-min p i b (figure p));
+        unpopular = λ i l none. need-enough p i (v .shaped .block i l) (figure p) (rw (none, share-none) (omega arith));
         even = chosen-even;
       }
 

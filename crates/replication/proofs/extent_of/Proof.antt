@@ -86,7 +86,11 @@ least-here c =
     fraction-here here _ (le-of-eq (sym (c .least-of .ensures))) (rw (c .least-of .ensures) (demand-here here .least-most))
 
 raised-requires-2 : tie.Need-raised-requires-2 Inv-loop μ-loop
-raised-requires-2 c κs = (At (c .before .before .before) .loop .inv .2, least-here c)
+raised-requires-2 c κs =
+    let here = c .before .before .before in
+    let inv = At here .loop .inv in
+    let low-narrow = share-bound _ (c .before .before .most-of .result) (popularity-here here) in
+    (omega (arith, inv .1, inv .2, c .before .raised .ensures, low-narrow), least-here c)
 
 add-total : tie.Need-add-total Inv-loop μ-loop
 add-total c = let here = c .before .before .before .before in omega (arith, popularity-here here, blocks-max here)

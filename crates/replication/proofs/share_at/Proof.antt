@@ -1,8 +1,10 @@
 -- `replication::share_at` meets its contract: the count divides the unit, so the popularity times the quotient is the share.
 -- Assumes nothing.
 use borrow.Author.Needs.{needs}
+use native.Mathlib.Nat.{mul-le-mul, div-le-self, le-trans, lt-of-le-of-lt}
 use native.Mathlib.Omega.{arith}
-use Rattle.theory.proofs.Replication.{share-quotient, share-whole}
+use Rattle.theory.specs.Widths.{popularityBound}
+use Rattle.theory.proofs.Replication.{share-quotient}
 use Rattle.replication.proofs.Laws.{fraction-divides}
 use Rattle.replication.proofs.share_at.Statement.{statement}
 use Rattle.replication.proofs.share_at.Tie as tie
@@ -12,8 +14,10 @@ div-result c = search needs
 
 mul-result : tie.Need-mul-result
 mul-result c =
-    let fits = c .before .pre in
-    rw (share-quotient _ _ (fraction-divides _ fits)) (omega (arith, share-whole (c .before .args .at .popularity) (c .before .args .at .count), fits .popularity-max))
+    let max = c .before .pre .popularity-max in
+    record {
+      fits = lt-of-le-of-lt (mul-le-mul {n₂ = popularityBound} {m₂ = popularityBound} (omega arith) (le-trans (div-le-self _ _) (omega arith))) (omega arith);
+    }
 
 returns : tie.Need-returns
 returns c = share-quotient _ _ (fraction-divides _ (c .before .pre))
