@@ -226,6 +226,38 @@ pub fn reads() {
     table.print();
 }
 
+/// The plans of one kind whose counts are chosen one after the other.
+const PLANS: u64 = 32;
+
+/// The chosen counts of several plans: seconds for one of them, and the counts.
+fn several_timed(side: &Side, plans: &[Vec<u8>], blocks: usize) -> (f64, Vec<Vec<u8>>) {
+    let mut counts = vec![vec![0; blocks]; plans.len()];
+    let (seconds, ()) = timed(|| {
+        for (bytes, counts) in plans.iter().zip(&mut counts) {
+            (side.counts)(bytes, counts).expect("an accepted plan");
+        }
+    });
+    (seconds / plans.len() as f64, counts)
+}
+
+/// The chosen counts over several plans of a kind: on how many passes a single plan takes, chance has a say.
+pub fn counts() {
+    println!("## Counts\n");
+    println!("64 machines. The chosen counts of {PLANS} plans of a kind, one after the other: the mean time for one plan.\n");
+    let mut table = table(&["blocks", "popularities"]);
+    for blocks in [64, 1024] {
+        let size = Size { blocks, ..LARGEST };
+        for (name, bound) in [("24 bits", 1 << 24), ("0 to 255", 256), ("0 to 9", 10)] {
+            let plans = size.several(PLANS, bound);
+            let (times, _) = compared("counts", |side| {
+                several_timed(side, &plans, usize::from(blocks))
+            });
+            row(&mut table, &[blocks.to_string(), name.to_string()], times);
+        }
+    }
+    table.print();
+}
+
 /// Every call on one small plan.
 fn small_calls(table: &mut Table, name: &str, draft: &Draft) {
     let bytes = draft.bytes();

@@ -53,6 +53,7 @@ fn all(mode: &Mode) {
     comparison::at_rest();
     comparison::pairs(mode.steps.min(3000));
     comparison::reads();
+    comparison::counts();
     growth::growth();
     comparison::smallest();
     memory::memory(mode.program);

@@ -23,6 +23,9 @@ pub enum Pairs {
     Half,
 }
 
+/// The seed of the plans that are timed one by one.
+const SEED: u64 = 7;
+
 /// 64 machines and 1,024 blocks.
 pub const LARGEST: Size = Size {
     racks: 8,
@@ -78,8 +81,8 @@ impl Size {
 
     /// A plan with a budget of 4,000 copies for 1,024 blocks, and machines that can hold 5,120; in proportion for
     /// fewer blocks.
-    fn plan(&self, popularity: impl Fn(&mut Rng) -> u32) -> Vec<u8> {
-        let mut rng = Rng::new(7);
+    fn plan(&self, seed: u64, popularity: impl Fn(&mut Rng) -> u32) -> Vec<u8> {
+        let mut rng = Rng::new(seed);
         let blocks = u32::from(self.blocks);
         let records = (0..blocks).map(|_| {
             let popularity = popularity(&mut rng);
@@ -100,11 +103,18 @@ impl Size {
 
     /// Popularities random in 24 bits: runs are long.
     pub fn fine(&self) -> Vec<u8> {
-        self.plan(|rng| rng.below(1 << 24) as u32)
+        self.plan(SEED, |rng| rng.below(1 << 24) as u32)
     }
 
     /// Popularities from 0 to 9: rest is reached.
     pub fn coarse(&self) -> Vec<u8> {
-        self.plan(|rng| rng.below(10) as u32)
+        self.plan(SEED, |rng| rng.below(10) as u32)
+    }
+
+    /// Several plans with popularities below a bound.
+    pub fn several(&self, number: u64, bound: u64) -> Vec<Vec<u8>> {
+        (1..=number)
+            .map(|seed| self.plan(seed, |rng| rng.below(bound) as u32))
+            .collect()
     }
 }
