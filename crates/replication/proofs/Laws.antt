@@ -3,15 +3,13 @@
 use mathlib.Core.Path.{_≡_, sym}
 use mathlib.Core.Bool.{true}
 use mathlib.Core.List.{List}
-use Prim.Native.Nat.{ℕ, _*_, _<_, _≤_, _∣_}
+use Prim.Native.Nat.{ℕ, _<_, _≤_, _∣_}
 use native.Mathlib.Nat.{le-trans, le-of-eq, le-of-lt}
-use native.Mathlib.Omega.{arith}
 use lib.ListN.{getD}
 use Rattle.model.specs.Plan.{Plan, upper}
 use Rattle.model.specs.Replication.{limit as limitOf, unit, share, largestShare, need, reachable}
 use Rattle.theory.specs.Refusal.{Valid}
-use Rattle.theory.specs.Widths.{popularityBound}
-use Rattle.theory.proofs.Replication.{unit-divides, share-exact, need-is, need-falls, reachable-parts, largestShare-term}
+use Rattle.theory.proofs.Replication.{unit-divides, need-is, need-falls, reachable-parts, largestShare-term}
 use Rattle.cluster.specs.declared.Cluster.{Cluster}
 use Rattle.cluster.specs.Blocks.{popularityIn, mostIn, DemandInRange, DemandsOf}
 use Rattle.cluster.proofs.Laws.{cluster-blocks, cluster-block, demands-popularity, demands-least, demands-most}
@@ -32,13 +30,6 @@ fraction-of demand popularity count d is pos max =
       count-pos = pos;
       count-max = le-trans max (d .most-max);
     }
-
--- a single copy, whose share is the whole popularity
-pub fraction-one : (P : ℕ) → P ≤ popularityBound → FractionFits record { popularity = P; count = 1 }
-fraction-one P l = record { popularity-max = l; count-pos = omega arith; count-max = omega arith }
-
-pub share-one : (P : ℕ) → share P 1 ≡ P * unit
-share-one P = let whole = share-exact P 1 (unit-divides 1 (omega arith) (omega arith)) in omega arith
 
 -- ── demands of a plan ────────────────────────────────────────────────────────────────────────────
 module _ (p : Plan) (c : Cluster) (demands : List ℕ) (of : DemandsOf p c demands) where

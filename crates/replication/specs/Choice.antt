@@ -48,7 +48,7 @@ parts = 2 ^ 48
 -- A popularity times the scale is at most the copies, in parts, that keep its share within the figure; the next scale is too large.
 pub record ScaleOf (wanted scale : ℕ) : Type 0 where
   pub scale-max : scale * suc wanted ≤ unit * parts
-  pub scale-least : unit * parts < suc scale * suc wanted
+  pub scale-next : unit * parts < suc scale * suc wanted
 
 -- One block's demand, and a figure within which it can have its share.
 pub record NeedAsked (demand wanted scale : ℕ) : Type 0 where

@@ -5,7 +5,7 @@ use mathlib.Core.Path.{_≡_, refl, ap, sym, _∙_}
 use mathlib.Core.Logic.{_↔_, inl, inr}
 use mathlib.Core.Bool.{Bool, true, false}
 use Prim.Native.Nat.{ℕ, suc, _+_, _*_, _-_, _/_, _%_, _≤_, _<_, _∣_}
-use native.Mathlib.Nat.{mul-comm, zero-div, le-of-mul-le-mul-right, mul-le-mul-left, mul-le-mul-right, div-le-self, dvd-of-mod-eq-zero, dvd-mul-left-of-dvd, pos-of-dvd-of-pos, div-mul-cancel, mul-div-assoc, le-add-right, le-of-eq, lt-of-not-le, le-min, min-le-right, mul-le-mul, le-antisymm, le-trans, le-refl, eq-or-lt-of-le}
+use native.Mathlib.Nat.{mul-comm, zero-div, div-one, le-of-mul-le-mul-right, mul-le-mul-left, mul-le-mul-right, div-le-self, dvd-of-mod-eq-zero, dvd-mul-left-of-dvd, pos-of-dvd-of-pos, div-mul-cancel, mul-div-assoc, le-add-right, le-of-eq, lt-of-not-le, le-min, min-le-right, mul-le-mul, le-antisymm, le-trans, le-refl, eq-or-lt-of-le}
 use native.Mathlib.Decide.{decLt, decLe}
 use native.Mathlib.Omega.{arith}
 use borrow.Author.Tests.{eqb-true, leb-true, le-leb}
@@ -16,7 +16,7 @@ use Rattle.order.proofs.Arithmetic.{div-antitone}
 use Rattle.order.proofs.Booleans.{no-contradiction, not-so, and-iff, leb-iff}
 use Rattle.order.proofs.Sums.{sum-cong, sum-mono, sum-mul, sum-same}
 use Rattle.order.proofs.Extremes.{least-le, least-passes, least-first, allb-at, allb-iff, largest-term, largest-le}
-use Rattle.model.specs.Plan.{Plan, maxReplicas, blockCount, blockOf, isPaired, partner, upper, minTotal}
+use Rattle.model.specs.Plan.{Plan, maxReplicas, blockCount, blockOf, partner, upper, minTotal}
 use Rattle.model.specs.Refusal.{maxMachines, maxCapacity}
 use Rattle.model.specs.Replication.{limit, FeasibleCounts, unit, share, largestShare, need, reachable, figure, chosen}
 use Rattle.theory.specs.Widths.{popularityBound, shareBound}
@@ -129,6 +129,11 @@ share-bound P k l = let whole = share-whole P k in omega arith
 pub share-none : (k : ℕ) → share 0 k ≡ 0
 unfolding share
 share-none k = zero-div k
+
+-- a single copy has the whole popularity
+pub share-one : (P : ℕ) → share P 1 ≡ P * unit
+unfolding share
+share-one P = div-one (P * unit)
 
 pub share-laws : ShareLaws
 share-laws =

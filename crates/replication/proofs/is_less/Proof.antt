@@ -1,8 +1,8 @@
 -- `replication::is_less` meets its contract: two shares compare as the popularities do, each times the other's count.
 -- Assumes nothing.
 use mathlib.Core.Path.{_≡_, sym, _∙_}
-use Prim.Native.Nat.{_*_, _<_, _≤_}
-use native.Mathlib.Nat.{mul-le-mul, lt-of-not-le, le-of-lt}
+use Prim.Native.Nat.{_*_, _≤_}
+use native.Mathlib.Nat.{mul-le-mul, lt-of-not-le}
 use native.Mathlib.Decide.{decLe}
 use native.Mathlib.Omega.{arith}
 use borrow.Author.Tests.{lt-ltb, le-ltb}

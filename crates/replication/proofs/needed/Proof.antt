@@ -12,7 +12,7 @@ use Rattle.model.specs.Replication.{unit, share}
 use Rattle.theory.specs.Widths.{popularityBound}
 use Rattle.theory.proofs.Replication.{unit-divides, share-within}
 use Rattle.cluster.specs.Blocks.{popularityIn, leastIn, mostIn}
-use Rattle.replication.specs.Choice.{parts, NeedAsked, NeedOf}
+use Rattle.replication.specs.Choice.{parts, NeedAsked}
 use Rattle.replication.proofs.needed.Statement.{statement}
 use Rattle.replication.proofs.needed.Tie as tie
 
@@ -97,7 +97,7 @@ module _ (demand figure scale : ℕ) (asked : NeedAsked demand figure scale) whe
       elim (decLe (P * unit) (figure * suc k)) [
         | yes l ↦ l
         | no l ↦ absurd
-            (let gap = short-gap P figure scale k parts (asked .scale-of .scale-least) (omega arith) (lt-of-not-le l) in
+            (let gap = short-gap P figure scale k parts (asked .scale-of .scale-next) (omega arith) (lt-of-not-le l) in
             let narrow : P * figure ≤ popularityBound * figure = mul-le-mul-right figure (le-of-lt (asked .in-range .popularity-narrow)) in
             let few : figure < maxReplicas = small-figure figure k (P * figure) gap narrow (omega (arith, asked .in-range .most-max)) in
             omega (arith, most-enough, most-max))

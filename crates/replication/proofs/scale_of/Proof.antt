@@ -19,7 +19,7 @@ returns : tie.Need-returns
 returns c =
     record {
       scale-max = omega (arith, div-mul-le-self (unit * parts) (c .args .figure + 1));
-      scale-least = omega (arith, lt-div-mul-add {a = unit * parts} {b = c .args .figure + 1} (omega arith));
+      scale-next = omega (arith, lt-div-mul-add {a = unit * parts} {b = c .args .figure + 1} (omega arith));
     }
 
 pub scale-of-spec : {M : Type 1} → statement M

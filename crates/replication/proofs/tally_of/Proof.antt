@@ -2,33 +2,27 @@
 -- they stay as they are, and there each block that has it needs one copy less.
 -- Assumes nothing.
 use mathlib.Core.Path.{_≡_, ap, ap₂, sym, subst, _∙_}
-use mathlib.Core.List.{List}
 use mathlib.Core.Logic.{inl, inr, ⊎-elim}
-use Prim.Native.Nat.{ℕ, suc, _+_, _-_, _*_, _<_, _≤_, min}
-use native.Mathlib.Nat.{le-refl, le-of-lt, eq-or-lt-of-le, min-eq-left, min-eq-right}
-use native.Mathlib.Decide.{decLt}
+use Prim.Native.Nat.{ℕ, suc, _+_, _-_, _*_, _<_, _≤_}
+use native.Mathlib.Nat.{le-refl, eq-or-lt-of-le}
 use native.Mathlib.Omega.{arith}
 use borrow.Author.Count.{below-none, below-more}
 use borrow.Author.Tests.{ltb-true, ltb-false, not-true, not-false}
 use denote.Ref.{now}
 use lib.ListN.{getD}
-use Rattle.order.specs.Search.{largest}
 use Rattle.order.specs.Sum.{sum}
-use Rattle.order.proofs.Extremes.{largest-step, largest-zero}
 use Rattle.order.proofs.Sums.{sum-zero, sum-step, sum-cong}
 use Rattle.model.specs.Plan.{Plan, maxReplicas, blockCount, blockOf, upper}
 use Rattle.model.specs.Refusal.{maxBlocks}
 use Rattle.model.specs.Replication.{share, need}
 use Rattle.theory.specs.Widths.{popularityBound}
 use Rattle.theory.specs.Refusal.{ValidBlock}
-use Rattle.theory.proofs.Replication.{need-same, need-less, need-less-above}
-use Rattle.cluster.specs.declared.Cluster.{Cluster}
-use Rattle.cluster.specs.Blocks.{popularityIn, leastIn, DemandInRange, DemandsOf}
+use Rattle.theory.proofs.Replication.{share-one, need-same, need-less, need-less-above}
+use Rattle.cluster.specs.Blocks.{DemandInRange, DemandsOf}
 use Rattle.cluster.proofs.Laws.{cluster-blocks, cluster-block, demands-popularity, demands-least}
-use Rattle.replication.specs.declared.Fraction.{Fraction}
 use Rattle.replication.specs.declared.NextShare.{NextShare}
-use Rattle.replication.specs.Choice.{FractionFits, shareAt, NextAs}
-use Rattle.replication.proofs.Laws.{fraction-of, fraction-one, share-one, need-of}
+use Rattle.replication.specs.Choice.{FractionFits, shareAt}
+use Rattle.replication.proofs.Laws.{fraction-of, need-of}
 use Rattle.replication.proofs.tally_of.Statement.{statement}
 use Rattle.replication.proofs.tally_of.Tie as tie
 
@@ -110,6 +104,10 @@ module _ (p : Plan) (wanted i next blocks total : ℕ) (block : ValidBlock p i) 
             | inr l ↦ rw (is, replaced l) (passed-replaced l)
           ]
 
+-- before the first block stands a share that no block has
+none-fits : FractionFits record { popularity = popularityBound; count = 1 }
+none-fits = record { popularity-max = le-refl _; count-pos = omega arith; count-max = omega arith }
+
 abbrev Inv-loop : tie.InvT-loop
 Inv-loop demands cluster wanted scale total₀ next₀ i₀ total next i =
     (i ≤ cluster .blocks)
@@ -132,7 +130,7 @@ loop-holds c = (
   omega arith,
   omega arith,
   omega arith,
-  fraction-one popularityBound (le-refl _),
+  none-fits,
   omega (arith, share-one popularityBound, c .before .before .pre .wanted-narrow),
   λ p of. record { total-is = sym (sum-zero _); stays = below-none _; fewer-is = omega (arith, sum-zero (need p (share popularityBound 1))) },
 )
