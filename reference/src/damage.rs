@@ -91,11 +91,11 @@ fn lengthened(rng: &mut Rng, bytes: &mut Vec<u8>) {
     }
 }
 
-/// Puts one of the numbers into byte `at` of a record.
+/// Puts one of the numbers into byte `at` of a record, where the records of this file have one.
 fn flaw_record(rng: &mut Rng, bytes: &mut [u8], at: usize, numbers: &[u8]) {
     let length = record_length(bytes);
     let number = (bytes.len().max(15) - 15) / length;
-    if number > 0 {
+    if number > 0 && at < length {
         let i = rng.below(number as u64) as usize;
         bytes[15 + length * i + at] = rng.one_of(numbers);
     }
