@@ -1,12 +1,11 @@
--- Every version's format fits, and nothing else but the code that makes a format looks at a version's numbers; the widest field's
--- bound holds for the narrower ones.
+-- Every version's format fits, and nothing else but the code that makes a format looks at a version's numbers.
 -- Assumes nothing.
-use Prim.Native.Nat.{ℕ, _<_, _≤_, _^_}
-use native.Mathlib.Nat.{pow-le-pow-right}
+use Prim.Native.Nat.{ℕ, _≤_}
 use native.Mathlib.Omega.{arith}
-use lib.Dec.{lit<, ltb}
+use lib.Dec.{ltb}
 use Rattle.order.proofs.Booleans.{cond-all}
 use Rattle.model.specs.Plan.{formatOf}
+use Rattle.theory.proofs.Plan.{formatOf-popularity}
 use Rattle.header.specs.Format.{FormatFits}
 
 pub formatOf-fits : (version : ℕ) → FormatFits (formatOf version)
@@ -15,11 +14,8 @@ formatOf-fits version =
     record {
       header-min = omega arith;
       header-max = omega arith;
-      popularity-max = omega arith;
+      popularity-max = formatOf-popularity version;
       replicas-max = omega arith;
       racks-max = omega arith;
       pair-max = cond-all (λ n. n ≤ 1) (ltb version 2) 0 1 (λ e. omega arith) (omega arith);
     }
-
-pub field-narrow : (value width widest : ℕ) → value < 256 ^ width → width ≤ widest → value < 256 ^ widest
-field-narrow value width widest l fits = let wide = pow-le-pow-right {n = 256} (lit< tt) fits in omega arith

@@ -24,9 +24,9 @@ pub record Narrow (h : Header) : Type 0 where
   pub racks-narrow : h .cluster .racks < 256
   pub size-narrow : h .cluster .«rack_size» < 256
 
--- The code r of checks 1 to 3, whatever the later rows say.
-pub record MarkChecked (bytes : List ℕ) (r : ℕ) : Type 0 where
-  pub code : (later : ℕ) → check1 (length bytes) (check2 (markIn bytes) (check3 (versionIn bytes) later)) ≡ orElse r later
+-- The code r of checks 1 to 3 where versions 1 to `latest` are read, whatever the later rows say.
+pub record MarkChecked (latest : ℕ) (bytes : List ℕ) (r : ℕ) : Type 0 where
+  pub code : (later : ℕ) → check1 (length bytes) (check2 (markIn bytes) (check3 latest (versionIn bytes) later)) ≡ orElse r later
   pub long : r ≡ 0 → commonLength ≤ length bytes
 
 -- Checks 1 to 7 pass: the header's fields with their ranges, and what is left of the verdict is the plan's.

@@ -15,7 +15,7 @@ const COMMON_LENGTH: usize = 15;
 
 const MARK: usize = 0x42504C;
 
-const LATEST_VERSION: usize = 2;
+const LATEST_VERSION: usize = 3;
 
 const MAX_CAPACITY: usize = 1024;
 
@@ -72,6 +72,16 @@ pub fn field_at(bytes: &[u8], at: usize, width: usize) -> usize
     value
 }
 
+// The width of a popularity: three bytes before version 3.
+fn popularity_width(version: usize) -> usize
+    ensures { λ r. ⌜ r ≡ formatOf version .popularityWidth ⌝ }
+{
+    if version < 3 {
+        return 3;
+    }
+    4
+}
+
 // The width of the pair byte: version 1 has none.
 fn pair_byte_width(version: usize) -> usize
     ensures { λ r. ⌜ r ≡ formatOf version .pairByteWidth ⌝ }
@@ -83,12 +93,12 @@ fn pair_byte_width(version: usize) -> usize
 }
 
 // The format of a version's file.
-fn format_of(version: usize) -> Format
+pub fn format_of(version: usize) -> Format
     ensures { λ r. ⌜ (asFormat r ≡ formatOf version) × FormatFits (asFormat r) ⌝ }
 {
     Format {
         header_length: COMMON_LENGTH,
-        popularity_width: 3,
+        popularity_width: popularity_width(version),
         min_replicas_width: 1,
         min_racks_width: 1,
         pair_byte_width: pair_byte_width(version),
@@ -103,9 +113,9 @@ pub fn format_in(bytes: &[u8]) -> Format
     format_of(field_at(bytes, 3, 2))
 }
 
-// Checks 1 to 3; 0 where all pass.
-fn mark_refusal(bytes: &[u8]) -> u8
-    ensures { λ r. ⌜ MarkChecked (now (bytes .entry)) r ⌝ }
+// Checks 1 to 3, where versions 1 to `latest` are read; 0 where all pass.
+pub fn mark_refusal(bytes: &[u8], latest: usize) -> u8
+    ensures { λ r. ⌜ MarkChecked latest (now (bytes .entry)) r ⌝ }
 {
     if bytes.len() < COMMON_LENGTH {
         return 1;
@@ -117,7 +127,7 @@ fn mark_refusal(bytes: &[u8]) -> u8
     if version == 0 {
         return 3;
     }
-    if version > LATEST_VERSION {
+    if version > latest {
         return 3;
     }
     0
@@ -181,7 +191,7 @@ fn fields(bytes: &[u8]) -> Header
 pub fn read(bytes: &[u8]) -> HeaderAnswer
     ensures { λ r. ⌜ HeaderChecked (now (bytes .entry)) r ⌝ }
 {
-    let marked = mark_refusal(bytes);
+    let marked = mark_refusal(bytes, LATEST_VERSION);
     if marked != 0 {
         return HeaderAnswer::Refused(marked);
     }

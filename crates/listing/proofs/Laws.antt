@@ -14,10 +14,12 @@ use Rattle.model.specs.Replication.{share, chosen}
 use Rattle.model.specs.Placement.{wordOf, countOf, firstWord, firstPlacement, maxLoad, minLoad}
 use Rattle.model.specs.Steps.{Run, run}
 use Rattle.model.specs.Calls.{answered, reportOf}
-use Rattle.model.specs.Listing.{wrote, numberField, fields, lineEnd, line, blockWord, planLine, holders, blockLine, lines, endWord, lastLine, listingOf, listingRoom}
+use Rattle.model.specs.Listing.{wrote, numberField, fields, lineEnd, line, blockWord, planLine, holders, blockLine, endWord, lastLine, listingOf, listingRoom}
 use Rattle.theory.specs.Widths.{shareBound}
 use Rattle.theory.proofs.PlacementFirst.{firstPlacement-feasible}
-use Rattle.theory.proofs.Listing.{fields-append, holders-zero, holders-low, holders-past, lines-cong, lines-step, lines-prefix, listingOf-feasible, listingOf-fits}
+use Rattle.order.specs.Table.{joined}
+use Rattle.order.proofs.Tables.{joined-cong}
+use Rattle.theory.proofs.Listing.{fields-append, holders-zero, holders-low, holders-past, listingOf-feasible, listingOf-fits}
 use Rattle.cluster.specs.declared.Cluster.{Cluster}
 use Rattle.cluster.specs.Blocks.{countIn, ProfilesOf, PlacementOf}
 use Rattle.cluster.proofs.Laws.{cluster-blocks, profiles-share, profiles-count, placement-share}
@@ -123,19 +125,6 @@ module _ (at : ℕ) (r : FirstRun) (rested : Bool) (e : r .ran .rested ≡ reste
   pub end-put : {old text : List ℕ} {next : ℕ} → Put at endLine old text next → Put at (endRow r) old text next
   end-put put = rw end-row put
 
--- the lines before block i, and its own
-module _ (at blocks i : ℕ) (f : ℕ → List ℕ) (old : List ℕ) (room : Room at (lines blocks f) old) (l : i < blocks) where
-  row-both : Room at (lines i f ++ f i) old
-  row-both = record { fits = rw (← lines-step i f) (omega (arith, lines-prefix blocks f (i + 1) (omega arith), room .fits)) }
-
-  pub row-room : {text : List ℕ} {next : ℕ} → Put at (lines i f) old text next → Room next (f i) text
-  row-room {text} {next} put = room-next at (lines i f) (f i) old row-both text next put
-
-  pub row-put : {text text' : List ℕ} {next next' : ℕ} → Put at (lines i f) old text next → Put next (f i) text text' next'
-      → Put at (lines (i + 1) f) old text' next'
-  row-put {text} {text'} {next} {next'} put then =
-      rw (lines-step i f) (put-then at (lines i f) (f i) old row-both text text' next next' put then)
-
 -- B words filled are the first placement
 pub first-of : (p : Plan) (words : List ℕ) → length words ≡ blockCount p → filled (blockCount p) (firstWord p) words ≡ firstPlacement p
 unfolding filled firstPlacement
@@ -198,13 +187,13 @@ module _ (p : Plan) (c : Cluster) (limit : ℕ) (profiles words : List ℕ) (r :
   unfolding listingOf planLine ranOf
   listing-is =
       let of = made .profiles-of .cluster in
-      let blocks : rows c profiles words ≡ lines (blockCount p) (blockLine p (run p limit (firstPlacement p) .words)) =
-      lines-cong (c .blocks) _ _ row-is
-      ∙ ap (λ (n : ℕ). lines n (blockLine p words)) all
-      ∙ ap (λ (q : Run). lines (blockCount p) (blockLine p (q .words))) (made .run-is)
+      let blocks : rows c profiles words ≡ joined (blockCount p) (blockLine p (run p limit (firstPlacement p) .words)) =
+      joined-cong (c .blocks) _ _ row-is
+      ∙ ap (λ (n : ℕ). joined n (blockLine p words)) all
+      ∙ ap (λ (q : Run). joined (blockCount p) (blockLine p (q .words))) (made .run-is)
       in
       ap₂ (λ (s t : List ℕ). firstRow c ++ s ++ t) blocks end-is
-      ∙ ap (λ (k : Cluster). firstRow k ++ lines (blockCount p) (blockLine p (run p limit (firstPlacement p) .words))
+      ∙ ap (λ (k : Cluster). firstRow k ++ joined (blockCount p) (blockLine p (run p limit (firstPlacement p) .words))
       ++ lastLine p (run p limit (firstPlacement p))) (of .is)
 
   -- every listing has room
@@ -221,11 +210,3 @@ module _ (p : Plan) (c : Cluster) (limit : ℕ) (profiles words : List ℕ) (r :
   pub whole-put : {old text : List ℕ} {next : ℕ} → Put 0 (allRows c profiles words r) old text next
       → Put 0 (listingOf p limit) old text next
   whole-put put = rw listing-is at put
-
--- a text written from its first byte on, as an outcome
-pub listed-is : (out old text : List ℕ) (next : ℕ) → Put 0 out old text next → listingOutcome (Listed next) text ≡ wrote out old
-unfolding listingOutcome wrote pasted
-listed-is out old text next put =
-    let size : next ≡ length out = put .next-is ∙ zero-add (length out) in
-    let items : text ≡ out ++ drop (length out) old = put .text-is ∙ ap (λ (n : ℕ). out ++ drop n old) (zero-add (length out)) in
-    λ i. record { answer = answered (size i); items = items i }

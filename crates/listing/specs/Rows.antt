@@ -3,12 +3,13 @@ use mathlib.Core.Path.{_≡_}
 use mathlib.Core.List.{List, [], _∷_, _++_}
 use Prim.Native.Nat.{ℕ, _≤_}
 use lib.ListN.{length, getD}
+use Rattle.order.specs.Table.{joined}
 use Rattle.model.specs.Plan.{Plan}
 use Rattle.model.specs.Refusal.{maxMachines, judge, accepted}
 use Rattle.model.specs.Replication.{chosen}
 use Rattle.model.specs.Placement.{firstPlacement, maxLoad, minLoad, totalLoad, maxShare}
 use Rattle.model.specs.Steps.{run}
-use Rattle.model.specs.Listing.{line, planWord, blockWord, holders, lines, endWord, listingRoom}
+use Rattle.model.specs.Listing.{line, planWord, blockWord, holders, endWord, listingRoom}
 use Rattle.cluster.specs.declared.Cluster.{Cluster}
 use Rattle.cluster.specs.Blocks.{shareIn, countIn, ProfilesOf, PlacementFits}
 use Rattle.header.specs.declared.Header.{Header}
@@ -35,7 +36,7 @@ abbrev pub firstRow : Cluster → List ℕ
 firstRow c = line planWord (c .racks ∷ c .«rack_size» ∷ c .blocks ∷ [])
 
 abbrev pub rows : Cluster → List ℕ → List ℕ → List ℕ
-rows c profiles words = lines (c .blocks) (rowAt profiles words)
+rows c profiles words = joined (c .blocks) (rowAt profiles words)
 
 unfoldable pub endRow : FirstRun → List ℕ
 endRow r =

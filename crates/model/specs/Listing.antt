@@ -4,6 +4,7 @@ use mathlib.Core.List.{List, [], _∷_, _++_}
 use Prim.Native.Nat.{ℕ, zero, suc, _+_, _/_, _%_}
 use lib.Dec.{ltb, eqb}
 use lib.ListN.{length, drop}
+use Rattle.order.specs.Table.{joined}
 use Rattle.model.specs.Plan.{Plan, machines, blockCount, latestVersion, formatOf, recordAt}
 use Rattle.model.specs.Refusal.{refuseIf, maxBlocks, Verdict, refused, accepted, judge}
 use Rattle.model.specs.Placement.{bit, wordOf, countOf, shareOf, firstPlacement}
@@ -68,11 +69,6 @@ unfoldable pub blockLine : Plan → List ℕ → ℕ → List ℕ
 blockLine p words i =
     line blockWord (i ∷ countOf p words i ∷ shareOf p words i ∷ holders (wordOf words i) (machines p))
 
--- The lines f 0, f 1, .., f (n - 1), one after the other.
-unfoldable pub lines : ℕ → (ℕ → List ℕ) → List ℕ
-lines zero f = []
-lines (suc n) f = lines n f ++ f n
-
 -- Last line: `rest` or `spent`, steps, hottest load, coolest load, sum of loads, largest share.
 abbrev pub endWord : Bool → List ℕ
 endWord true = restWord
@@ -88,7 +84,7 @@ lastLine p r =
 unfoldable pub listingOf : Plan → ℕ → List ℕ
 listingOf p budget =
     let r = run p budget (firstPlacement p) in
-    planLine p ++ lines (blockCount p) (blockLine p (r .words)) ++ lastLine p r
+    planLine p ++ joined (blockCount p) (blockLine p (r .words)) ++ lastLine p r
 
 -- A plan refused at any check prints `refused` and its number and nothing more.
 unfoldable pub refusedLine : ℕ → List ℕ

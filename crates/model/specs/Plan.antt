@@ -1,4 +1,4 @@
--- Document 01, "The plan file", and document 02, U1: what the bytes of a plan say.
+-- Document 01, "The plan file", and document 02, U1 and U4: what the bytes of a plan say.
 use mathlib.Core.Bool.{Bool, false, cond, _||_}
 use mathlib.Core.List.{List}
 use Prim.Native.Nat.{ℕ, zero, suc, _+_, _*_, _-_, _/_, min}
@@ -122,16 +122,16 @@ pub record Format : Type 0 where
   pub minRacksWidth : ℕ
   pub pairByteWidth : ℕ
 
--- The versions are 1 and 2. A header of 15 bytes, records of a popularity of 3, least copies of 1 and a spread of 1; from version 2 on
--- also the pair byte. Where it is not in the file it is 0.
+-- The versions are 1, 2 and 3. A header of 15 bytes, records of a popularity of 3, from version 3 on of 4, least copies of 1 and a spread
+-- of 1; from version 2 on also the pair byte. Where it is not in the file it is 0.
 abbrev pub latestVersion : ℕ
-latestVersion = 2
+latestVersion = 3
 
 unfoldable pub formatOf : ℕ → Format
 formatOf version =
     record {
       headerLength = commonLength;
-      popularityWidth = 3;
+      popularityWidth = cond (ltb version 3) 3 4;
       minReplicasWidth = 1;
       minRacksWidth = 1;
       pairByteWidth = cond (ltb version 2) 0 1;
@@ -156,14 +156,18 @@ recordLength f = pairByteAt f + f .pairByteWidth
 abbrev pub recordAt : Format → ℕ → ℕ
 recordAt f i = f .headerLength + recordLength f * i
 
-unfoldable pub blockIn : Format → List ℕ → ℕ → Block
-blockIn f bytes i =
+-- The block whose record begins at `at`, and block i.
+abbrev pub blockAt : Format → List ℕ → ℕ → Block
+blockAt f bytes at =
     record {
-      popularity = field bytes (recordAt f i) (f .popularityWidth);
-      minReplicas = field bytes (recordAt f i + minReplicasAt f) (f .minReplicasWidth);
-      minRacks = field bytes (recordAt f i + minRacksAt f) (f .minRacksWidth);
-      pairByte = field bytes (recordAt f i + pairByteAt f) (f .pairByteWidth);
+      popularity = field bytes at (f .popularityWidth);
+      minReplicas = field bytes (at + minReplicasAt f) (f .minReplicasWidth);
+      minRacks = field bytes (at + minRacksAt f) (f .minRacksWidth);
+      pairByte = field bytes (at + pairByteAt f) (f .pairByteWidth);
     }
+
+unfoldable pub blockIn : Format → List ℕ → ℕ → Block
+blockIn f bytes i = blockAt f bytes (recordAt f i)
 
 -- The plan that the bytes hold.
 unfoldable pub planIn : List ℕ → Plan

@@ -42,9 +42,9 @@ check1 size = refuseIf (ltb size commonLength) 1
 unfoldable pub check2 : ℕ → ℕ → ℕ
 check2 found = refuseIf (not (eqb found mark)) 2
 
--- 3: a version never described: not 1 or 2.
-unfoldable pub check3 : ℕ → ℕ → ℕ
-check3 version = refuseIf (eqb version 0 || ltb latestVersion version) 3
+-- 3: a version never described, where 1 to `latest` are.
+unfoldable pub check3 : ℕ → ℕ → ℕ → ℕ
+check3 latest version = refuseIf (eqb version 0 || ltb latest version) 3
 
 -- 4: R or S is 0, or M above 64.
 unfoldable pub check4 : ℕ → ℕ → ℕ → ℕ
@@ -58,7 +58,7 @@ check5 capacity = refuseIf (eqb capacity 0 || ltb maxCapacity capacity) 5
 unfoldable pub check6 : ℕ → ℕ → ℕ
 check6 count = refuseIf (ltb maxBlocks count) 6
 
--- 7: length not 15 + 5 × B, in version 2 15 + 6 × B: that of the version's header and B records.
+-- 7: length not 15 + 5 × B, in version 2 15 + 6 × B, in version 3 15 + 7 × B: that of the version's header and B records.
 unfoldable pub check7 : Format → ℕ → ℕ → ℕ → ℕ
 check7 f size count = refuseIf (not (eqb size (recordAt f count))) 7
 
@@ -126,7 +126,7 @@ unfoldable pub refusal : List ℕ → ℕ
 refusal bytes =
     check1 (length bytes)
     (check2 (markIn bytes)
-    (check3 (versionIn bytes)
+    (check3 latestVersion (versionIn bytes)
     (check4 (racksIn bytes) (rackSizeIn bytes)
     (check5 (capacityIn bytes)
     (check6 (blockCountIn bytes)

@@ -6,7 +6,7 @@ use mathlib.Core.Logic.{_⊎_, inl, inr, _↔_}
 use native.Mathlib.Omega.{arith}
 use Prim.Native.Nat.{ℕ, _≤_, _<_}
 use native.Mathlib.Nat.{pos-of-ne-zero}
-use borrow.Author.Tests.{ltb-true, ltb-false, lt-ltb, leb-true, le-leb, eqb-true, eqb-false, eq-eqb}
+use borrow.Author.Tests.{ltb-true, ltb-false, lt-ltb, leb-true, le-leb, eqb-true, eqb-false, eq-eqb, ne-eqb}
 use lib.Dec.{ltb, leb, eqb}
 
 pub no-contradiction {ℓ} : {A : Type ℓ} → true ≡ false → A
@@ -19,6 +19,10 @@ or-false false b e = (refl, e)
 pub or3-false : (a b c : Bool) → (a || b || c) ≡ false → (a ≡ false) × (b ≡ false) × (c ≡ false)
 or3-false true b c e = no-contradiction e
 or3-false false b c e = let z = or-false b c e in (refl, z .0, z .1)
+
+-- a number above 0 is not 0
+pub pos-eqb : (n : ℕ) → 1 ≤ n → eqb n 0 ≡ false
+pos-eqb n l = ne-eqb n 0 (λ e. omega arith)
 
 -- a number that is neither 0 nor above the limit
 pub in-range : (n limit : ℕ) → (eqb n 0 || ltb limit n) ≡ false → (1 ≤ n) × (n ≤ limit)

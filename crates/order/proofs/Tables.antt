@@ -3,13 +3,15 @@
 use mathlib.Core.Path.{_≡_, refl, ap, ap₂, sym, _∙_, subst}
 use mathlib.Core.Logic.{_⊎_, inl, inr}
 use mathlib.Core.List.{List, [], _∷_, _++_, append-assoc}
-use Prim.Native.Nat.{ℕ, zero, suc, _+_, _≤_, _<_}
+use Prim.Native.Nat.{ℕ, zero, suc, _+_, _*_, _≤_, _<_}
 use native.Mathlib.Nat.{eq-or-lt-of-le, le-of-suc-le-suc, not-suc-le-zero, le-refl}
 use native.Mathlib.Numerals.{add-one}
 use native.Mathlib.Omega.{arith}
 use lib.ListN.{length, getD, set, drop, length-append, length-drop, List·getD-append}
+use lib.Arith.{le-zero}
+use native.Mathlib.Decide.{ℕ-discrete}
 use lib.Seq.{getD-at, set-at, drop-cons}
-use Rattle.order.specs.Table.{table, filled}
+use Rattle.order.specs.Table.{table, joined, filled}
 
 module _ {ℓ} {A : Type ℓ} where
   pub length-table : (n : ℕ) (f : ℕ → A) → length (table n f) ≡ n
@@ -63,3 +65,42 @@ module _ {ℓ} {A : Type ℓ} where
   pub filled-cong : (n : ℕ) (f g : ℕ → A) (old : List A) → ((i : ℕ) → i < n → f i ≡ g i) → filled n f old ≡ filled n g old
   unfolding filled
   filled-cong n f g old e = ap (λ (s : List A). s ++ drop n old) (table-cong n f g e)
+
+  -- lists one after the other: none, one more, alike, and how long they get
+  pub joined-zero : (f : ℕ → List A) → joined 0 f ≡ []
+  unfolding joined
+  joined-zero f = refl
+
+  pub joined-step : (n : ℕ) (f : ℕ → List A) → joined (n + 1) f ≡ joined n f ++ f n
+  unfolding joined
+  joined-step n f = rw add-one
+
+  pub joined-cong : (n : ℕ) (f g : ℕ → List A) → ((i : ℕ) → i < n → f i ≡ g i) → joined n f ≡ joined n g
+  unfolding joined
+  joined-cong zero f g e = refl
+  joined-cong (suc n) f g e = ap₂ _++_ (joined-cong n f g (λ i l. e i (omega arith))) (e n (omega arith))
+
+  pub joined-length : (n c : ℕ) (f : ℕ → List A) → ((i : ℕ) → i < n → length (f i) ≡ c) → length (joined n f) ≡ n * c
+  unfolding joined
+  joined-length zero c f h = omega arith
+  joined-length (suc n) c f h =
+      let before = joined-length n c f (λ i l. h i (omega arith)) in
+      let here = h n (omega arith) in
+      simp length-append (omega (arith, before, here))
+
+  pub joined-length-le : (n c : ℕ) (f : ℕ → List A) → ((i : ℕ) → i < n → length (f i) ≤ c) → length (joined n f) ≤ n * c
+  unfolding joined
+  joined-length-le zero c f h = omega arith
+  joined-length-le (suc n) c f h =
+      let before = joined-length-le n c f (λ i l. h i (omega arith)) in
+      let here = h n (omega arith) in
+      simp length-append (omega (arith, before, here))
+
+  -- the first lists are no longer than all of them
+  pub joined-prefix : (n : ℕ) (f : ℕ → List A) (i : ℕ) → i ≤ n → length (joined i f) ≤ length (joined n f)
+  unfolding joined
+  joined-prefix zero f i l = rw (le-zero l) (omega arith)
+  joined-prefix (suc n) f i l = elim (ℕ-discrete i (suc n)) [
+    | yes e ↦ rw e (omega arith)
+    | no d ↦ let before = joined-prefix n f i (omega arith) in simp length-append (omega arith)
+  ]

@@ -43,7 +43,7 @@ pub fn min_racks(bytes: &[u8], format: Format, i: usize) -> usize
 }
 
 // The pair byte of block i: 0 where the format has none.
-fn pair_byte(bytes: &[u8], format: Format, i: usize) -> usize
+pub fn pair_byte(bytes: &[u8], format: Format, i: usize) -> usize
     requires { ⌜ RecordIn (now bytes) (asFormat format) i ⌝ }
     ensures { λ r. ⌜ r ≡ blockIn (asFormat format) (now (bytes .entry)) i .pairByte ⌝ }
 {

@@ -17,7 +17,7 @@ const PARTS: u64 = 281474976710656;
 const UNIT_PARTS: u64 = UNIT * PARTS;
 
 // No popularity is as large.
-const POPULARITY_BOUND: u64 = 16777216;
+const POPULARITY_BOUND: u64 = 4294967296;
 
 // The most copies over the limit that a probe reckons with.
 const MOST_OVER: u64 = 65536;

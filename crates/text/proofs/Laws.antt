@@ -3,12 +3,15 @@
 use mathlib.Core.Path.{_≡_, refl, ap, ap₂, sym, _∙_}
 use mathlib.Core.List.{List, [], _∷_, _++_, append-assoc, append-nil}
 use Prim.Native.Nat.{ℕ, suc, _+_, _<_, _≤_}
-use native.Mathlib.Nat.{add-zero, add-assoc}
+use native.Mathlib.Nat.{zero-add, add-zero, add-assoc}
 use native.Mathlib.Numerals.{add-one}
 use native.Mathlib.Omega.{arith}
 use lib.ListN.{length, getD, take, drop, set, length-append, length-drop, take-append-drop}
 use lib.Seq.{take-at, drop-at, length-take-le, drop-drop, take-suc, set-split, append-snoc}
-use Rattle.model.specs.Listing.{numberField, fields, lineEnd, line}
+use Rattle.order.specs.Table.{joined}
+use Rattle.order.proofs.Tables.{joined-step, joined-prefix}
+use Rattle.model.specs.Calls.{answered}
+use Rattle.model.specs.Listing.{numberField, fields, lineEnd, line, wrote}
 use Rattle.theory.proofs.Listing.{fields-append}
 use Rattle.text.specs.Pasted.{pasted, Room, Put}
 
@@ -131,6 +134,27 @@ module _ (at i : ℕ) (numbers old : List ℕ) (l : i < length numbers) (room : 
       → Put next (numberField (getD numbers i 0)) text text' next' → Put at (fields (take (i + 1) numbers)) old text' next'
   field-put text text' next next' put then =
       rw (fields-more i numbers l) (put-then at (fields (take i numbers)) _ old both-room text text' next next' put then)
+
+-- a text written from its first byte on, as an outcome
+pub put-wrote : (out old text : List ℕ) (next : ℕ) → Put 0 out old text next → record { answer = answered next; items = text } ≡ wrote out old
+unfolding wrote pasted
+put-wrote out old text next put =
+    let size : next ≡ length out = put .next-is ∙ zero-add (length out) in
+    let items : text ≡ out ++ drop (length out) old = put .text-is ∙ ap (λ (n : ℕ). out ++ drop n old) (zero-add (length out)) in
+    λ i. record { answer = answered (size i); items = items i }
+
+-- pieces one after the other: those before piece i, and its own
+module _ (at n i : ℕ) (f : ℕ → List ℕ) (old : List ℕ) (room : Room at (joined n f) old) (l : i < n) where
+  joined-both : Room at (joined i f ++ f i) old
+  joined-both = record { fits = rw (← joined-step i f) (omega (arith, joined-prefix n f (i + 1) (omega arith), room .fits)) }
+
+  pub joined-room : {text : List ℕ} {next : ℕ} → Put at (joined i f) old text next → Room next (f i) text
+  joined-room {text} {next} put = room-next at (joined i f) (f i) old joined-both text next put
+
+  pub joined-put : {text text' : List ℕ} {next next' : ℕ} → Put at (joined i f) old text next → Put next (f i) text text' next'
+      → Put at (joined (i + 1) f) old text' next'
+  joined-put {text} {text'} {next} {next'} put then =
+      rw (joined-step i f) (put-then at (joined i f) (f i) old joined-both text text' next next' put then)
 
 -- a line: its word, its fields, its end
 module _ (at : ℕ) (word numbers old : List ℕ) (room : Room at (line word numbers) old) where

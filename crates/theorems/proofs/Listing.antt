@@ -6,17 +6,17 @@ use Prim.Native.Nat.{ℕ, zero, suc, _^_, _<_, _≤_}
 use native.Mathlib.Omega.{arith}
 use lib.ListN.{length, getD}
 use Rattle.order.specs.Sum.{sum}
-use Rattle.order.specs.Table.{table}
+use Rattle.order.specs.Table.{table, joined}
 use Rattle.order.specs.Search.{firstUp, least, allb, largest, smallest}
-use Rattle.model.specs.Plan.{Plan, blockCount, blockOf, upper, minTotal, field, formatOf, formatIn, recordAt, blockIn, planIn, isPaired, pairsBack, pairsNext, partner}
+use Rattle.model.specs.Plan.{Plan, blockCount, blockOf, upper, minTotal, versionIn, field, formatOf, formatIn, recordAt, blockIn, planIn, isPaired, pairsBack, pairsNext, partner}
 use Rattle.model.specs.Refusal.{check1, refusal, Verdict, judge}
 use Rattle.model.specs.Replication.{limit, share, need, chosen}
 use Rattle.model.specs.Placement.{bit, replicas, replicasIn, domainsUsed, used, allWithin, allSpread, allFit, countsFeasible, isFeasible, position, laidWord, firstWord, firstPlacement, shareOf, load, maxLoad, minLoad, totalLoad, maxShare, allApart, keptApart}
 use Rattle.model.specs.Steps.{shifted, afterMove, afterSwap, after, improves, canMove, canSwap, routes, nextMove, nextSwap, nextStep, Run, run}
 use Rattle.model.specs.Calls.{reportOf}
-use Rattle.model.specs.Listing.{digits, decimal, numberField, fields, line, planLine, holders, blockLine, lines, lastLine, listingOf, refusedLine, printedOf, printed, stepLimit, listingRoom}
+use Rattle.model.specs.Listing.{digits, decimal, numberField, fields, line, planLine, holders, blockLine, lastLine, listingOf, refusedLine, printedOf, printed, stepLimit, listingRoom}
 use Rattle.theory.specs.Widths.{shareBound}
-use Rattle.theory.proofs.Plan.{field-bound, planIn-blockCount, planIn-blockOf}
+use Rattle.theory.proofs.Plan.{field-bound, field-narrow, formatOf-popularity, planIn-blockCount, planIn-blockOf}
 use Rattle.theory.proofs.Refusal.{refusal-le, refusal-zero, judge-refused, judge-accepted}
 use Rattle.theory.proofs.Replication.{share-bound}
 use Rattle.theory.proofs.Listing.{listingOf-fits, refusedLine-length, printed-refused, printed-accepted}
@@ -26,7 +26,7 @@ use Rattle.theorems.proofs.Trials.{figures, trials}
 
 -- the lines of a run
 runLines : Plan → Run → List ℕ
-runLines p r = planLine p ++ lines (blockCount p) (blockLine p (r .words)) ++ lastLine p r
+runLines p r = planLine p ++ joined (blockCount p) (blockLine p (r .words)) ++ lastLine p r
 
 -- plan H's first placement, at rest
 H-first : firstPlacement (planIn plan-H) ≡ 15 ∷ 5 ∷ 2 ∷ []
@@ -34,7 +34,7 @@ unfolding firstPlacement planIn blockIn formatOf field upper isPaired pairsBack 
 H-first = rw (figures .H) refl
 
 H-lines : runLines (planIn plan-H) (run (planIn plan-H) stepLimit (15 ∷ 5 ∷ 2 ∷ [])) ≡ listing-H
-unfolding runLines lastLine planLine blockLine lines holders line fields numberField decimal digits reportOf maxLoad minLoad totalLoad maxShare planIn blockIn formatOf field upper isPaired pairsBack pairsNext minTotal shifted afterMove afterSwap after improves canMove canSwap routes nextMove nextSwap nextStep run bit replicas replicasIn domainsUsed used allWithin allSpread allFit allApart keptApart partner countsFeasible isFeasible shareOf load largest smallest share limit sum table allb firstUp plan-H listing-H
+unfolding runLines lastLine planLine blockLine joined holders line fields numberField decimal digits reportOf maxLoad minLoad totalLoad maxShare planIn blockIn formatOf field upper isPaired pairsBack pairsNext minTotal shifted afterMove afterSwap after improves canMove canSwap routes nextMove nextSwap nextStep run bit replicas replicasIn domainsUsed used allWithin allSpread allFit allApart keptApart partner countsFeasible isFeasible shareOf load largest smallest share limit sum table allb firstUp plan-H listing-H
 H-lines = refl
 
 H-printed : printed plan-H stepLimit ≡ listing-H
@@ -51,10 +51,10 @@ empty-printed budget = refl
 -- shares are within their bound, since a popularity is within its own
 share-fits : (bytes : List ℕ) → ((i : ℕ) → getD bytes i 0 < 256) → (count : ℕ → ℕ) (i : ℕ) → i < blockCount (planIn bytes)
     → share (blockOf (planIn bytes) i .popularity) (count i) < shareBound
-unfolding blockIn formatOf
+unfolding blockIn
 share-fits bytes h count i l =
     rw (planIn-blockOf bytes i (rw (planIn-blockCount bytes) at l))
-    (share-bound _ (count i) (field-bound bytes h (recordAt (formatIn bytes) i) 3))
+    (share-bound _ (count i) (field-narrow _ _ _ (field-bound bytes h (recordAt (formatIn bytes) i) _) (formatOf-popularity (versionIn bytes))))
 
 pub listing-laws : ListingLaws
 listing-laws =

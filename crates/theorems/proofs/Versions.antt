@@ -1,5 +1,5 @@
--- A version 2 plan without pairs answers as the same plan in version 1: the two read as plans that are equal but for the version, and
--- no definition above the reading looks at it.
+-- A plan answers as the plan with the same fields in another version: the two read as plans that are equal but for the version, and no
+-- definition above the reading looks at it.
 -- Assumes nothing.
 use mathlib.Core.Path.{_≡_, refl, sym, _∙_}
 use mathlib.Core.List.{List}
@@ -8,14 +8,16 @@ use native.Mathlib.Omega.{arith}
 use borrow.Author.Tests.{le-ltb, eq-eqb}
 use lib.ListN.{length}
 use Rattle.order.proofs.Tables.{table-cong}
-use Rattle.model.specs.Plan.{Plan, upper, isPaired, pairsBack, pairsNext, partner, minTotal, markIn, versionIn, racksIn, rackSizeIn, capacityIn, blockCountIn, formatOf, recordAt, blockIn, planIn}
-use Rattle.model.specs.Refusal.{check1, check2, check3, check4, check5, check6, check7, blockRefusal, blocksRefusal, pairRefusal, pairsRefusal, planRefusal, refusal, Verdict, refused, accepted, verdict, judge}
+use Rattle.model.specs.Plan.{Plan, upper, isPaired, pairsBack, pairsNext, partner, minTotal, markIn, versionIn, racksIn, rackSizeIn, capacityIn, blockCountIn, latestVersion, formatOf, recordAt, blockIn, planIn}
+use Rattle.model.specs.Refusal.{check1, check2, check4, check5, check6, check7, blockRefusal, blocksRefusal, pairRefusal, pairsRefusal, planRefusal, refusal, Verdict, refused, accepted, verdict, judge}
 use Rattle.model.specs.Replication.{limit, largestShare, need, reachable, figure, chosen}
 use Rattle.model.specs.Placement.{replicas, replicasIn, domainsUsed, used, allWithin, allSpread, allFit, keptApart, allApart, countsFeasible, isFeasible, position, laidWord, firstWord, firstPlacement, shareOf, load, maxLoad, minLoad, totalLoad, maxShare}
 use Rattle.model.specs.Steps.{after, improves, canMove, canSwap, routes, nextMove, nextSwap, nextStep, run}
 use Rattle.model.specs.Calls.{Outcome, onPlan, bufferRefusal, allCounted, placementRefusal, onPlacement, reportOf, countsCall, firstCall, checkCall, reportCall, stepCall, runCall}
 use Rattle.model.specs.Listing.{planLine, blockLine, lastLine, listingOf, printedOf, printed}
-use Rattle.theorems.specs.Versions.{withVersion, verdictWith, VersionFree, SameFields, Versions}
+use Rattle.model.specs.Conversion.{withVersion}
+use Rattle.theory.proofs.Refusal.{check3-read}
+use Rattle.theorems.specs.Versions.{verdictWith, VersionFree, Described, SameFields, SameAnswers, Versions}
 
 -- ── VersionFree ──────────────────────────────────────────────────────────────────────────────────
 module _ (version : ℕ) (p : Plan) where
@@ -49,20 +51,20 @@ module _ (version : ℕ) (p : Plan) where
 
 -- ── SameFields ───────────────────────────────────────────────────────────────────────────────────
 -- bytes of a version that is read, as long as it wants, are judged by the rows between
-rows-between : (bytes : List ℕ) (version : ℕ) → versionIn bytes ≡ version → ((later : ℕ) → check3 version later ≡ later)
+rows-between : (bytes : List ℕ) (version : ℕ) → versionIn bytes ≡ version → Described version
     → length bytes ≡ recordAt (formatOf version) (blockCountIn bytes)
     → refusal bytes
     ≡ check2 (markIn bytes)
     (check4 (racksIn bytes) (rackSizeIn bytes) (check5 (capacityIn bytes) (check6 (blockCountIn bytes) (planRefusal (planIn bytes)))))
 unfolding refusal check1 check7 formatOf
-rows-between bytes version is reads sized =
-    rw (le-ltb (length bytes) 15 (omega arith), is, reads, eq-eqb (length bytes) (recordAt (formatOf version) (blockCountIn bytes)) sized)
+rows-between bytes version is described sized =
+    rw (le-ltb (length bytes) 15 (omega arith), is, check3-read latestVersion version _ (described .version-pos) (described .version-max), eq-eqb (length bytes) (recordAt (formatOf version) (blockCountIn bytes)) sized)
 
-module _ (old new : List ℕ) (same : SameFields old new) where
-  plans : planIn new ≡ withVersion 2 (planIn old)
+module _ (from to : ℕ) (read-from : Described from) (read-to : Described to) (old new : List ℕ) (same : SameFields from to old new) where
+  plans : planIn new ≡ withVersion to (planIn old)
   unfolding planIn
   plans =
-      let records = table-cong (blockCountIn old) (blockIn (formatOf 2) new) (blockIn (formatOf 1) old) (same .records-same) in
+      let records = table-cong (blockCountIn old) (blockIn (formatOf to) new) (blockIn (formatOf from) old) (same .records-same) in
       rw (
         same .new-version,
         same .old-version,
@@ -75,17 +77,16 @@ module _ (old new : List ℕ) (same : SameFields old new) where
       )
 
   refusals : refusal new ≡ refusal old
-  unfolding check3
   refusals =
-      rows-between new 2 (same .new-version) (λ later. refl) (rw (same .blocks-same) (same .new-length))
-      ∙ (rw (same .mark-same, same .racks-same, same .size-same, same .capacity-same, same .blocks-same, plans, planRefusal-free 2 (planIn old)))
-      ∙ sym (rows-between old 1 (same .old-version) (λ later. refl) (same .old-length))
+      rows-between new to (same .new-version) read-to (rw (same .blocks-same) (same .new-length))
+      ∙ (rw (same .mark-same, same .racks-same, same .size-same, same .capacity-same, same .blocks-same, plans, planRefusal-free to (planIn old)))
+      ∙ sym (rows-between old from (same .old-version) read-from (same .old-length))
 
-  verdicts : judge new ≡ verdictWith 2 (judge old)
+  verdicts : judge new ≡ verdictWith to (judge old)
   unfolding judge
   verdicts = rw (refusals, plans) (go (refusal old))
     where
-      go : (code : ℕ) → verdict code (withVersion 2 (planIn old)) ≡ verdictWith 2 (verdict code (planIn old))
+      go : (code : ℕ) → verdict code (withVersion to (planIn old)) ≡ verdictWith to (verdict code (planIn old))
       go zero = refl
       go (suc code) = refl
 
@@ -107,21 +108,24 @@ unfolding printedOf
 printedOf-free version (refused code) budget = refl
 printedOf-free version (accepted p) budget = listing-free version p budget
 
-pub versions : Versions
+-- where the verdict is the same but for the plan's version, all answers are
+pub same-answers : (to : ℕ) (old new : List ℕ) → judge new ≡ verdictWith to (judge old) → SameAnswers to old new
 unfolding countsCall firstCall checkCall reportCall stepCall runCall onPlacement printed reportOf maxLoad minLoad totalLoad maxShare largestShare firstWord laidWord position shareOf load replicas chosen need figure reachable limit upper isPaired pairsBack pairsNext
-versions old new same =
-    let e = verdicts old new same in
+same-answers to old new e =
     record {
       verdict = e;
-      counts = λ items. rw e (calls-free 2 (judge old) items (bufferRefusal items) _ (λ p. refl) (λ p. refl));
-      first = λ words. rw e (calls-free 2 (judge old) words (bufferRefusal words) _ (λ p. refl) (λ p. refl));
-      check = λ words. rw e (calls-free 2 (judge old) words (placementRefusal words) _ (placementRefusal-free 2 words) (λ p. refl));
-      report = λ words. rw e (calls-free 2 (judge old) words (placementRefusal words) _ (placementRefusal-free 2 words) (λ p. refl));
+      counts = λ items. rw e (calls-free to (judge old) items (bufferRefusal items) _ (λ p. refl) (λ p. refl));
+      first = λ words. rw e (calls-free to (judge old) words (bufferRefusal words) _ (λ p. refl) (λ p. refl));
+      check = λ words. rw e (calls-free to (judge old) words (placementRefusal words) _ (placementRefusal-free to words) (λ p. refl));
+      report = λ words. rw e (calls-free to (judge old) words (placementRefusal words) _ (placementRefusal-free to words) (λ p. refl));
       step = λ words.
           rw e
-          (calls-free 2 (judge old) words (placementRefusal words) _ (placementRefusal-free 2 words) (λ p. rw (next-free 2 p words)));
+          (calls-free to (judge old) words (placementRefusal words) _ (placementRefusal-free to words) (λ p. rw (next-free to p words)));
       run = λ words budget.
           rw e
-          (calls-free 2 (judge old) words (placementRefusal words) _ (placementRefusal-free 2 words) (λ p. rw (run-free 2 p budget words)));
-      listing = λ budget. rw e (printedOf-free 2 (judge old) budget);
+          (calls-free to (judge old) words (placementRefusal words) _ (placementRefusal-free to words) (λ p. rw (run-free to p budget words)));
+      listing = λ budget. rw e (printedOf-free to (judge old) budget);
     }
+
+pub versions : Versions
+versions from to read-from read-to old new same = same-answers to old new (verdicts from to read-from read-to old new same)

@@ -1,29 +1,19 @@
--- Document 02, U1: a version 2 plan whose pair bytes are all 0 is the version 1 plan with the same fields but for its version, and no
--- call goes by the version: all answer the same.
+-- Document 02, U1 and U4: plans of two versions with the same fields are equal but for the version, and no call goes by the version: all
+-- answer the same.
 use mathlib.Core.Path.{_≡_}
 use mathlib.Core.List.{List}
-use Prim.Native.Nat.{ℕ, _<_}
+use Prim.Native.Nat.{ℕ, _<_, _≤_}
 use lib.ListN.{length}
-use Rattle.model.specs.Plan.{Plan, markIn, versionIn, racksIn, rackSizeIn, capacityIn, budgetIn, blockCountIn, formatOf, recordAt, blockIn}
+use Rattle.model.specs.Plan.{Plan, markIn, versionIn, racksIn, rackSizeIn, capacityIn, budgetIn, blockCountIn, latestVersion, formatOf, recordAt, blockIn}
 use Rattle.model.specs.Refusal.{Verdict, refused, accepted, judge}
 use Rattle.model.specs.Replication.{chosen}
 use Rattle.model.specs.Placement.{firstPlacement}
 use Rattle.model.specs.Steps.{nextStep, run}
 use Rattle.model.specs.Calls.{countsCall, firstCall, checkCall, reportCall, stepCall, runCall}
 use Rattle.model.specs.Listing.{listingOf, printed}
+use Rattle.model.specs.Conversion.{withVersion}
 
--- The same plan in another version, and a verdict that accepts it.
-abbrev pub withVersion : ℕ → Plan → Plan
-withVersion version p =
-    record {
-      version = version;
-      racks = p .racks;
-      rackSize = p .rackSize;
-      capacity = p .capacity;
-      budget = p .budget;
-      blocks = p .blocks;
-    }
-
+-- The verdict that accepts the same plan in another version.
 abbrev pub verdictWith : ℕ → Verdict → Verdict
 verdictWith version (refused code) = refused code
 verdictWith version (accepted p) = accepted (withVersion version p)
@@ -36,24 +26,29 @@ pub record VersionFree (version : ℕ) (p : Plan) : Type 0 where
   pub runs : (budget : ℕ) (words : List ℕ) → run (withVersion version p) budget words ≡ run p budget words
   pub listing : (budget : ℕ) → listingOf (withVersion version p) budget ≡ listingOf p budget
 
--- Version 1 bytes, and version 2 bytes with the same fields, each as long as its version wants. The records are equal where the pair
--- byte is 0, as it is for every block of version 1.
-pub record SameFields (old new : List ℕ) : Type 0 where
+-- A version that is read.
+pub record Described (version : ℕ) : Type 0 where
+  pub version-pos : 1 ≤ version
+  pub version-max : version ≤ latestVersion
+
+-- Bytes of one version, and bytes of another with the same fields, each as long as its version wants. A record without a pair byte equals
+-- one whose pair byte is 0.
+pub record SameFields (from to : ℕ) (old new : List ℕ) : Type 0 where
   pub mark-same : markIn new ≡ markIn old
-  pub old-version : versionIn old ≡ 1
-  pub new-version : versionIn new ≡ 2
+  pub old-version : versionIn old ≡ from
+  pub new-version : versionIn new ≡ to
   pub racks-same : racksIn new ≡ racksIn old
   pub size-same : rackSizeIn new ≡ rackSizeIn old
   pub capacity-same : capacityIn new ≡ capacityIn old
   pub budget-same : budgetIn new ≡ budgetIn old
   pub blocks-same : blockCountIn new ≡ blockCountIn old
-  pub records-same : (i : ℕ) → i < blockCountIn old → blockIn (formatOf 2) new i ≡ blockIn (formatOf 1) old i
-  pub old-length : length old ≡ recordAt (formatOf 1) (blockCountIn old)
-  pub new-length : length new ≡ recordAt (formatOf 2) (blockCountIn old)
+  pub records-same : (i : ℕ) → i < blockCountIn old → blockIn (formatOf to) new i ≡ blockIn (formatOf from) old i
+  pub old-length : length old ≡ recordAt (formatOf from) (blockCountIn old)
+  pub new-length : length new ≡ recordAt (formatOf to) (blockCountIn old)
 
 -- The verdict is the same but for the plan's version, and so is what every call answers and leaves, and what is printed.
-pub record SameAnswers (old new : List ℕ) : Type 0 where
-  pub verdict : judge new ≡ verdictWith 2 (judge old)
+pub record SameAnswers (to : ℕ) (old new : List ℕ) : Type 0 where
+  pub verdict : judge new ≡ verdictWith to (judge old)
   pub counts : (items : List ℕ) → countsCall new items ≡ countsCall old items
   pub first : (words : List ℕ) → firstCall new words ≡ firstCall old words
   pub check : (words : List ℕ) → checkCall new words ≡ checkCall old words
@@ -63,4 +58,4 @@ pub record SameAnswers (old new : List ℕ) : Type 0 where
   pub listing : (budget : ℕ) → printed new budget ≡ printed old budget
 
 abbrev pub Versions : Type 0
-Versions = (old new : List ℕ) → SameFields old new → SameAnswers old new
+Versions = (from to : ℕ) → Described from → Described to → (old new : List ℕ) → SameFields from to old new → SameAnswers to old new

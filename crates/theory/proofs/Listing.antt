@@ -16,15 +16,16 @@ use lib.Dec.{eqb}
 use lib.ListN.{length, length-append}
 use Rattle.order.specs.Sum.{sum}
 use Rattle.order.proofs.Sums.{sum-suc, sum-mono, sum-const, delta-same, delta-other}
+use Rattle.order.proofs.Tables.{joined-length-le}
 use Rattle.order.proofs.Extremes.{largest-le, smallest-term}
 use Rattle.model.specs.Plan.{Plan, machines, blockCount, blockOf}
-use Rattle.model.specs.Refusal.{Verdict, refused, accepted, judge}
+use Rattle.model.specs.Refusal.{maxMachines, Verdict, refused, accepted, judge}
 use Rattle.model.specs.Replication.{share, chosen}
 use Rattle.model.specs.Placement.{bit, wordOf, held, countOf, replicas, Feasible, firstPlacement, shareOf, load, maxLoad, minLoad, totalLoad, maxShare}
 use Rattle.model.specs.Steps.{run}
 use Rattle.model.specs.Calls.{refuse, reportOf}
-use Rattle.model.specs.Listing.{digits, decimal, numberField, fields, line, planLine, holders, blockLine, lines, endWord, lastLine, listingOf, refusedLine, printedOf, printed, listingRoom, shortRoom, roomRefusal, wrote, listingCall, printCall}
-use Rattle.theory.specs.Widths.{shareBound}
+use Rattle.model.specs.Listing.{digits, decimal, numberField, fields, line, planLine, holders, blockLine, endWord, lastLine, listingOf, refusedLine, printedOf, printed, listingRoom, shortRoom, roomRefusal, wrote, listingCall, printCall}
+use Rattle.theory.specs.Widths.{shareBound, loadBound}
 use Rattle.theory.specs.Refusal.{Valid}
 use Rattle.theory.specs.Listing.{ListingFits}
 use Rattle.theory.proofs.Plan.{machines-pos}
@@ -176,13 +177,13 @@ module _ (word m : ℕ) (on : bit word m ≡ 1) (first : (k : ℕ) → k < m →
   ]
 
 -- ── blockLine ────────────────────────────────────────────────────────────────────────────────────
--- of a placement whose shares fit 34 bits
+-- of a placement whose shares are in their bound
 module _ (p : Plan) (valid : Valid p) (words : List ℕ) (feasible : Feasible p (chosen p) words)
     (narrow : (i : ℕ) → i < blockCount p → share (blockOf p i .popularity) (chosen p i) < shareBound) where
   share-narrow : (i : ℕ) → i < blockCount p → shareOf p words i < shareBound
   share-narrow i l = rw (shareOf-feasible p (chosen p) words feasible i l) at (narrow i l)
 
-  blockLine-length : (i : ℕ) → i < blockCount p → length (blockLine p words i) ≤ 49
+  blockLine-length : (i : ℕ) → i < blockCount p → length (blockLine p words i) ≤ 52
   unfolding blockLine replicas
   blockLine-length i l =
       let few = valid .shaped .blocks-max in
@@ -193,44 +194,13 @@ module _ (p : Plan) (valid : Valid p) (words : List ℕ) (feasible : Feasible p 
       let held-on = holders-length (wordOf words i) (machines p) machines-few in
       let a = numberField-length 3 i (omega arith) in
       let b = numberField-length 0 (countOf p words i) (omega arith) in
-      let c = numberField-length 10 (shareOf p words i) (omega arith) in
+      let c = numberField-length 13 (shareOf p words i) (omega arith) in
       rw (line-length, fields-cons, fields-cons, fields-cons) (omega arith)
-
--- ── lines ────────────────────────────────────────────────────────────────────────────────────────
-pub lines-zero : (f : ℕ → List ℕ) → lines 0 f ≡ []
-unfolding lines
-lines-zero f = refl
-
-pub lines-step : (n : ℕ) (f : ℕ → List ℕ) → lines (n + 1) f ≡ lines n f ++ f n
-unfolding lines
-lines-step n f = rw add-one
-
-pub lines-cong : (n : ℕ) (f g : ℕ → List ℕ) → ((i : ℕ) → i < n → f i ≡ g i) → lines n f ≡ lines n g
-unfolding lines
-lines-cong zero f g e = refl
-lines-cong (suc n) f g e = ap₂ _++_ (lines-cong n f g (λ i l. e i (omega arith))) (e n (omega arith))
-
-pub lines-length : (n c : ℕ) (f : ℕ → List ℕ) → ((i : ℕ) → i < n → length (f i) ≤ c) → length (lines n f) ≤ n * c
-unfolding lines
-lines-length zero c f h = omega arith
-lines-length (suc n) c f h =
-    let before = lines-length n c f (λ i l. h i (omega arith)) in
-    let here = h n (omega arith) in
-    simp length-append (omega (arith, before, here))
-
--- the first lines are no longer than all of them
-pub lines-prefix : (n : ℕ) (f : ℕ → List ℕ) (i : ℕ) → i ≤ n → length (lines i f) ≤ length (lines n f)
-unfolding lines
-lines-prefix zero f i l = rw (le-zero l) (omega arith)
-lines-prefix (suc n) f i l = elim (ℕ-discrete i (suc n)) [
-  | yes e ↦ rw e (omega arith)
-  | no d ↦ let before = lines-prefix n f i (omega arith) in simp length-append (omega arith)
-]
 
 -- ── lastLine ─────────────────────────────────────────────────────────────────────────────────────
 module _ (p : Plan) (valid : Valid p) (words : List ℕ) (feasible : Feasible p (chosen p) words)
     (narrow : (i : ℕ) → i < blockCount p → share (blockOf p i .popularity) (chosen p i) < shareBound) where
-  load-narrow : (m : ℕ) → load p words m ≤ 2 ^ 44
+  load-narrow : (m : ℕ) → load p words m ≤ loadBound
   unfolding load
   load-narrow m =
       let few = valid .shaped .blocks-max in
@@ -239,35 +209,35 @@ module _ (p : Plan) (valid : Valid p) (words : List ℕ) (feasible : Feasible p 
       in
       omega (arith, sum-mono (blockCount p) _ (λ i. shareBound) each, sum-const (blockCount p) (shareBound))
 
-  max-narrow : maxLoad p words ≤ 2 ^ 44
+  max-narrow : maxLoad p words ≤ loadBound
   unfolding maxLoad
-  max-narrow = largest-le (machines p) (load p words) (2 ^ 44) (λ m l. load-narrow m)
+  max-narrow = largest-le (machines p) (load p words) loadBound (λ m l. load-narrow m)
 
-  min-narrow : minLoad p words ≤ 2 ^ 44
+  min-narrow : minLoad p words ≤ loadBound
   unfolding minLoad
   min-narrow =
       le-trans (smallest-term (machines p) (load p words) 0 (machines-pos p (valid .shaped))) (load-narrow 0)
 
-  total-narrow : totalLoad p words ≤ 2 ^ 50
+  total-narrow : totalLoad p words ≤ loadBound * maxMachines
   unfolding totalLoad
   total-narrow =
       let few = valid .shaped .machines-max in
-      omega (arith, sum-mono (machines p) (load p words) (λ m. 2 ^ 44) (λ m l. load-narrow m), sum-const (machines p) (2 ^ 44))
+      omega (arith, sum-mono (machines p) (load p words) (λ m. loadBound) (λ m l. load-narrow m), sum-const (machines p) loadBound)
 
   top-narrow : maxShare p words ≤ shareBound
   unfolding maxShare
   top-narrow = largest-le (blockCount p) (shareOf p words) (shareBound) (λ i l. omega (arith, share-narrow p valid words feasible narrow i l))
 
   lastLine-length : (rested : Bool) (steps : ℕ) → steps < 2 ^ 32
-      → length (lastLine p (record { rested = rested; steps = steps; words = words })) ≤ 84
+      → length (lastLine p (record { rested = rested; steps = steps; words = words })) ≤ 89
   unfolding lastLine reportOf
   lastLine-length rested steps h =
       let word = end-length rested in
       let a = numberField-length 9 steps (omega arith) in
-      let b = numberField-length 15 (maxLoad p words) (omega (arith, max-narrow)) in
-      let c = numberField-length 15 (minLoad p words) (omega (arith, min-narrow)) in
-      let d = numberField-length 15 (totalLoad p words) (omega (arith, total-narrow)) in
-      let e = numberField-length 10 (maxShare p words) (omega (arith, top-narrow)) in
+      let b = numberField-length 17 (maxLoad p words) (omega (arith, max-narrow)) in
+      let c = numberField-length 17 (minLoad p words) (omega (arith, min-narrow)) in
+      let d = numberField-length 17 (totalLoad p words) (omega (arith, total-narrow)) in
+      let e = numberField-length 13 (maxShare p words) (omega (arith, top-narrow)) in
       rw (line-length, fields-cons, fields-cons, fields-cons, fields-cons, fields-cons) (omega (arith, fields-none))
     where
       end-length : (rested : Bool) → length (endWord rested) ≤ 5
@@ -287,7 +257,7 @@ listingOf-fits p valid narrow budget h =
     let few = valid .shaped .blocks-max in
     let within = run-laws p budget (firstPlacement p) .within in
     let first = planLine-length p valid in
-    let blocks = lines-length (blockCount p) 49 (blockLine p (r .words)) (blockLine-length p valid (r .words) feasible narrow) in
+    let blocks = joined-length-le (blockCount p) 52 (blockLine p (r .words)) (blockLine-length p valid (r .words) feasible narrow) in
     let last = lastLine-length p valid (r .words) feasible narrow (r .rested) (r .steps) (omega arith) in
     simp length-append (omega arith)
 

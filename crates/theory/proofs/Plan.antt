@@ -6,9 +6,9 @@ use mathlib.Core.Bool.{Bool, true, false, cond, _||_}
 use mathlib.Core.List.{List}
 use mathlib.Core.Logic.{_⊎_, inl, inr}
 use Prim.Native.Nat.{ℕ, zero, suc, _+_, _*_, _/_, _%_, _^_, _≤_, _<_}
-use native.Mathlib.Nat.{one-le-mul, div-lt-iff-lt-mul, mod-mod-of-dvd, dvd-mul-right, min-le-left, min-le-right, le-trans, mul-le-mul, pow-suc}
+use native.Mathlib.Nat.{one-le-mul, div-lt-iff-lt-mul, mod-mod-of-dvd, dvd-mul-right, min-le-left, min-le-right, le-trans, mul-le-mul, pow-suc, pow-le-pow-right}
 use native.Mathlib.Omega.{arith}
-use lib.Dec.{ltb}
+use lib.Dec.{lit<, ltb}
 use lib.Arith.{digits-div, digits-lt}
 use lib.ListN.{getD, take}
 use lib.Seq.{getD-take}
@@ -17,6 +17,7 @@ use Rattle.order.proofs.Booleans.{no-contradiction, cond-all}
 use Rattle.order.proofs.Ranges.{sum-group}
 use Rattle.order.proofs.Tables.{length-table, getD-table}
 use Rattle.model.specs.Plan.{Plan, machines, domains, domain, domainSize, blockCount, noBlock, blockOf, pairsNext, pairsBack, isPaired, partner, maxReplicas, upper, field, latestVersion, formatOf, formatIn, recordAt, blockIn, blockCountIn, planIn}
+use Rattle.theory.specs.Widths.{widestPopularity}
 use Rattle.theory.specs.Refusal.{ValidPair, Shaped}
 
 -- ── machines ─────────────────────────────────────────────────────────────────────────────────────
@@ -190,6 +191,10 @@ field-bound bytes h at (suc width) =
     let p = pow-suc 256 width in
     omega (arith, h (at + width))
 
+-- a number of fewer bytes is below the bound of more
+pub field-narrow : (value width widest : ℕ) → value < 256 ^ width → width ≤ widest → value < 256 ^ widest
+field-narrow value width widest l fits = let wide = pow-le-pow-right {n = 256} (lit< tt) fits in omega arith
+
 -- a field of the first n bytes
 pub field-take : (n : ℕ) (bytes : List ℕ) (at width : ℕ) → at + width ≤ n → field (take n bytes) at width ≡ field bytes at width
 unfolding field
@@ -198,14 +203,24 @@ field-take n bytes at (suc width) l =
     ap₂ (λ (x y : ℕ). x * 256 + y) (field-take n bytes at width (omega arith)) (getD-take n bytes (at + width) 0 (omega arith))
 
 -- ── formatOf ─────────────────────────────────────────────────────────────────────────────────────
+-- no version's popularity is wider than the widest
+pub formatOf-popularity : (version : ℕ) → formatOf version .popularityWidth ≤ widestPopularity
+unfolding formatOf
+formatOf-popularity version = cond-all (λ n. n ≤ widestPopularity) (ltb version 3) 3 4 (λ e. omega arith) (omega arith)
+
 -- no version's plan of as many blocks is longer than the latest one's
 pub formatOf-longest : (version count most : ℕ) → count ≤ most → recordAt (formatOf version) count ≤ recordAt (formatOf latestVersion) most
 unfolding formatOf
 formatOf-longest version count most l =
-    go (cond (ltb version 2) 0 1) (cond-all (λ n. n ≤ 1) (ltb version 2) 0 1 (λ e. omega arith) (omega arith))
+    go (cond (ltb version 3) 3 4) (cond (ltb version 2) 0 1)
+    (cond-all (λ n. n ≤ 4) (ltb version 3) 3 4 (λ e. omega arith) (omega arith))
+    (cond-all (λ n. n ≤ 1) (ltb version 2) 0 1 (λ e. omega arith) (omega arith))
   where
-    go : (width : ℕ) → width ≤ 1 → 15 + (3 + 1 + 1 + width) * count ≤ 15 + (3 + 1 + 1 + 1) * most
-    go width h = let product : (3 + 1 + 1 + width) * count ≤ 6 * most = mul-le-mul (omega arith) l in omega arith
+    go : (popularity pair : ℕ) → popularity ≤ 4 → pair ≤ 1
+        → 15 + (popularity + 1 + 1 + pair) * count ≤ 15 + (4 + 1 + 1 + 1) * most
+    go popularity pair wide paired =
+        let product : (popularity + 1 + 1 + pair) * count ≤ 7 * most = mul-le-mul (omega arith) l in
+        omega arith
 
 -- ── planIn ───────────────────────────────────────────────────────────────────────────────────────
 pub planIn-blockCount : (bytes : List ℕ) → blockCount (planIn bytes) ≡ blockCountIn bytes

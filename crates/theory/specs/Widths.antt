@@ -5,7 +5,7 @@ use Rattle.model.specs.Replication.{unit}
 
 -- The bytes of the widest popularity of any version, and what every popularity is below.
 abbrev pub widestPopularity : ℕ
-widestPopularity = 3
+widestPopularity = 4
 
 abbrev pub popularityBound : ℕ
 popularityBound = 256 ^ widestPopularity

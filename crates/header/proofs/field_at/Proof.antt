@@ -7,7 +7,7 @@ use native.Mathlib.Numerals.{add-one}
 use native.Mathlib.Omega.{arith}
 use borrow.Author.Needs.{needs}
 use Rattle.model.specs.Plan.{field}
-use Rattle.header.proofs.Laws.{field-narrow}
+use Rattle.theory.proofs.Plan.{field-narrow}
 use Rattle.header.proofs.field_at.Statement.{statement}
 use Rattle.header.proofs.field_at.Tie as tie
 

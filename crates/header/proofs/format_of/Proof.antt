@@ -6,14 +6,18 @@ use Rattle.header.proofs.Laws.{formatOf-fits}
 use Rattle.header.proofs.format_of.Statement.{statement}
 use Rattle.header.proofs.format_of.Tie as tie
 
+popularity-width-requires : tie.Need-popularity-width-requires
+popularity-width-requires c κs = search needs
+
 pair-byte-width-requires : tie.Need-pair-byte-width-requires
 pair-byte-width-requires c κs = search needs
 
 returns : tie.Need-returns
 unfolding formatOf
 returns c =
-    let width = c .pair-byte-width .ensures in
-    (rw width, rw width (formatOf-fits (c .before .args .version)))
+    let wide = c .before .popularity-width .ensures in
+    let paired = c .pair-byte-width .ensures in
+    (rw (wide, paired), rw (wide, paired) (formatOf-fits (c .before .before .args .version)))
 
 pub format-of-spec : {M : Type 1} → statement M
-format-of-spec = tie.close (tie.spec pair-byte-width-requires returns)
+format-of-spec = tie.close (tie.spec popularity-width-requires pair-byte-width-requires returns)

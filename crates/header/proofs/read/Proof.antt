@@ -6,7 +6,7 @@ use native.Mathlib.Omega.{arith}
 use borrow.Author.Needs.{needs}
 use denote.Ref.{now}
 use lib.ListN.{length}
-use Rattle.model.specs.Plan.{markIn, versionIn, racksIn, rackSizeIn, capacityIn, blockCountIn, Format, formatIn, recordAt}
+use Rattle.model.specs.Plan.{markIn, versionIn, racksIn, rackSizeIn, capacityIn, blockCountIn, latestVersion, Format, formatIn, recordAt}
 use Rattle.model.specs.Refusal.{orElse, maxCapacity, maxBlocks, check1, check2, check3, check4, check5, check6, check7, refusal}
 use Rattle.theory.proofs.Refusal.{orElse-some, check4-zero, check5-zero, check6-zero, check7-zero}
 use Rattle.header.specs.Header.{headerIn}
@@ -30,7 +30,7 @@ sizes-zero f capacity blocks size code is none =
 -- where checks 1 to 3 passed, the later rows decide
 past-mark : (c : tie.Else1) (later : ℕ)
     → let bytes = now (c .before .before .before .args .bytes) in
-    check1 (length bytes) (check2 (markIn bytes) (check3 (versionIn bytes) later)) ≡ later
+    check1 (length bytes) (check2 (markIn bytes) (check3 latestVersion (versionIn bytes) later)) ≡ later
 past-mark c later = c .before .mark-refusal .ensures .code later ∙ orElse-none _ later (c .if1 .left)
 
 rack-code : (c : tie.After-rack-refusal) (later : ℕ)

@@ -5,7 +5,7 @@ use mathlib.Core.Path.{sym, _∙_}
 use Rattle.theory.proofs.Listing.{listingCall-short, listingCall-refused, listingCall-made}
 use Rattle.plan.specs.Reading.{verdictOf}
 use Rattle.listing.specs.Entries.{listingOutcome}
-use Rattle.listing.proofs.Laws.{listed-is}
+use Rattle.text.proofs.Laws.{put-wrote}
 use Rattle.listing.proofs.listing.Statement.{statement}
 use Rattle.listing.proofs.listing.Tie as tie
 
@@ -44,7 +44,7 @@ returns-3 c =
     let listed = c .before .before in
     let read = listed .before .before .before .before .before in
     let accepts = sym (rw (listed .before .before .before .reading2 .given .1) at (read .read .ensures)) in
-    listed-is _ _ _ _ (listed .list-accepted .ensures) ∙ sym (listingCall-made _ _ _ _ (read .before .if1 .left) accepts)
+    put-wrote _ _ _ _ (listed .list-accepted .ensures) ∙ sym (listingCall-made _ _ _ _ (read .before .if1 .left) accepts)
 
 pub listing-spec : {M : Type 1} → statement M
 listing-spec =

@@ -10,7 +10,7 @@ use Rattle.theory.proofs.Listing.{refusedLine-length, printed-refused, printed-
 use Rattle.plan.specs.Reading.{verdictOf}
 use Rattle.listing.specs.Rows.{readingCode}
 use Rattle.listing.specs.Entries.{listingOutcome}
-use Rattle.listing.proofs.Laws.{listed-is}
+use Rattle.text.proofs.Laws.{put-wrote}
 use Rattle.listing.proofs.print.Statement.{statement}
 use Rattle.listing.proofs.print.Tie as tie
 
@@ -59,7 +59,7 @@ returns-2 c =
     let read = code .before .before .before in
     let refuses = sym (rw (told .1) at (read .read .ensures)) in
     let same : code .refusal-code .result ≡ readingCode (read .read .result) = code .refusal-code .ensures in
-    listed-is _ _ _ _ (put .put-line .ensures)
+    put-wrote _ _ _ _ (put .put-line .ensures)
     ∙ ap (λ (n : ℕ). wrote (refusedLine n) (read .before .before .before .before .args .text .now)) (same ∙ ap readingCode (told .1))
     ∙ ap (λ (out : List ℕ). wrote out (read .before .before .before .before .args .text .now)) (sym (printed-refused _ _ _ refuses))
     ∙ sym (printCall-made _ _ _ (read .before .if1 .left))
@@ -79,7 +79,7 @@ returns-3 c =
     let listed = c .before .before in
     let read = listed .before .before .before .before .before in
     let accepts = sym (rw (listed .before .before .before .reading .given .1) at (read .read .ensures)) in
-    listed-is _ _ _ _ (listed .list-accepted .ensures)
+    put-wrote _ _ _ _ (listed .list-accepted .ensures)
     ∙ ap (λ (out : List ℕ). wrote out (read .before .before .before .before .args .text .now)) (sym (printed-accepted _ _ _ accepts))
     ∙ sym (printCall-made _ _ _ (read .before .if1 .left))
 

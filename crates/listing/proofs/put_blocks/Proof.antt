@@ -4,24 +4,23 @@ use mathlib.Core.Path.{_≡_, refl, _∙_}
 use Prim.Native.Nat.{_-_, _≤_}
 use native.Mathlib.Omega.{arith}
 use lib.ListN.{length}
-use Rattle.model.specs.Listing.{lines}
-use Rattle.theory.proofs.Listing.{lines-zero}
+use Rattle.order.specs.Table.{joined}
+use Rattle.order.proofs.Tables.{joined-zero}
 use Rattle.text.specs.Pasted.{Put}
-use Rattle.text.proofs.Laws.{put-none}
+use Rattle.text.proofs.Laws.{put-none, joined-room, joined-put}
 use Rattle.listing.specs.Rows.{rowAt}
-use Rattle.listing.proofs.Laws.{row-room, row-put}
 use Rattle.listing.proofs.put_blocks.Statement.{statement}
 use Rattle.listing.proofs.put_blocks.Tie as tie
 
 abbrev Inv-loop : tie.InvT-loop
 Inv-loop text₀ at profiles words cluster next₀ i₀ text next i =
-    (i ≤ cluster .blocks) × (length text ≡ length text₀) × Put at (lines i (rowAt profiles words)) text₀ text next
+    (i ≤ cluster .blocks) × (length text ≡ length text₀) × Put at (joined i (rowAt profiles words)) text₀ text next
 
 abbrev μ-loop : tie.MeasureT-loop
 μ-loop text₀ at profiles words cluster next₀ i₀ text next i = cluster .blocks - i
 
 loop-holds : tie.Need-loop-holds Inv-loop μ-loop
-loop-holds c = (omega arith, refl, rw (lines-zero _) (put-none _ _))
+loop-holds c = (omega arith, refl, rw (joined-zero _) (put-none _ _))
 
 mul-put-block : tie.Need-mul-put-block Inv-loop μ-loop
 mul-put-block c = omega (arith, c .before .before .before .before .before .before .before .pre .fits .profiles-fit .in-range .blocks-max)
@@ -37,7 +36,7 @@ shared-slice-read-put-block-2 c = omega (arith, c .before .before .before .befor
 
 put-block-requires : tie.Need-put-block-requires Inv-loop μ-loop
 unfolding rowAt
-put-block-requires c κs = row-room _ _ _ _ _ (c .before .before .before .before .before .before .before .before .before .pre .room) (c .before .before .before .if1 .taken) (c .before .before .before .before .before .loop .inv .2)
+put-block-requires c κs = joined-room _ _ _ _ _ (c .before .before .before .before .before .before .before .before .before .pre .room) (c .before .before .before .if1 .taken) (c .before .before .before .before .before .loop .inv .2)
 
 add-i : tie.Need-add-i Inv-loop μ-loop
 add-i c = omega arith
@@ -52,7 +51,7 @@ loop-again c =
     let put = c .before .before .put-block in (
       omega arith,
       put .kept .0 ∙ inv .1,
-      row-put _ _ _ _ _ (c .before .before .before .before .before .before .before .before .before .before .before .before .pre .room) (c .before .before .before .before .before .before .if1 .taken) (inv .2) (put .ensures),
+      joined-put _ _ _ _ _ (c .before .before .before .before .before .before .before .before .before .before .before .before .pre .room) (c .before .before .before .before .before .before .if1 .taken) (inv .2) (put .ensures),
     )
 
 same-length : tie.Need-same-length Inv-loop μ-loop

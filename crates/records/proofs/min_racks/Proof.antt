@@ -3,7 +3,7 @@
 use native.Mathlib.Nat.{add-assoc}
 use borrow.Author.Needs.{needs}
 use Rattle.model.specs.Plan.{blockIn}
-use Rattle.header.proofs.Laws.{field-narrow}
+use Rattle.theory.proofs.Plan.{field-narrow}
 use Rattle.records.proofs.min_racks.Statement.{statement}
 use Rattle.records.proofs.min_racks.Tie as tie
 

@@ -2,7 +2,7 @@
 -- Assumes nothing.
 use borrow.Author.Needs.{needs}
 use Rattle.model.specs.Plan.{blockIn}
-use Rattle.header.proofs.Laws.{field-narrow}
+use Rattle.theory.proofs.Plan.{field-narrow}
 use Rattle.records.proofs.min_replicas.Statement.{statement}
 use Rattle.records.proofs.min_replicas.Tie as tie
 

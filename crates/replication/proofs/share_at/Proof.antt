@@ -1,8 +1,9 @@
 -- `replication::share_at` meets its contract: the count divides the unit, so the popularity times the quotient is the share.
 -- Assumes nothing.
 use borrow.Author.Needs.{needs}
-use native.Mathlib.Nat.{mul-le-mul, div-le-self, le-trans, lt-of-le-of-lt}
+use native.Mathlib.Nat.{mul-le-mul, div-le-self, lt-of-le-of-lt}
 use native.Mathlib.Omega.{arith}
+use Rattle.model.specs.Replication.{unit}
 use Rattle.theory.specs.Widths.{popularityBound}
 use Rattle.theory.proofs.Replication.{share-quotient}
 use Rattle.replication.proofs.Laws.{fraction-divides}
@@ -16,7 +17,7 @@ mul-result : tie.Need-mul-result
 mul-result c =
     let max = c .before .pre .popularity-max in
     record {
-      fits = lt-of-le-of-lt (mul-le-mul {n₂ = popularityBound} {m₂ = popularityBound} (omega arith) (le-trans (div-le-self _ _) (omega arith))) (omega arith);
+      fits = lt-of-le-of-lt (mul-le-mul {n₂ = popularityBound} {m₂ = unit} (omega arith) (div-le-self _ _)) (omega arith);
     }
 
 returns : tie.Need-returns
