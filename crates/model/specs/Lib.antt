@@ -9,3 +9,5 @@ pub mod Claims
 pub mod Listing
 pub mod ReadLog
 pub mod Histories
+pub mod Writing
+pub mod Conversion

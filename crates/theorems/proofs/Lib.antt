@@ -17,3 +17,4 @@ pub mod Versions
 pub mod Ties
 pub mod Listing
 pub mod LongInput
+pub mod Conversion

@@ -11,3 +11,4 @@ pub mod ReadExamples
 pub mod Versions
 pub mod Ties
 pub mod Listing
+pub mod Conversion

@@ -11,3 +11,6 @@ pub mod StepsNext
 pub mod Calls
 pub mod ReadLog
 pub mod Listing
+pub mod Writing
+pub mod WritingPlan
+pub mod Conversion

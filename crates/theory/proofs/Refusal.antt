@@ -9,11 +9,11 @@ use mathlib.Core.Logic.{_⊎_, inl, inr, ⊎-elim}
 use Prim.Native.Nat.{ℕ, zero, suc, _*_, _<_, _≤_}
 use native.Mathlib.Nat.{pos-of-ne-zero, le-trans, eq-or-lt-of-le}
 use native.Mathlib.Omega.{arith}
-use borrow.Author.Tests.{ltb-false, lt-ltb, le-ltb, eqb-true, eqb-false, not-false}
+use borrow.Author.Tests.{ltb-false, lt-ltb, le-ltb, eqb-true, eqb-false, eq-eqb, ne-eqb, not-false}
 use lib.Dec.{ltb, eqb, lit<, lit≤}
 use lib.ListN.{length}
-use Rattle.order.proofs.Booleans.{no-contradiction, and-iff, eqb-iff, or3-false, in-range}
-use Rattle.order.proofs.Searches.{none-below, first-all}
+use Rattle.order.proofs.Booleans.{no-contradiction, and-iff, eqb-iff, or3-false, pos-eqb, in-range}
+use Rattle.order.proofs.Searches.{first-none, none-below, first-all}
 use Rattle.model.specs.Plan.{Block, Plan, machines, domains, blockCount, blockOf, marksPair, pairsNext, upper, minTotal, commonLength, latestVersion, Format, formatIn, recordAt, planIn, markIn, versionIn, racksIn, rackSizeIn, capacityIn, blockCountIn}
 use Rattle.model.specs.Refusal.{refuseIf, orElse, isRefusal, mark, maxMachines, maxCapacity, maxBlocks, check1, check2, check3, check4, check5, check6, check7, check8, check9, alike, check17, check10, check11, check12, blockRefusal, blocksRefusal, pairRefusal, pairsRefusal, planRefusal, refusal, refused, accepted, verdict, judge}
 use Rattle.theory.specs.Refusal.{ValidBlock, ValidPair, Shaped, Valid, PastRow17, AcceptedLaws}
@@ -44,6 +44,11 @@ orElse-all P zero later here else = else
 orElse-all P (suc code) later here else = here
 
 -- ── check4 to check7 ─────────────────────────────────────────────────────────────────────────────
+-- a version that is read passes
+pub check3-read : (latest version later : ℕ) → 1 ≤ version → version ≤ latest → check3 latest version later ≡ later
+unfolding check3
+check3-read latest version later some known = rw (pos-eqb version some, le-ltb latest version known)
+
 pub check4-zero : (racks rackSize later : ℕ) → check4 racks rackSize later ≡ 0
     → (1 ≤ racks) × (1 ≤ rackSize) × (racks * rackSize ≤ maxMachines) × (later ≡ 0)
 unfolding check4
@@ -108,6 +113,18 @@ blockRefusal-zero p i e =
       racks-all = ltb-false _ _ (parts .2);
     }
 
+pub blockRefusal-valid : (p : Plan) (i : ℕ) → ValidBlock p i → blockRefusal p i ≡ 0
+unfolding blockRefusal check8 check9
+blockRefusal-valid p i v =
+    let b = blockOf p i in
+    rw (
+      pos-eqb (b .minReplicas) (v .min-pos),
+      le-ltb (upper p i) (b .minReplicas) (v .min-upper),
+      pos-eqb (b .minRacks) (v .racks-pos),
+      le-ltb (b .minReplicas) (b .minRacks) (v .racks-min),
+      le-ltb (domains p) (b .minRacks) (v .racks-all),
+    )
+
 blockRefusal-le : (p : Plan) (i : ℕ) → blockRefusal p i ≤ 9
 unfolding blockRefusal check8 check9
 blockRefusal-le p i =
@@ -137,6 +154,10 @@ unless-marked : (t cond : Bool) → (t && cond) ≡ false → t ≡ true → con
 unless-marked true cond e m = e
 unless-marked false cond e m = no-contradiction (sym m)
 
+unless-false : (t c : Bool) → (t ≡ true → c ≡ false) → (t && c) ≡ false
+unless-false true c h = h refl
+unless-false false c h = refl
+
 alike-parts : (a b : Block) → alike a b ≡ true
     → ((a .popularity ≡ b .popularity) × (a .minReplicas ≡ b .minReplicas)) × (a .minRacks ≡ b .minRacks)
 unfolding alike
@@ -162,6 +183,21 @@ pairRefusal-zero p i l e =
       replicas-same = λ m. same m .0 .1;
       racks-same = λ m. same m .1;
     }
+
+pub pairRefusal-valid : (p : Plan) (i : ℕ) → ValidPair p i → pairRefusal p i ≡ 0
+unfolding pairRefusal check17 pairsNext alike
+pairRefusal-valid p i v =
+    let own = blockOf p i in
+    let next = blockOf p (suc i) in
+    let unlike : marksPair own ≡ true → not (alike own next) ≡ false =
+    λ m. rw (eq-eqb _ _ (v .popularity-same m), eq-eqb _ _ (v .replicas-same m), eq-eqb _ _ (v .racks-same m))
+    in
+    rw (
+      le-ltb 1 (own .pairByte) (v .byte-max),
+      unless-false (marksPair own) (eqb (suc i) (blockCount p)) (λ m. ne-eqb (suc i) (blockCount p) (λ e. omega (arith, v .next-below m))),
+      unless-false (marksPair own) (marksPair next) (v .next-free),
+      unless-false (marksPair own) (not (alike own next)) unlike,
+    )
 
 pairRefusal-cases : (p : Plan) (i : ℕ) → (pairRefusal p i ≡ 17) ⊎ (pairRefusal p i ≡ 0)
 unfolding pairRefusal check17
@@ -194,6 +230,18 @@ pairsRefusal-cases p =
 -- The code that rows 10 and 11 give.
 abbrev pub totalRefusal : Plan → ℕ
 totalRefusal p = check10 (p .budget) (minTotal p) (check11 (machines p * p .capacity) (minTotal p) 0)
+
+pub planRefusal-valid : (p : Plan) → Valid p → planRefusal p ≡ 0
+unfolding planRefusal blocksRefusal pairsRefusal check10 check11
+planRefusal-valid p valid =
+    let shaped = valid .shaped in
+    let n = blockCount p in
+    rw (
+      first-none isRefusal 0 refl (blockRefusal p) n (λ i l. ap isRefusal (blockRefusal-valid p i (shaped .block i l))),
+      first-none isRefusal 0 refl (pairRefusal p) n (λ i l. ap isRefusal (pairRefusal-valid p i (shaped .pair i l))),
+      le-ltb (p .budget) (minTotal p) (valid .in-budget),
+      le-ltb (machines p * p .capacity) (minTotal p) (valid .in-places),
+    )
 
 planRefusal-le : (p : Plan) → planRefusal p ≤ 17
 unfolding planRefusal check10 check11
@@ -327,7 +375,7 @@ judge-some bytes code e = go (refusal bytes) e
     go zero e = absurd (let z : _≡_ {A = ℕ} 0 1 = cc in omega arith)
     go (suc n) e = let same : suc n ≡ code = cc in omega arith
 
-verdict-accepted : (code : ℕ) (p q : Plan) → verdict code p ≡ accepted q → (code ≡ 0) × (p ≡ q)
+pub verdict-accepted : (code : ℕ) (p q : Plan) → verdict code p ≡ accepted q → (code ≡ 0) × (p ≡ q)
 verdict-accepted zero p q e = (refl, cc)
 verdict-accepted (suc code) p q e = absurd (let z : _≡_ {A = ℕ} 0 1 = cc in omega arith)
 
@@ -341,3 +389,14 @@ accepted-laws bytes p e =
       valid = rw (z .1) at (refusal-zero bytes (z .0));
       length-is = refusal-length bytes (inr (inr (z .0))) ∙ ap (recordAt (formatIn bytes)) (sym (planIn-blockCount bytes) ∙ ap blockCount (z .1));
     }
+
+-- an accepted plan's bytes pass rows 2 and 3
+pub accepted-mark : (bytes : List ℕ) (p : Plan) → judge bytes ≡ accepted p
+    → (markIn bytes ≡ mark) × (1 ≤ versionIn bytes) × (versionIn bytes ≤ latestVersion)
+unfolding judge refusal check1 check2 check3
+accepted-mark bytes p e =
+    let z1 = refuseIf-zero (ltb (length bytes) commonLength) 0 _ (verdict-accepted (refusal bytes) (planIn bytes) p e .0) in
+    let z2 = refuseIf-zero (not (eqb (markIn bytes) mark)) 1 _ (z1 .1) in
+    let z3 = refuseIf-zero (eqb (versionIn bytes) 0 || ltb latestVersion (versionIn bytes)) 2 _ (z2 .1) in
+    let range = in-range (versionIn bytes) latestVersion (z3 .0) in
+    (eqb-true (markIn bytes) mark (not-false _ (z2 .0)), range .0, range .1)

@@ -5,3 +5,4 @@ pub mod Replication
 pub mod Placement
 pub mod Steps
 pub mod Listing
+pub mod Writing

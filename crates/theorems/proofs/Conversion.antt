@@ -1,0 +1,165 @@
+-- The converter takes the accepted plans of versions 1 and 2, and what it writes reads as the same plan: a written plan is read as what
+-- was written (`reads-written`), and the fields of an older version fit the wider records.
+-- Assumes nothing.
+use mathlib.Core.Path.{_≡_, refl, ap, sym, subst, _∙_}
+use mathlib.Core.Bool.{not, _||_}
+use mathlib.Core.List.{List, []}
+use Prim.Native.Nat.{ℕ, zero, suc, _≤_}
+use native.Mathlib.Omega.{arith}
+use borrow.Author.Tests.{le-ltb, eq-eqb}
+use lib.Dec.{ltb, eqb, lit<}
+use lib.ListN.{length}
+use Rattle.order.specs.Table.{table, joined}
+use Rattle.order.proofs.Booleans.{in-range, cond-all}
+use Rattle.model.specs.Plan.{Block, Plan, blockCount, blockOf, commonLength, minTotal, upper, isPaired, pairsBack, pairsNext, field, markIn, versionIn, Format, formatOf, blockIn, planIn}
+use Rattle.model.specs.Refusal.{mark, maxBlocks, check1, check2, check3, Verdict, accepted, judge}
+use Rattle.model.specs.Calls.{refuse, onPlan}
+use Rattle.model.specs.Listing.{inputRoom}
+use Rattle.model.specs.Writing.{bytesOf, headerBytes, recordBytes, planBytes}
+use Rattle.model.specs.Conversion.{convertedVersion, writtenVersion, withVersion, converted, convertRefusal, convertVerdict, convertCall}
+use Rattle.theory.specs.Refusal.{Shaped, Valid}
+use Rattle.theory.specs.Writing.{AreBytes, BlockFits, PlanFits}
+use Rattle.theory.proofs.Plan.{field-narrow, formatOf-longest}
+use Rattle.theory.proofs.Refusal.{refuseIf-zero, check3-read, verdict-accepted, accepted-laws, accepted-mark, judge-accepted}
+use Rattle.theory.proofs.WritingPlan.{reads-written, accepted-fits}
+use Rattle.theory.proofs.Conversion.{converted-length, convertVerdict-judged, convertCall-short, convertCall-refused}
+use Rattle.theorems.specs.Trials.{plan-H, plan-full}
+use Rattle.theorems.specs.Versions.{verdictWith}
+use Rattle.theorems.specs.Conversion.{Taken, Takes, Converts, Conversions, wide-H, ConversionExamples}
+use Rattle.theorems.proofs.Trials.{trials}
+use Rattle.theorems.proofs.Versions.{same-answers}
+use Rattle.theorems.proofs.LongInput.{long-conversion}
+
+-- ── Takes ────────────────────────────────────────────────────────────────────────────────────────
+module _ (bytes : List ℕ) (p : Plan) where
+  taken : convertVerdict bytes ≡ accepted p → Taken bytes p
+  unfolding convertVerdict convertRefusal check1 check2 check3 planIn
+  taken e =
+      let z = verdict-accepted (convertRefusal bytes) (planIn bytes) p e in
+      let z1 = refuseIf-zero (ltb (length bytes) commonLength) 0 _ (z .0) in
+      let z2 = refuseIf-zero (not (eqb (markIn bytes) mark)) 1 _ (z1 .1) in
+      let z3 = refuseIf-zero (eqb (versionIn bytes) 0 || ltb convertedVersion (versionIn bytes)) 2 _ (z2 .1) in
+      let old = in-range (versionIn bytes) convertedVersion (z3 .0) .1 in
+      record { accepts = judge-accepted bytes (z3 .1) ∙ ap accepted (z .1); version-max = subst (λ (q : Plan). q .version ≤ convertedVersion) (z .1) old }
+
+  takes : Taken bytes p → convertVerdict bytes ≡ accepted p
+  unfolding check1 check2 formatOf planIn
+  takes t =
+      let laws = accepted-laws bytes p (t .accepts) in
+      let passed = accepted-mark bytes p (t .accepts) in
+      let version : p .version ≡ versionIn bytes = ap (λ (q : Plan). q .version) (laws .held) in
+      let known : versionIn bytes ≤ convertedVersion = omega (arith, version, t .version-max) in
+      convertVerdict-judged bytes 0
+      (λ later.
+      rw (
+        le-ltb (length bytes) commonLength (omega (arith, laws .length-is)),
+        passed .0,
+        check3-read convertedVersion (versionIn bytes) later (passed .1) known,
+      ))
+      refl
+      ∙ t .accepts
+
+-- ── Converts ─────────────────────────────────────────────────────────────────────────────────────
+-- what the rows leave of a plan does not go by its version
+valid-free : (version : ℕ) (p : Plan) → Valid p → Valid (withVersion version p)
+unfolding upper isPaired pairsBack pairsNext minTotal
+valid-free version p v =
+    let s = v .shaped in
+    record {
+      shaped =
+          record {
+            racks-pos = s .racks-pos;
+            size-pos = s .size-pos;
+            machines-max = s .machines-max;
+            capacity-pos = s .capacity-pos;
+            capacity-max = s .capacity-max;
+            blocks-max = s .blocks-max;
+            block = λ i l.
+                let b = s .block i l in
+                record { min-pos = b .min-pos; min-upper = b .min-upper; racks-pos = b .racks-pos; racks-min = b .racks-min; racks-all = b .racks-all };
+            pair = λ i l.
+                let q = s .pair i l in
+                record {
+                  byte-max = q .byte-max;
+                  next-below = q .next-below;
+                  next-free = q .next-free;
+                  popularity-same = q .popularity-same;
+                  replicas-same = q .replicas-same;
+                  racks-same = q .racks-same;
+                };
+          };
+      in-budget = v .in-budget;
+      in-places = v .in-places;
+    }
+
+-- an older version's block fits the wider record
+block-wider : (version : ℕ) (b : Block) → BlockFits (formatOf version) b → BlockFits (formatOf writtenVersion) b
+unfolding formatOf
+block-wider version b fits =
+    record {
+      popularity-fits =
+          field-narrow _ _ _ (fits .popularity-fits)
+          (cond-all (λ n. n ≤ 4) (ltb version 3) 3 4 (λ e. omega arith) (omega arith));
+      replicas-fits = fits .replicas-fits;
+      racks-fits = fits .racks-fits;
+      pair-fits =
+          field-narrow _ _ _ (fits .pair-fits)
+          (cond-all (λ n. n ≤ 1) (ltb version 2) 0 1 (λ e. omega arith) (omega arith));
+    }
+
+written-fits : (p : Plan) → PlanFits p → PlanFits (withVersion writtenVersion p)
+written-fits p fits =
+    record {
+      version-pos = omega arith;
+      version-max = omega arith;
+      budget-fits = fits .budget-fits;
+      block-fits = λ i l. block-wider (p .version) (blockOf p i) (fits .block-fits i l);
+    }
+
+converts : (bytes : List ℕ) → AreBytes bytes → (p : Plan) → convertVerdict bytes ≡ accepted p → Converts bytes p
+unfolding converted inputRoom
+converts bytes each p e =
+    let old = taken bytes p e .accepts in
+    let valid = accepted-laws bytes p old .valid in
+    let new : judge (converted p) ≡ accepted (withVersion writtenVersion p) =
+    reads-written (withVersion writtenVersion p) (valid-free writtenVersion p valid) (written-fits p (accepted-fits bytes each p old)) in
+    let longest = formatOf-longest writtenVersion (blockCount p) maxBlocks (valid .shaped .blocks-max) in
+    record {
+      accepts = new;
+      same = same-answers writtenVersion bytes (converted p) (new ∙ sym (ap (verdictWith writtenVersion) old));
+      fits = omega (arith, converted-length p);
+    }
+
+pub conversions : Conversions
+conversions =
+    record {
+      takes = λ bytes p. record { taken = taken bytes p; takes = takes bytes p };
+      converts = converts;
+      long = long-conversion;
+    }
+
+-- ── ConversionExamples ───────────────────────────────────────────────────────────────────────────
+H-converted : converted (planIn plan-H) ≡ wide-H
+unfolding converted planBytes headerBytes recordBytes bytesOf joined planIn blockIn formatOf field table plan-H wide-H
+H-converted = refl
+
+wide-refused : (buffer : List ℕ) → convertCall wide-H buffer ≡ refuse 3 buffer
+unfolding convertCall onPlan convertVerdict convertRefusal check1 check2 check3 field wide-H
+wide-refused buffer = refl
+
+-- a version 1 plan is judged as the reader judges it
+old-judged : (bytes : List ℕ) → ((later : ℕ) → check1 (length bytes) (check2 (markIn bytes) (check3 convertedVersion (versionIn bytes) later)) ≡ later)
+    → convertVerdict bytes ≡ judge bytes
+old-judged bytes rows = convertVerdict-judged bytes 0 rows refl
+
+pub conversion-examples : ConversionExamples
+unfolding check1 check2 check3 field plan-H plan-full wide-H
+conversion-examples =
+    record {
+      H = H-converted;
+      again = wide-refused;
+      short =
+          convertCall-short plan-H [] (planIn plan-H) (old-judged plan-H (λ later. refl) ∙ trials .H-accepted)
+          (rw H-converted (lit< tt));
+      full = convertCall-refused plan-full [] 11 (old-judged plan-full (λ later. refl) ∙ trials .full);
+    }
