@@ -6,8 +6,8 @@
  * prints the listing of the plan in FILE, or without FILE that of plan H of the specification, which it makes itself.
  * It makes the calls one by one, as a store would: judge the plan, choose the counts, make the first placement, take
  * steps until rest, report. It puts the listing together from their answers, and compares it with bpl_listing's. Then
- * it makes the steps anew as one script, and compares the placements. Last it counts reads of the blocks, and makes the
- * next plan file of their popularities.
+ * it makes the steps anew as one script, and compares the placements. It converts an old plan to version 3 and
+ * compares the listings. Last it counts reads of the blocks, and makes the next plan file of their popularities.
  * scripts/c-example compiles, runs and tests it. The status is 0 for a listing, 1 for a refused plan, 2 for a failure.
  *
  * How every call is used here:
@@ -30,13 +30,12 @@
 /* A read is 840 units, so that the share of each of 1 to 8 copies is whole. */
 #define UNITS_PER_READ 840
 
-/* Where the fields of a plan file begin, and how many bytes each has. */
+/* Where the fields of a plan file begin. */
 #define VERSION_AT 3
 #define RACKS_AT 5
 #define RACK_SIZE_AT 6
 #define BLOCKS_AT 13
 #define RECORDS_AT 15
-#define POPULARITY_BYTES 3
 
 enum { LISTED = 0, REFUSED = 1, FAILED = 2 };
 
@@ -49,16 +48,16 @@ static const char *reason(uint32_t code)
         [0] = "done",
         [1] = "the plan is shorter than 15 bytes",
         [2] = "the mark differs",
-        [3] = "the version is neither 1 nor 2",
+        [3] = "the version is none of 1, 2 and 3, or is 3 already where it is converted",
         [4] = "R or S is 0, or there are more than 64 machines",
         [5] = "C is 0 or above 1,024",
         [6] = "there are more than 1,024 blocks",
-        [7] = "the length is not 15 + 5 * B in version 1, or 15 + 6 * B in version 2",
+        [7] = "the length is not 15 + 5 * B in version 1, 15 + 6 * B in version 2, or 15 + 7 * B in version 3",
         [8] = "a block's least copies are 0 or above the smaller of 8 and M, in a pair of 8 and half of M",
         [9] = "a block's spread is 0, above its least copies, or above R",
         [10] = "the sum of least copies is above the budget",
         [11] = "the sum of least copies is above M * C",
-        [12] = "fewer than B counts or words are lent",
+        [12] = "fewer than B counts or words are lent, or fewer bytes than a converted plan has",
         [13] = "a bit at or above M is set",
         [14] = "a block's copies are not its chosen count",
         [15] = "a block lies in fewer racks than its spread",
@@ -99,10 +98,16 @@ static uint32_t field(const uint8_t *plan, size_t at, size_t bytes)
     return number;
 }
 
-/* The bytes of a record: version 2 has a pair byte behind the spread. */
+/* The bytes of a popularity, which a record begins with: one more in version 3. */
+static size_t popularity_bytes(const uint8_t *plan)
+{
+    return field(plan, VERSION_AT, 2) == 3 ? 4 : 3;
+}
+
+/* The bytes of a record: least copies and spread follow, and from version 2 on a pair byte. */
 static size_t record_bytes(const uint8_t *plan)
 {
-    return field(plan, VERSION_AT, 2) == 1 ? 5 : 6;
+    return popularity_bytes(plan) + (field(plan, VERSION_AT, 2) == 1 ? 2 : 3);
 }
 
 /* Makes plan H with a budget of copies: 2 racks of 2 machines, 3 copies on each, three blocks. Answers its length. */
@@ -123,7 +128,7 @@ static size_t make_plan_h(uint8_t *plan, uint32_t budget)
     at = put_field(plan, at, 4, budget);         /* most copies in all */
     at = put_field(plan, at, 2, (uint32_t)number);
     for (size_t i = 0; i < number; i++) {
-        at = put_field(plan, at, POPULARITY_BYTES, blocks[i].popularity);
+        at = put_field(plan, at, popularity_bytes(plan), blocks[i].popularity);
         at = put_field(plan, at, 1, blocks[i].least_copies);
         at = put_field(plan, at, 1, blocks[i].spread);
     }
@@ -222,7 +227,7 @@ static uint32_t list(struct store *store, struct text *text)
     text->size = 0;
     add(text, "plan %" PRIu32 " %" PRIu32 " %" PRIu32 "\n", racks, rack_size, blocks);
     for (uint32_t i = 0; i < blocks; i++) {
-        const uint64_t popularity = field(plan, RECORDS_AT + record_bytes(plan) * i, POPULARITY_BYTES);
+        const uint64_t popularity = field(plan, RECORDS_AT + record_bytes(plan) * i, popularity_bytes(plan));
         const uint64_t share = popularity * UNITS_PER_READ / store->counts[i];
         add(text, "block %" PRIu32 " %u %" PRIu64, i, (unsigned)store->counts[i], share);
         for (uint32_t m = 0; m < racks * rack_size; m++)
@@ -266,6 +271,25 @@ static bool plays_alike(const struct store *store)
     return code == 0 && reply[0] == BPL_CHECKED && memcmp(words, store->words, sizeof words) == 0;
 }
 
+/* Whether the plan in version 3, as a store would keep an old one from now on, has the same listing. A plan that is of
+ * version 3 already is refused with 3. */
+static bool converts_alike(const struct store *store, const struct text *text)
+{
+    static uint8_t plan[BPL_MAX_PLAN_BYTES];
+    static struct store converted = {.plan = plan};
+    static struct text listed;
+    uint64_t length[BPL_CONVERT_NUMBERS];
+    const uint32_t code =
+        bpl_convert(store->plan, store->plan_len, plan, sizeof plan, length, BPL_CONVERT_NUMBERS);
+    if (field(store->plan, VERSION_AT, 2) == 3)
+        return code == 3;
+    if (code != 0)
+        return false;
+    converted.plan_len = (size_t)length[0];
+    return list(&converted, &listed) == 0 && listed.size == text->size &&
+           memcmp(listed.bytes, text->bytes, text->size) == 0;
+}
+
 /* The reads that count, which a store keeps from call to call; without entries at first. */
 struct reads {
     struct bpl_entry list[BPL_MAX_ENTRIES];
@@ -304,7 +328,7 @@ static bool makes_next_plan(const struct store *store)
                                              popularity, BPL_POPULARITY_NUMBERS);
         if (code != 0 || popularity[0] < i % 3 + 1) /* above that where the other block of a pair is read more often */
             return false;
-        put_field(next, RECORDS_AT + record_bytes(next) * i, POPULARITY_BYTES, (uint32_t)popularity[0]);
+        put_field(next, RECORDS_AT + record_bytes(next) * i, popularity_bytes(next), (uint32_t)popularity[0]);
     }
     return bpl_plan(next, store->plan_len) == 0;
 }
@@ -320,6 +344,21 @@ static bool show_refused_reads(const struct store *store)
     const uint32_t early = enter_read(store, &reads, 2, 4999);
     say_refused("a read a millisecond before the last one", early);
     return unknown == 19 && early == 20 && reads.count == 1;
+}
+
+/* Two refusals of conversions of plan H: into a buffer a byte too short, and of what was converted already. */
+static bool show_refused_conversions(const struct store *store)
+{
+    static uint8_t plan[BPL_MAX_PLAN_BYTES], again[BPL_MAX_PLAN_BYTES];
+    const size_t need = RECORDS_AT + 7 * field(store->plan, BLOCKS_AT, 2);
+    uint64_t length[BPL_CONVERT_NUMBERS];
+    const uint32_t narrow = bpl_convert(store->plan, store->plan_len, plan, need - 1, length, BPL_CONVERT_NUMBERS);
+    say_refused("plan H converted into a buffer a byte too short", narrow);
+    if (bpl_convert(store->plan, store->plan_len, plan, need, length, BPL_CONVERT_NUMBERS) != 0 || length[0] != need)
+        return false;
+    const uint32_t newest = bpl_convert(plan, need, again, sizeof again, length, BPL_CONVERT_NUMBERS);
+    say_refused("plan H converted twice", newest);
+    return narrow == 12 && newest == 3 && length[0] == need;
 }
 
 /* Two refusals, as a caller meets them: a plan that has no lawful placement, and a placement with a copy too few. */
@@ -355,7 +394,7 @@ int main(int argc, char **argv)
     }
     if (argc < 2) {
         store.plan_len = make_plan_h(plan, 8);
-        if (!show_refusals() || !show_refused_reads(&store)) {
+        if (!show_refusals() || !show_refused_reads(&store) || !show_refused_conversions(&store)) {
             fprintf(stderr, "place: the refusals are not as they should be\n");
             return FAILED;
         }
@@ -382,6 +421,10 @@ int main(int argc, char **argv)
     }
     if (!plays_alike(&store)) {
         fprintf(stderr, "place: a script of the calls ends in another placement\n");
+        return FAILED;
+    }
+    if (!converts_alike(&store, &text)) {
+        fprintf(stderr, "place: the plan converted to version 3 has another listing\n");
         return FAILED;
     }
     if (!makes_next_plan(&store)) {

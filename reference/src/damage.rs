@@ -4,18 +4,18 @@ use crate::gen::{draft, filled, placement, Draft, Record, Rng, Size};
 use crate::placement::{broken_rows, copies_of, held_by, holds};
 use crate::plan::Plan;
 
-/// The rows for a plan of version 2, in the order of the checks. Row 17 refuses none of version 1.
+/// The rows for a plan of version 2 or 3, in the order of the checks. Row 17 refuses none of version 1.
 pub const PLAN_ROWS: [u8; 12] = [1, 2, 3, 4, 5, 6, 7, 8, 9, 17, 10, 11];
 
 /// A row that may refuse a plan of this version.
 pub fn any_row(rng: &mut Rng, version: u16) -> u8 {
     let rows = PLAN_ROWS.into_iter();
-    let rows: Vec<u8> = rows.filter(|row| *row != 17 || version == 2).collect();
+    let rows: Vec<u8> = rows.filter(|row| *row != 17 || version >= 2).collect();
     rng.one_of(&rows)
 }
 
-/// The plan file with one more flaw, that of the given row (1 to 11, and 17 in version 2). Rows that need a record are
-/// left out of a file that has none.
+/// The plan file with one more flaw, that of the given row (1 to 11, and 17 from version 2 on). Rows that need a record
+/// are left out of a file that has none.
 pub fn flawed(rng: &mut Rng, mut bytes: Vec<u8>, row: u8) -> Vec<u8> {
     match row {
         1 => bytes.truncate(rng.below(15) as usize),
@@ -29,10 +29,10 @@ pub fn flawed(rng: &mut Rng, mut bytes: Vec<u8>, row: u8) -> Vec<u8> {
         ),
         6 => set(&mut bytes, 13, &rng.one_of(&[[4, 1], [255, 255], [5, 0]])),
         7 => lengthened(rng, &mut bytes),
-        8 => flaw_record(rng, &mut bytes, 3, &[0, 9, 255]),
-        9 => flaw_record(rng, &mut bytes, 4, &[0, 9, 65, 255]),
+        8 => flaw_record(rng, &mut bytes, 0, &[0, 9, 255]),
+        9 => flaw_record(rng, &mut bytes, 1, &[0, 9, 65, 255]),
         10 => set(&mut bytes, 9, &rng.one_of(&[[0; 4], [0, 0, 0, 1]])),
-        17 => flaw_record(rng, &mut bytes, 5, &[2, 3, 128, 255]),
+        17 => flaw_record(rng, &mut bytes, 2, &[2, 3, 128, 255]),
         _ => set(&mut bytes, 5, &[1, 1, 0, 1]),
     }
     bytes
@@ -72,32 +72,33 @@ fn machines_refused(rng: &mut Rng) -> [u8; 2] {
     ])
 }
 
-/// The bytes of a record in this file.
-fn record_length(bytes: &[u8]) -> usize {
-    if bytes.get(3..5) == Some(&[0, 2]) {
-        6
-    } else {
-        5
+/// The bytes of a popularity in this file, and those of a record.
+fn record_widths(bytes: &[u8]) -> (usize, usize) {
+    match bytes.get(3..5) {
+        Some([0, 3]) => (4, 7),
+        Some([0, 2]) => (3, 6),
+        _ => (3, 5),
     }
 }
 
 /// One byte too few, one too many, or one record too many.
 fn lengthened(rng: &mut Rng, bytes: &mut Vec<u8>) {
-    let record = [0, 0, 1, 1, 1, 0];
+    let record = [0, 0, 0, 1, 1, 1, 0];
+    let (width, length) = record_widths(bytes);
     match rng.below(3) {
         0 if bytes.len() > 15 => bytes.truncate(bytes.len() - 1),
-        1 => bytes.extend(&record[..record_length(bytes)]),
+        1 => bytes.extend(&record[4 - width..][..length]),
         _ => bytes.push(0),
     }
 }
 
-/// Puts one of the numbers into byte `at` of a record, where the records of this file have one.
+/// Puts one of the numbers into byte `at` behind the popularity of a record, where the records of this file have one.
 fn flaw_record(rng: &mut Rng, bytes: &mut [u8], at: usize, numbers: &[u8]) {
-    let length = record_length(bytes);
+    let (width, length) = record_widths(bytes);
     let number = (bytes.len().max(15) - 15) / length;
-    if number > 0 && at < length {
+    if number > 0 && width + at < length {
         let i = rng.below(number as u64) as usize;
-        bytes[15 + length * i + at] = rng.one_of(numbers);
+        bytes[15 + length * i + width + at] = rng.one_of(numbers);
     }
 }
 
@@ -195,7 +196,8 @@ fn differ(rng: &mut Rng, draft: &mut Draft, i: usize, how: Mispairing) -> bool {
     let half = (draft.machines() / 2).min(8);
     let (racks, other) = (draft.racks, i + rng.below(2) as usize);
     if how == Mispairing::Popularity {
-        draft.records[other].popularity ^= 1 << rng.below(24);
+        let bits = if draft.version == 3 { 32 } else { 24 };
+        draft.records[other].popularity ^= 1 << rng.below(bits);
         return true;
     }
     if half < 2 || how == Mispairing::Spread && racks < 2 {
@@ -212,7 +214,7 @@ fn differ(rng: &mut Rng, draft: &mut Draft, i: usize, how: Mispairing) -> bool {
     true
 }
 
-/// A plan with room for all least copies that row 17 refuses in this way alone, for a size of version 2.
+/// A plan with room for all least copies that row 17 refuses in this way alone, for a size of version 2 or 3.
 pub fn mispaired(rng: &mut Rng, size: Size, how: Mispairing) -> Option<Draft> {
     let mut draft = draft(rng, size);
     let number = draft.records.len();

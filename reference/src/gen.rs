@@ -40,7 +40,8 @@ impl Rng {
     }
 }
 
-/// A record of a plan file before it is judged. The pair byte is written in version 2 only.
+/// A record of a plan file before it is judged. The pair byte is written from version 2 on, the popularity in 3 bytes,
+/// and in 4 in version 3.
 #[derive(Clone, Copy, Debug)]
 pub struct Record {
     pub popularity: u32,
@@ -89,27 +90,41 @@ impl Draft {
         bytes.extend(self.budget.to_be_bytes());
         bytes.extend((self.records.len() as u16).to_be_bytes());
         for r in &self.records {
-            bytes.extend(&r.popularity.to_be_bytes()[1..]);
+            let popularity = r.popularity.to_be_bytes();
+            bytes.extend(&popularity[usize::from(self.version < 3)..]);
             bytes.extend([r.least, r.spread]);
-            if self.version == 2 {
+            if self.version >= 2 {
                 bytes.push(r.pair);
             }
         }
         bytes
     }
 
-    /// The same plan in version 2, with all pair bytes 0.
+    /// The same plan in version 2, or in its own if that is later, with all pair bytes 0.
     pub fn unpaired(&self) -> Draft {
         let records = self.records.iter().map(|r| Record { pair: 0, ..*r });
         Draft {
-            version: 2,
+            version: self.version.max(2),
             records: records.collect(),
             ..self.clone()
         }
     }
 
-    /// The plan in version 2, the first blocks up to `number` in pairs back to back: of every two the second is made
-    /// like the first, with least copies of at most half of M.
+    /// The same plan in version 3.
+    pub fn wide(&self) -> Draft {
+        let draft = if self.version == 1 {
+            self.unpaired()
+        } else {
+            self.clone()
+        };
+        Draft {
+            version: 3,
+            ..draft
+        }
+    }
+
+    /// The plan in version 2, or in its own if that is later, the first blocks up to `number` in pairs back to back: of
+    /// every two the second is made like the first, with least copies of at most half of M.
     pub fn coupled(&self, number: usize) -> Draft {
         let half = (self.machines() / 2) as u8;
         let mut draft = self.unpaired();
@@ -144,6 +159,11 @@ impl Size {
     /// The same in version 2, mostly with pairs.
     pub const fn paired(self) -> Size {
         Size { version: 2, ..self }
+    }
+
+    /// The same in version 3, mostly with pairs, and with popularities of 4 bytes.
+    pub const fn wide(self) -> Size {
+        Size { version: 3, ..self }
     }
 }
 
@@ -196,15 +216,23 @@ fn popularity(rng: &mut Rng, manner: u64, i: u64) -> u32 {
         6 => rng.below(1 << 24),
         7 => 0xFF_FFFF - rng.below(3),
         8 => (1 << 23) / (i + 1),
-        _ => 0,
+        9 => 0,
+        10 => (1 << 24) - 2 + rng.below(4),
+        11 => 0xFFFF_FFFF - rng.below(3),
+        12 => 1 << rng.below(32),
+        13 => rng.below(1 << 32),
+        14 => (1 << 31) / (i + 1),
+        _ => (1 << 31) - 1 + rng.below(3),
     };
     number as u32
 }
 
-/// A manner of popularities; the first five are coarse.
+/// A manner of popularities; the first five are coarse, those from 10 on are for version 3.
 fn manner(rng: &mut Rng, size: Size) -> u64 {
     if size.coarse {
         rng.below(5)
+    } else if size.version == 3 && !rng.once_in(3) {
+        rng.from_to(10, 15)
     } else if rng.once_in(30) {
         9
     } else {
@@ -422,17 +450,18 @@ pub fn largest(rng: &mut Rng) -> Draft {
     }
 }
 
-/// An input of a wrong length, longer than the largest plan of version 1, with a header that is refused or not.
+/// An input of a wrong length, longer than the largest plan of version 1, mostly longer than any plan, with a header that
+/// is refused or not.
 pub fn too_long(rng: &mut Rng) -> Vec<u8> {
     let number = rng.one_of(&[0, 3, 1024]);
-    let size = rng.one_of(&[SMALL, SMALL.paired()]);
+    let size = rng.one_of(&[SMALL, SMALL.paired(), SMALL.wide()]);
     let mut bytes = sized(rng, size, 2, 2, number).bytes();
     if rng.once_in(3) {
         let at = rng.below(15) as usize;
         bytes[at] = rng.below(256) as u8;
     }
-    let more = rng.one_of(&[5121, 6145, 6000, 20_000, 70_000]);
-    bytes.resize(15 + more, rng.below(2) as u8);
+    let length = rng.one_of(&[5136, 6160, 7184, 7190, 20_000, 70_000]);
+    bytes.resize(length, rng.below(2) as u8);
     bytes
 }
 

@@ -2,7 +2,7 @@
 //! count of its entries, one thing after the other.
 
 use crate::damage::{any_row, flawed};
-use crate::gen::{draft, Rng, SMALL, TINY};
+use crate::gen::{draft, Rng, Size, SMALL, TINY};
 use crate::plan::{read, Refusal};
 use crate::reads::{
     enter_popularity, enter_read, entries, usable, Entry, HALF_TURN, MOST_ENTRIES, WINDOW,
@@ -71,6 +71,8 @@ pub struct Manner {
     pub damaged: bool,
     /// Reads follow each other closely, so that the entries are many.
     pub dense: bool,
+    /// The versions of the plans.
+    pub versions: &'static [u16],
 }
 
 /// A manner at random. The list is mostly short, so that it is soon full; some have 4,096 records or about, of which many
@@ -88,6 +90,7 @@ pub fn manner(rng: &mut Rng) -> Manner {
         calls: rng.from_to(1, 40),
         damaged: long || rng.once_in(2),
         dense: long || rng.once_in(3),
+        versions: &[1, 2, 3],
     }
 }
 
@@ -125,11 +128,11 @@ impl Author<'_> {
         self.events.push(event);
     }
 
-    /// Another accepted plan, of either version.
+    /// Another accepted plan, of any of the versions.
     fn new_plan(&mut self) {
         let size = self.rng.one_of(&[TINY, SMALL]);
-        let size = self.rng.one_of(&[size, size.paired()]);
-        self.sound = draft(self.rng, size).bytes();
+        let version = self.rng.one_of(self.manner.versions);
+        self.sound = draft(self.rng, Size { version, ..size }).bytes();
         self.push(Event::Plan(self.sound.clone()));
     }
 

@@ -4,6 +4,7 @@
 //! nested loops over kind, m, n, i and j. It serves to make the stored trials and to be compared with the program.
 
 pub mod calls;
+pub mod convert;
 pub mod counts;
 pub mod damage;
 pub mod gen;

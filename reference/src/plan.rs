@@ -93,23 +93,24 @@ fn field(bytes: &[u8], first: usize, last: usize) -> u64 {
         .fold(0, |value, byte| value * 256 + u64::from(*byte))
 }
 
-/// The bytes of a record: in version 2 there is a sixth.
+/// The bytes of a record: in version 2 there is a sixth, and in version 3 the popularity has one more.
 fn record_length(version: u64) -> usize {
-    if version == 1 {
-        5
-    } else {
-        6
+    match version {
+        1 => 5,
+        2 => 6,
+        _ => 7,
     }
 }
 
-/// The record of block `i`.
+/// The record of block `i`. The popularity has 3 bytes, in version 3 it has 4.
 fn record(bytes: &[u8], version: u64, i: usize) -> Block {
     let at = 15 + record_length(version) * i;
+    let behind = at + if version == 3 { 4 } else { 3 };
     Block {
-        popularity: field(bytes, at, at + 2),
-        least: field(bytes, at + 3, at + 3) as usize,
-        spread: field(bytes, at + 4, at + 4) as usize,
-        pair: if version == 1 { 0 } else { bytes[at + 5] },
+        popularity: field(bytes, at, behind - 1),
+        least: bytes[behind] as usize,
+        spread: bytes[behind + 1] as usize,
+        pair: if version == 1 { 0 } else { bytes[behind + 2] },
     }
 }
 
@@ -122,12 +123,12 @@ pub(crate) fn refuse_if(condition: bool, row: Refusal) -> Result<(), Refusal> {
     }
 }
 
-/// Rows 1 to 7, in order, and the plan with its records not yet judged.
-fn read_header(bytes: &[u8]) -> Result<Plan, Refusal> {
+/// Rows 1 to 7, in order, and the plan with its records not yet judged. Row 3 refuses all but these versions.
+fn read_header(bytes: &[u8], versions: &[u64]) -> Result<Plan, Refusal> {
     refuse_if(bytes.len() < 15, 1)?;
     refuse_if(bytes[0..3] != [0x42, 0x50, 0x4C], 2)?;
     let version = field(bytes, 3, 4);
-    refuse_if(version != 1 && version != 2, 3)?;
+    refuse_if(!versions.contains(&version), 3)?;
     let racks = field(bytes, 5, 5) as usize;
     let per_rack = field(bytes, 6, 6) as usize;
     refuse_if(racks == 0 || per_rack == 0 || racks * per_rack > 64, 4)?;
@@ -171,9 +172,14 @@ fn mispaired(plan: &Plan) -> bool {
     neither || last || marked.any(second_wrong)
 }
 
-/// Reads a plan: the first row that turns it back, or the plan.
+/// Reads a plan of any version described: the first row that turns it back, or the plan.
 pub fn read(bytes: &[u8]) -> Result<Plan, Refusal> {
-    let plan = read_header(bytes)?;
+    read_of(bytes, &[1, 2, 3])
+}
+
+/// Reads a plan of one of these versions; all others are refused 3.
+pub fn read_of(bytes: &[u8], versions: &[u64]) -> Result<Plan, Refusal> {
+    let plan = read_header(bytes, versions)?;
     for i in 0..plan.blocks.len() {
         judge_block(&plan, i)?;
     }

@@ -193,3 +193,41 @@ pub fn no_swap_for_pair(shape: (u8, u8)) -> Draft {
 }
 
 pub const PAIR_WORDS: [u64; 4] = [1, 2, 1, 2];
+
+/// Plan H in version 3, byte for byte.
+pub const H_3: [u8; 36] = [
+    0x42, 0x50, 0x4C, 0x00, 0x03, 0x02, 0x02, 0x00, 0x03, 0x00, 0x00, 0x00, 0x08, 0x00, 0x03, 0x00,
+    0x00, 0x00, 0x0C, 0x02, 0x02, 0x00, 0x00, 0x00, 0x00, 0x06, 0x01, 0x01, 0x00, 0x00, 0x00, 0x00,
+    0x02, 0x01, 0x01, 0x00,
+];
+
+/// Plan K in version 3, byte for byte.
+pub const K_3: [u8; 43] = [
+    0x42, 0x50, 0x4C, 0x00, 0x03, 0x02, 0x02, 0x00, 0x03, 0x00, 0x00, 0x00, 0x08, 0x00, 0x04, 0x00,
+    0x00, 0x00, 0x0C, 0x02, 0x02, 0x01, 0x00, 0x00, 0x00, 0x0C, 0x02, 0x02, 0x00, 0x00, 0x00, 0x00,
+    0x06, 0x01, 0x01, 0x00, 0x00, 0x00, 0x00, 0x02, 0x01, 0x01, 0x00,
+];
+
+/// A plan in version 3 of records (popularity, least copies, spread, pair byte).
+pub fn wide_plan(
+    shape: (u8, u8),
+    capacity: u16,
+    budget: u32,
+    records: &[(u32, u8, u8, u8)],
+) -> Draft {
+    paired_plan(shape, capacity, budget, records).wide()
+}
+
+/// A video hall: a recording read once more than 3 bytes can tell, one of 20,000,000 reads with its repeat run, and
+/// three others. Counts 1, 2, 2, 2, 1, 1, and three steps to rest.
+pub fn video() -> Draft {
+    let pair = [(20_000_000, 1, 1, 1), (20_000_000, 1, 1, 0)];
+    let others = [30_000_000, 90, 7_000_000].map(|p| (p, 1, 1, 0));
+    let records = [&[(1 << 24, 1, 1, 0)], &pair[..], &others].concat();
+    wide_plan((2, 2), 3, 9, &records)
+}
+
+/// The largest plan of version 3: eight copies of each of 1,024 blocks of the largest popularity.
+pub fn largest_wide() -> Draft {
+    plan_of((8, 8), 1024, 8192, &[(u32::MAX, 8, 8); 1024]).wide()
+}

@@ -1,11 +1,12 @@
 //! The stream of trials: records that a trials program reads, and what it has to print.
 
 use crate::calls::*;
+use crate::convert::enter_convert;
 use crate::reads::{enter_popularity, enter_read, Entry};
 use crate::steps::{End, Kind, Step};
 
 /// The bytes of a plan that the trials program keeps.
-pub const PLAN_ROOM: usize = 7000;
+pub const PLAN_ROOM: usize = 8000;
 
 /// The number of words that the trials program keeps.
 pub const WORDS: usize = 1100;
@@ -16,7 +17,7 @@ pub const RECORDS: usize = 4200;
 /// The most records of the list in one record of the stream.
 const RECORDS_AT_ONCE: usize = 1100;
 
-/// Every byte of the counts' buffer before a call.
+/// Every byte of the counts' buffer before a call, and of the converter's.
 pub const UNTOUCHED: u8 = 238;
 
 /// 64-bit FNV-1a, as 16 hexadecimal digits.
@@ -85,6 +86,12 @@ impl Writer {
     pub fn counts(&mut self, number: usize) {
         assert!(number <= WORDS);
         self.record(b'c', number, 0, &[]);
+    }
+
+    /// The plan as version 3 into a buffer of so many bytes.
+    pub fn convert(&mut self, number: usize) {
+        assert!(number <= usize::from(u16::MAX));
+        self.record(b'v', number, 0, &[]);
     }
 
     /// Records of the list from place `at` on; those before and behind stay.
@@ -218,6 +225,13 @@ impl Memory {
         format!("counts {said} {}\n", digest(buffer.into_iter()))
     }
 
+    /// The line for the plan as version 3 into a buffer of so many bytes.
+    fn convert_line(&self, number: usize) -> String {
+        let mut buffer = vec![UNTOUCHED; number];
+        let said = answer(enter_convert(&self.plan, &mut buffer), |n| n.to_string());
+        format!("convert {said} {}\n", digest(buffer.into_iter()))
+    }
+
     /// What a call on the lent words answers: its name, and what it says.
     fn call(&mut self, op: u8, budget: u32) -> (&'static str, String) {
         let lent = &mut self.words[..self.lent];
@@ -310,6 +324,7 @@ fn obey(memory: &mut Memory, record: &Record) -> String {
         b'T' => return format!("# {}\n", String::from_utf8_lossy(record.payload)),
         b'p' => return memory.plan_line(),
         b'c' => return memory.counts_line(record.length),
+        b'v' => return memory.convert_line(record.length),
         b'd' => return memory.read_line(record.number),
         b'o' => return memory.popularity_line(),
         b'E' => return "end\n".to_string(),

@@ -1,8 +1,10 @@
 //! The stored trials: the specification's plans and examples first, generated ones after them; then the same for
-//! version 2, and for reads.
+//! version 2, for reads, for version 3, and for the converter.
 
+mod conversions;
 mod pairs;
 mod reads;
+mod wide;
 
 use crate::damage::{broken, flawed, over_budget, over_capacity, over_racks, two_records};
 use crate::gen::*;
@@ -36,6 +38,14 @@ fn plan_calls(w: &mut Writer, draft: &Draft) {
     w.calls("fkr");
 }
 
+/// From the first placement to rest.
+fn to_rest(w: &mut Writer, draft: &Draft) {
+    plan_calls(w, draft);
+    w.calls("sr");
+    w.run(100_000);
+    w.calls("r");
+}
+
 /// The plans with a star and their neighbours.
 fn named_plans(w: &mut Writer) {
     w.title("the plans of the specification");
@@ -52,10 +62,7 @@ fn named_plans(w: &mut Writer) {
         ties(),
         spread_of_j(),
     ] {
-        plan_calls(w, &draft);
-        w.calls("sr");
-        w.run(100_000);
-        w.calls("r");
+        to_rest(w, &draft);
     }
     w.title("Y with step budgets 0, 1, 2 and the largest");
     w.plan(&y().bytes());
@@ -126,11 +133,16 @@ fn named_placements(w: &mut Writer) {
     }
 }
 
-/// Plan H with one byte changed.
-fn h_changed(at: usize, byte: u8) -> Vec<u8> {
-    let mut bytes = H.to_vec();
+/// A plan file with one byte changed.
+fn changed(bytes: &[u8], at: usize, byte: u8) -> Vec<u8> {
+    let mut bytes = bytes.to_vec();
     bytes[at] = byte;
     bytes
+}
+
+/// Plan H with one byte changed.
+fn h_changed(at: usize, byte: u8) -> Vec<u8> {
+    changed(&H, at, byte)
 }
 
 /// The examples of rows 1 to 11.
@@ -449,6 +461,8 @@ pub fn stream() -> Vec<u8> {
     large_plans(&mut w, &mut rng);
     pairs::all(&mut w, &mut Rng::new(2));
     reads::all(&mut w, &mut Rng::new(3));
+    wide::all(&mut w, &mut Rng::new(4));
+    conversions::all(&mut w, &mut Rng::new(5));
     w.calls("E");
     w.bytes
 }

@@ -1,6 +1,7 @@
 //! The specification's own trial plans and examples of refusals.
 
 use placement_reference::calls::*;
+use placement_reference::convert::{converted, enter_convert, LARGEST_PLAN};
 use placement_reference::counts::chosen;
 use placement_reference::gen::Draft;
 use placement_reference::listing::text;
@@ -39,7 +40,9 @@ fn rows_one_to_seven() {
         assert_eq!(changed(4, version), Some(3));
     }
     assert_eq!(changed(3, 1), Some(3));
-    assert_eq!(changed(4, 2), Some(7), "a length of version 1");
+    for version in [2, 3] {
+        assert_eq!(changed(4, version), Some(7), "a length of version 1");
+    }
     let machines = |racks, per_rack| {
         plan_row(&Draft {
             racks,
@@ -199,6 +202,118 @@ fn steps_that_a_pair_forbids() {
         let back = step(kinds[1], 0, 1, 2, Some(1));
         assert!(back.allowed(&without, &PAIR_WORDS) && !back.allowed(&plan, &PAIR_WORDS));
     }
+}
+
+#[test]
+fn version_three() {
+    for (draft, bytes, listing) in [(h(), &H_3[..], H_LISTING), (k(), &K_3, K_LISTING)] {
+        assert_eq!(draft.wide().bytes(), bytes);
+        assert_eq!(enter_plan(bytes), enter_plan(&draft.bytes()));
+        assert_eq!(text(bytes, 100_000), listing);
+        assert_eq!(enter_plan(&bytes[..bytes.len() - 1]).err(), Some(7));
+        assert_eq!(enter_plan(&[bytes, &[0]].concat()).err(), Some(7));
+    }
+    for (version, bytes) in [(1, &H_3[..]), (2, &H_3), (2, &K_3), (3, &K)] {
+        let mut bytes = bytes.to_vec();
+        bytes[4] = version;
+        assert_eq!(
+            enter_plan(&bytes).err(),
+            Some(7),
+            "another version's length"
+        );
+    }
+}
+
+/// Popularities above 16,777,215, up to 4,294,967,295.
+#[test]
+fn wider_popularity() {
+    let plan = video().plan().unwrap();
+    let popularities: Vec<u64> = plan.blocks.iter().map(|b| b.popularity).collect();
+    assert_eq!(popularities[..2], [16_777_216, 20_000_000]);
+    assert_eq!(chosen(&plan), [1, 2, 2, 2, 1, 1]);
+    let bytes = largest_wide().bytes();
+    assert_eq!(bytes.len(), 7183);
+    assert_eq!(bytes.len(), LARGEST_PLAN);
+    let plan = enter_plan(&bytes).unwrap();
+    assert_eq!(plan.blocks[1023].popularity, 4_294_967_295);
+    let mut words = [0; 1024];
+    enter_first(&bytes, &mut words).unwrap();
+    let report = enter_report(&bytes, &words).unwrap();
+    assert_eq!(report.largest_share, 4_294_967_295 * 105);
+    assert_eq!(report.maximum, 128 * report.largest_share);
+    assert_eq!(report.sum, 840 * 1024 * 4_294_967_295);
+}
+
+/// Row 17 looks at every byte of the popularity.
+#[test]
+fn row_seventeen_of_version_three() {
+    let row = |at: usize, flipped: u8| {
+        let mut bytes = K_3;
+        bytes[at] ^= flipped;
+        enter_plan(&bytes).err()
+    };
+    for at in (15..=18).chain(22..=25) {
+        assert_eq!(row(at, 1), Some(17), "a pair that differs in byte {at}");
+    }
+    for at in [28, 35, 42] {
+        assert_eq!(row(at, 1), Some(17), "the pair byte {at}");
+        assert_eq!(row(at, 2), Some(17), "the pair byte {at}");
+    }
+    assert_eq!(row(21, 1), None, "no pair");
+    assert_eq!(row(29, 1), None, "a block without a pair");
+}
+
+#[test]
+fn the_converter() {
+    let mut buffer = [9; 40];
+    assert_eq!(enter_convert(&H, &mut buffer), Ok(36));
+    assert_eq!(buffer[..36], H_3);
+    assert_eq!(buffer[36..], [9; 4], "later bytes stay");
+    assert_eq!(converted(&K).unwrap(), K_3);
+    let unpaired = h().unpaired().bytes();
+    assert_eq!(converted(&unpaired).unwrap(), H_3, "pair byte 0");
+    assert_eq!(
+        converted(&empty().bytes()).unwrap(),
+        empty().wide().bytes(),
+        "no record"
+    );
+}
+
+/// What the converter answers with a buffer of this length; a refusal writes nothing.
+fn convert_row(bytes: &[u8], length: usize) -> Option<u8> {
+    let mut buffer = vec![9; length];
+    let row = enter_convert(bytes, &mut buffer).err();
+    assert!(row.is_none() || buffer.iter().all(|b| *b == 9));
+    row
+}
+
+/// The plan's own row; 3 for all other versions, after 1 and 2 and before 4; 12 after 11.
+#[test]
+fn refusals_of_the_converter() {
+    let mut later = H_3;
+    (later[5], later[8]) = (0, 0);
+    for bytes in [
+        &H_3[..],
+        &K_3,
+        &later,
+        &H_3[..35],
+        &h_budget(3).wide().bytes(),
+    ] {
+        assert_eq!(convert_row(bytes, 99), Some(3));
+        assert_eq!(convert_row(bytes, 0), Some(3));
+    }
+    assert_eq!(convert_row(&H_3[..14], 99), Some(1));
+    let mut marked = H_3;
+    marked[0] = 0;
+    assert_eq!(convert_row(&marked, 99), Some(2));
+    for length in [0, 30, 35] {
+        assert_eq!(convert_row(&H, length), Some(12));
+        assert_eq!(convert_row(&h_budget(3).bytes(), length), Some(10));
+    }
+    assert_eq!(convert_row(&H, 36), None);
+    assert_eq!(convert_row(&row_eleven(1).bytes(), 28), Some(11));
+    assert_eq!(convert_row(&row_eleven(2).bytes(), 28), Some(12));
+    assert_eq!(convert_row(&row_eleven(2).bytes(), 29), None);
 }
 
 fn step(kind: Kind, m: usize, n: usize, i: usize, j: Option<usize>) -> Step {

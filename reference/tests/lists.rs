@@ -152,14 +152,16 @@ fn what_is_claimed_after_a_list() {
     lists(22, 500, SMALL);
     lists(24, 3000, TINY.paired());
     lists(25, 500, SMALL.paired());
+    lists(26, 1000, TINY.wide());
+    lists(27, 200, SMALL.wide());
 }
 
 /// A run in a list is its steps, each found word for word as the specification says.
 #[test]
 fn a_run_is_the_steps_of_a_list() {
     let rng = &mut Rng::new(23);
-    for number in 0..400 {
-        let size = if number < 200 { TINY } else { TINY.paired() };
+    for number in 0..600 {
+        let size = [TINY, TINY.paired(), TINY.wide()][number / 200];
         let draft = draft(rng, size);
         let (bytes, plan) = (draft.bytes(), draft.plan().expect("an accepted plan"));
         let begin = leaning(rng, &plan);

@@ -1,10 +1,13 @@
 //! Claims of the specification on random plans, against brute force where the plans are tiny.
 
+use placement_reference::calls::enter_run;
+use placement_reference::convert::converted;
 use placement_reference::counts::{chosen, largest_share, share};
 use placement_reference::damage::*;
 use placement_reference::gen::*;
+use placement_reference::listing::text;
 use placement_reference::placement::*;
-use placement_reference::plan::{read, Plan};
+use placement_reference::plan::{read, Block, Plan};
 use placement_reference::steps::{run, step_literal, step_plain, End};
 
 const QUARTER: Size = Size {
@@ -28,9 +31,9 @@ fn plans(seed: u64, number: u64, size: Size) -> Vec<Plan> {
         .collect()
 }
 
-/// So many plans of version 1 and so many of version 2.
-fn plans_of_both(seed: u64, number: u64, size: Size) -> Vec<Plan> {
-    [size, size.paired()]
+/// So many plans of each version.
+fn plans_of_all(seed: u64, number: u64, size: Size) -> Vec<Plan> {
+    [size, size.paired(), size.wide()]
         .into_iter()
         .flat_map(|size| plans(seed, number, size))
         .collect()
@@ -39,7 +42,7 @@ fn plans_of_both(seed: u64, number: u64, size: Size) -> Vec<Plan> {
 #[test]
 fn both_searches_agree_to_rest() {
     let mut rng = Rng::new(11);
-    for plan in plans_of_both(1, 300, TINY) {
+    for plan in plans_of_all(1, 300, TINY) {
         let mut words = leaning(&mut rng, &plan);
         loop {
             let step = step_plain(&plan, &words);
@@ -54,7 +57,7 @@ fn both_searches_agree_to_rest() {
 fn first_and_random_placements_are_feasible() {
     let mut rng = Rng::new(12);
     for size in [TINY, SMALL, MEDIUM] {
-        for plan in plans_of_both(2, 150, size) {
+        for plan in plans_of_all(2, 150, size) {
             for words in [
                 first(&plan),
                 placement(&mut rng, &plan),
@@ -77,7 +80,7 @@ fn squares(plan: &Plan, words: &[u64]) -> u128 {
 #[test]
 fn loads_sum_up_and_steps_lower_the_squares() {
     let mut rng = Rng::new(13);
-    for plan in plans_of_both(3, 200, SMALL) {
+    for plan in plans_of_all(3, 200, SMALL) {
         let popularity: u64 = plan.blocks.iter().map(|b| b.popularity).sum();
         let mut words = leaning(&mut rng, &plan);
         while let Some(step) = step_plain(&plan, &words) {
@@ -93,7 +96,7 @@ fn loads_sum_up_and_steps_lower_the_squares() {
 #[test]
 fn a_run_is_its_single_steps() {
     let mut rng = Rng::new(14);
-    for plan in plans_of_both(4, 200, SMALL) {
+    for plan in plans_of_all(4, 200, SMALL) {
         let begin = leaning(&mut rng, &plan);
         let (_, all, rest) = run(&plan, &begin, u32::MAX);
         let budget = rng.below(u64::from(all) + 2) as u32;
@@ -123,7 +126,7 @@ fn all_counts(plan: &Plan) -> Vec<Vec<usize>> {
 
 #[test]
 fn chosen_counts_by_brute_force() {
-    for plan in plans_of_both(5, 400, TINY)
+    for plan in plans_of_all(5, 400, TINY)
         .into_iter()
         .filter(|p| p.blocks.len() < 6)
     {
@@ -208,13 +211,18 @@ fn ten_and_eleven_are_exact() {
     ten_and_eleven(18, PAIRED_QUARTER);
 }
 
-/// Random bytes, budgets and capacities over tiny plans of version 2: the definition's own words, row by row.
+/// Random bytes, budgets and capacities over tiny plans of versions 2 and 3: the definition's own words, row by row.
 #[test]
 fn rows_8_to_11_and_17_of_any_bytes() {
-    let mut rng = Rng::new(19);
+    rows_of_any_bytes(19, PAIRED_QUARTER);
+    rows_of_any_bytes(21, PAIRED_QUARTER.wide());
+}
+
+fn rows_of_any_bytes(seed: u64, size: Size) {
+    let mut rng = Rng::new(seed);
     let mut seen = [0; 18];
     for _ in 0..20_000 {
-        let mut draft = draft(&mut rng, PAIRED_QUARTER);
+        let mut draft = draft(&mut rng, size);
         draft.capacity = rng.from_to(1, 3) as u16;
         draft.budget = rng.below(14) as u32;
         for record in &mut draft.records {
@@ -267,7 +275,7 @@ fn row_by_words(draft: &Draft) -> u8 {
 #[test]
 fn a_share_is_whole_and_as_in_the_table() {
     let table = [840, 420, 280, 210, 168, 140, 120, 105];
-    for p in [0, 1, 7, 1000, 0xFF_FFFF] {
+    for p in [0, 1, 7, 1000, 0xFF_FFFF, 0xFFFF_FFFF] {
         for count in 1..=8 {
             assert_eq!(share(p, count) * count as u64, p * 840);
             assert_eq!(share(p, count), p * table[count - 1]);
@@ -275,7 +283,7 @@ fn a_share_is_whole_and_as_in_the_table() {
     }
 }
 
-/// Damaged plans of either version get the row of their first flaw.
+/// Damaged plans of any version get the row of their first flaw.
 fn first_row(rng: &mut Rng, size: Size, number: u64) {
     for _ in 0..number {
         let mut plan = draft(rng, size);
@@ -295,7 +303,7 @@ fn first_row(rng: &mut Rng, size: Size, number: u64) {
             }
         }
         for a in [8, 9, 17] {
-            if a < 17 || size.version == 2 {
+            if a < 17 || size.version >= 2 {
                 assert_eq!(read(&flawed(rng, plan.bytes(), a)), Err(a));
             }
         }
@@ -320,16 +328,20 @@ fn damaged_plans_get_the_first_row() {
     let mut rng = Rng::new(16);
     first_row(&mut rng, SMALL, 200);
     first_row(&mut rng, SMALL.paired(), 200);
+    first_row(&mut rng, SMALL.wide(), 200);
 }
 
 /// Row 17 in each of its ways: alone, after a flaw of 8 or 9 at any block, before one of 10 or 11.
 #[test]
 fn mispaired_plans_get_row_17() {
     let mut rng = Rng::new(20);
-    for how in MISPAIRINGS {
+    for (how, size) in MISPAIRINGS
+        .into_iter()
+        .flat_map(|how| [(how, SMALL.paired()), (how, SMALL.wide())])
+    {
         let mut number = 0;
         while number < 60 {
-            let Some(alone) = mispaired(&mut rng, SMALL.paired(), how) else {
+            let Some(alone) = mispaired(&mut rng, size, how) else {
                 continue;
             };
             number += 1;
@@ -352,7 +364,7 @@ fn mispaired_plans_get_row_17() {
 fn damaged_placements_get_the_first_row() {
     let mut rng = Rng::new(17);
     let mut found = [0; 32];
-    for plan in plans_of_both(7, 150, SMALL) {
+    for plan in plans_of_all(7, 150, SMALL) {
         for set in 1..32_usize {
             let rows = [0, 1, 2, 3, 4].map(|r| set >> r & 1 == 1);
             let Some(words) = broken(&mut rng, &plan, rows) else {
@@ -364,4 +376,80 @@ fn damaged_placements_get_the_first_row() {
         }
     }
     assert!(found[1..].iter().all(|n| *n > 5), "{found:?}");
+}
+
+/// The fields of an accepted plan, written in this version.
+fn written(plan: &Plan, version: u16) -> Vec<u8> {
+    let record = |b: &Block| Record {
+        popularity: b.popularity as u32,
+        least: b.least as u8,
+        spread: b.spread as u8,
+        pair: b.pair,
+    };
+    let draft = Draft {
+        version,
+        racks: plan.racks as u8,
+        per_rack: plan.per_rack as u8,
+        capacity: plan.capacity as u16,
+        budget: plan.budget as u32,
+        records: plan.blocks.iter().map(record).collect(),
+    };
+    draft.bytes()
+}
+
+/// An accepted plan of version 1 or 2 and its conversion: fields, counts, placement, runs and listing are the same.
+#[test]
+fn a_conversion_reads_as_the_same_plan() {
+    let mut rng = Rng::new(22);
+    for (size, number) in [(TINY, 150), (SMALL, 150), (MEDIUM, 20)] {
+        for k in 0..2 * number {
+            let version = 1 + k % 2;
+            let draft = draft(&mut rng, Size { version, ..size });
+            let old = draft.bytes();
+            let new = converted(&old).expect("accepted");
+            let plan = read(&old).expect("accepted");
+            assert_eq!(read(&new).as_ref(), Ok(&plan));
+            assert_eq!(new, draft.wide().bytes());
+            assert_eq!(new, written(&plan, 3));
+            assert_eq!(old, written(&plan, version));
+            same_answers(&mut rng, &plan, &old, &new);
+        }
+    }
+}
+
+/// Counts, first placement, a run from any placement and the listing are the same for both.
+fn same_answers(rng: &mut Rng, plan: &Plan, old: &[u8], new: &[u8]) {
+    let other = read(new).expect("accepted");
+    assert_eq!(chosen(&other), chosen(plan));
+    assert_eq!(first(&other), first(plan));
+    let mut words = [leaning(rng, plan), Vec::new()];
+    words[1] = words[0].clone();
+    let budget = rng.below(9) as u32;
+    let ends = [
+        enter_run(old, &mut words[0], budget),
+        enter_run(new, &mut words[1], budget),
+    ];
+    assert_eq!(ends[0], ends[1]);
+    assert_eq!(words[0], words[1]);
+    assert_eq!(text(old, 1000), text(new, 1000));
+}
+
+/// Damaged bytes of any version: the converter gives the plan's own row, and 3 for version 3 before 4.
+#[test]
+fn a_conversion_is_refused_as_the_plan() {
+    let mut rng = Rng::new(23);
+    for k in 0..6000 {
+        let version = 1 + k % 3;
+        let size = Size { version, ..SMALL };
+        let row = any_row(&mut rng, version);
+        let good = draft(&mut rng, size).bytes();
+        let once = flawed(&mut rng, good, row);
+        let row = read(&once).err();
+        let expected = match row {
+            Some(1..=3) => row,
+            _ if version == 3 => Some(3),
+            _ => row,
+        };
+        assert_eq!(converted(&once).err(), expected);
+    }
 }

@@ -1,9 +1,10 @@
 //! The stream of trials: digests, records, and the stored stream's bounds.
 
 use placement_reference::reads::Entry;
-use placement_reference::samples::{y, H};
-use placement_reference::stream::{digest, replay, Writer, PLAN_ROOM, RECORDS};
+use placement_reference::samples::{y, H, H_3};
+use placement_reference::stream::{digest, replay, Writer, PLAN_ROOM, RECORDS, UNTOUCHED};
 use placement_reference::trials::stream;
+use std::iter::repeat_n;
 
 #[test]
 fn digest_is_fnv() {
@@ -20,6 +21,8 @@ fn a_short_stream() {
     w.calls("p");
     w.counts(3);
     w.counts(2);
+    w.convert(38);
+    w.convert(35);
     w.plan(&y().bytes());
     w.lend(2);
     w.calls("f");
@@ -35,6 +38,8 @@ fn a_short_stream() {
         "plan 2 2 3 8 3",
         "counts 2520 ",
         "counts refused 12 ",
+        "convert 36 ",
+        "convert refused 12 ",
         "first refused 12 ",
         "check 3 ",
         "report 5040 840 5880 3360 ",
@@ -48,6 +53,29 @@ fn a_short_stream() {
     for (line, begin) in said.iter().zip(begins) {
         assert!(line.starts_with(begin), "{line}");
     }
+}
+
+/// The line of a conversion has the digest of the whole buffer, of which the bytes past the result are untouched.
+#[test]
+fn conversions() {
+    let mut w = Writer::default();
+    for (bytes, number) in [(&H[..], 38), (&H, 36), (&H, 35), (&H_3, 36), (&H, 0)] {
+        w.plan(bytes);
+        w.convert(number);
+    }
+    w.calls("E");
+    let untouched = |number: usize| digest(repeat_n(UNTOUCHED, number));
+    let longer = H_3.into_iter().chain([UNTOUCHED, UNTOUCHED]);
+    let expected = [
+        format!("convert 36 {}", digest(longer)),
+        format!("convert 36 {}", digest(H_3.into_iter())),
+        format!("convert refused 12 {}", untouched(35)),
+        format!("convert refused 3 {}", untouched(36)),
+        format!("convert refused 12 {}", untouched(0)),
+        "end".to_string(),
+    ];
+    let output = replay(&w.bytes);
+    assert_eq!(output.lines().collect::<Vec<_>>(), expected);
 }
 
 /// The digest of a list of these records and 0 behind them, as a word each with the block above the tick.
@@ -94,12 +122,12 @@ fn a_short_stream_of_reads() {
 fn the_stored_stream_keeps_its_bounds() {
     let once = stream();
     assert_eq!(once, stream());
-    assert!(once.len() < 1_000_000);
+    assert!(once.len() < 1_200_000);
     assert!(once.ends_with(b"E\0\0\0\0\0\0\0"));
 }
 
 /// The largest plan of any version fits, and a plan of one block more, which row 6 refuses.
 #[test]
 fn the_largest_plan_fits() {
-    const { assert!(15 + 6 * 1025 <= PLAN_ROOM) };
+    const { assert!(15 + 7 * 1025 <= PLAN_ROOM) };
 }

@@ -1,5 +1,6 @@
 // The public entries of the placement crates, each called once, with its answer as a line.
 use crate::output::Line;
+use conversion::ConvertAnswer;
 use header::Header;
 use plan::Reading;
 use search::Step;
@@ -37,6 +38,16 @@ pub fn counts_line(bytes: &[u8], lent: &mut [u8]) -> Line {
     match answer {
         CountsAnswer::Refused(code) => line.refused(code),
         CountsAnswer::Counted(share) => line.number(share),
+    }
+}
+
+// Converts the plan: the result's length.
+pub fn convert_line(bytes: &[u8], lent: &mut [u8]) -> Line {
+    let line = Line::new(b"convert");
+    let answer = conversion::convert(bytes, lent);
+    match answer {
+        ConvertAnswer::Refused(code) => line.refused(code),
+        ConvertAnswer::Converted(size) => line.number(size as u64),
     }
 }
 

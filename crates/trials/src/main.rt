@@ -151,6 +151,21 @@ fn try_counts(plan: &[u8], n: usize, current: Current) -> Turn {
     Turn::On(current)
 }
 
+// Converts the plan into the lent buffer; the digest is that of the buffer.
+fn answer_conversion(plan: &[u8], lent: &mut [u8]) {
+    let line = calls::convert_line(plan, lent);
+    line.hex(digest::of_bytes(lent)).write();
+}
+
+// Converts the plan, into a buffer of n bytes.
+fn try_convert(plan: &[u8], n: usize, current: Current) -> Turn {
+    let size = input::at_most(current.plan, plan.len());
+    let room = input::at_most(n, 65536);
+    let mut space = input::filled();
+    answer_conversion(&plan[..size], &mut space[..room]);
+    Turn::On(current)
+}
+
 // Makes a call on the lent words; the digest is that of all words.
 fn try_words(plan: &[u8], words: &mut [u64], current: Current, op: u8, limit: u32) -> Turn {
     let size = input::at_most(current.plan, plan.len());
@@ -210,6 +225,7 @@ fn apply(
         b'B' => take_block(number, current),
         b'p' => try_plan(plan, current),
         b'c' => try_counts(plan, n, current),
+        b'v' => try_convert(plan, n, current),
         b'f' | b'k' | b'r' | b's' | b'u' => try_words(plan, words, current, op, number),
         b'd' => try_read(plan, log, current, number),
         b'o' => try_popularity(plan, log, current),
@@ -257,7 +273,7 @@ fn play(plan: &mut [u8], words: &mut [u64], log: &mut [u64]) {
 }
 
 fn main() {
-    let mut plan = [0u8; 7000];
+    let mut plan = [0u8; 8000];
     let mut words = [0u64; 1100];
     let mut log = [0u64; 4200];
     play(&mut plan, &mut words, &mut log);

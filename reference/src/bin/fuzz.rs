@@ -1,17 +1,49 @@
-//! Compares a program with the reference: fuzz PROGRAM [COUNT] [SEED]. Each plan is given to the program on its
-//! standard input, and what it prints is compared with the reference's listing. The largest plans and inputs longer
-//! than any plan come first, then COUNT random plans.
+//! Compares two programs with the reference: fuzz PLACE CONVERT [COUNT] [SEED]. Each plan is given to both on standard
+//! input. What the first prints is compared with the reference's listing, what the second writes with the plan as
+//! version 3; and the first has to print the same listing for that. The largest plans and inputs longer than any plan
+//! come first, then COUNT random plans.
 
+use placement_reference::convert::converted;
 use placement_reference::damage::*;
 use placement_reference::gen::*;
 use placement_reference::listing::{listed, Verdict, STEP_BUDGET};
-use placement_reference::samples::{long_listing, H, K};
+use placement_reference::samples::{largest_wide, long_listing, video, H, H_3, K, K_3};
 use placement_reference::steps::End;
 use std::io::{Result, Write};
 use std::process::{exit, Command, Stdio};
 
-/// What the program prints for these bytes, on standard output and, if anything, on standard error.
-fn printed(program: &str, bytes: &[u8]) -> Result<Vec<u8>> {
+/// What a program writes on standard output and on standard error.
+#[derive(PartialEq, Eq)]
+struct Said {
+    output: Vec<u8>,
+    error: Vec<u8>,
+}
+
+impl Said {
+    /// This on standard output alone.
+    fn output(output: Vec<u8>) -> Said {
+        let error = Vec::new();
+        Said { output, error }
+    }
+
+    /// The refusal on standard error alone.
+    fn refused(row: u8) -> Said {
+        Said {
+            output: Vec::new(),
+            error: format!("refused {row}\n").into_bytes(),
+        }
+    }
+
+    /// Both in letters, other bytes as numbers.
+    fn text(&self) -> String {
+        let text = |bytes: &[u8]| bytes.escape_ascii().to_string().replace("\\n", "\n");
+        let (output, error) = (text(&self.output), text(&self.error));
+        format!("{output}\n-- and on standard error:\n{error}")
+    }
+}
+
+/// What the program writes for these bytes.
+fn said(program: &str, bytes: &[u8]) -> Result<Said> {
     let mut child = Command::new(program)
         .stdin(Stdio::piped())
         .stdout(Stdio::piped())
@@ -20,39 +52,68 @@ fn printed(program: &str, bytes: &[u8]) -> Result<Vec<u8>> {
     // A program may stop reading once it knows its answer: a closed pipe is no fault.
     let _ = child.stdin.take().expect("piped").write_all(bytes);
     let output = child.wait_with_output()?;
-    Ok([output.stdout, output.stderr].concat())
+    Ok(Said {
+        output: output.stdout,
+        error: output.stderr,
+    })
 }
 
-/// Inputs that are tried whatever the seed, with their names.
-fn named() -> Vec<(&'static str, Vec<u8>)> {
+/// An input with its name.
+type Named = (&'static str, Vec<u8>);
+
+/// The first of these plans' version with the fields and the length of the second.
+fn relabelled(version: &[u8], plan: &[u8]) -> Vec<u8> {
+    [&version[..5], &plan[5..]].concat()
+}
+
+/// Small plans of version 3, and each version in the length of another.
+fn versions() -> Vec<Named> {
+    vec![
+        ("h-in-version-3", H_3.to_vec()),
+        ("k-in-version-3", K_3.to_vec()),
+        ("video", video().bytes()),
+        ("version-2-in-the-length-of-1", relabelled(&K, &H)),
+        ("version-3-in-the-length-of-1", relabelled(&K_3, &H)),
+        ("version-3-in-the-length-of-2", relabelled(&K_3, &K)),
+        ("version-1-in-the-length-of-3", relabelled(&H, &H_3)),
+        ("version-2-in-the-length-of-3", relabelled(&K, &K_3)),
+    ]
+}
+
+/// The largest plan of a version with a wrong length, up to one longer than any plan.
+fn wrong_lengths(largest: &[u8], garbage: &[u8]) -> [Named; 4] {
+    let longer = |more: &[u8]| [largest, more].concat();
+    [
+        ("one-byte-behind-the-largest", longer(&[0])),
+        ("garbage-behind-the-largest", longer(garbage)),
+        ("one-byte-less", largest[..largest.len() - 1].to_vec()),
+        ("70000-bytes", longer(&vec![0; 70_000 - largest.len()])),
+    ]
+}
+
+/// Inputs that are tried whatever the seed. The largest plan with pairs is tried in version 3 as its conversion.
+fn named() -> Vec<Named> {
     let rng = &mut Rng::new(1024);
     let draft = largest(rng);
-    let garbage: Vec<u8> = (0..7000).map(|_| rng.below(256) as u8).collect();
-    let refused = [&[0x42, 0x50, 0x4C, 0, 5], &H[5..]].concat();
+    let paired = draft.coupled(1024);
+    let garbage: Vec<u8> = (0..8000).map(|_| rng.below(256) as u8).collect();
+    let refused = relabelled(&[0x42, 0x50, 0x4C, 0, 5], &H);
+    let pairs_listed = long_listing().coupled(1024);
     let mut inputs = vec![
         ("long-listing", long_listing().bytes()),
-        (
-            "long-listing-of-pairs",
-            long_listing().coupled(1024).bytes(),
-        ),
-        ("version-2-in-the-length-of-1", [&K[..5], &H[5..]].concat()),
+        ("long-listing-of-pairs", pairs_listed.bytes()),
+        ("largest-popularities", largest_wide().bytes()),
+        ("largest", draft.bytes()),
+        ("largest-of-pairs", paired.bytes()),
         ("garbage-behind-a-plan", [&H[..], &garbage].concat()),
         (
             "garbage-behind-a-refused-header",
             [&refused[..], &garbage].concat(),
         ),
     ];
-    for draft in [&draft, &draft.coupled(1024)] {
-        let largest = draft.bytes();
-        inputs.extend([
-            ("one-byte-behind-the-largest", [&largest[..], &[0]].concat()),
-            (
-                "garbage-behind-the-largest",
-                [&largest[..], &garbage].concat(),
-            ),
-            ("one-byte-less", largest[..largest.len() - 1].to_vec()),
-            ("largest", largest),
-        ]);
+    inputs.extend(versions());
+    for draft in [&draft, &paired, &paired.wide()] {
+        inputs.extend(wrong_lengths(&draft.bytes(), &garbage));
     }
     inputs
 }
@@ -76,7 +137,7 @@ fn damaged(rng: &mut Rng, size: Size) -> Vec<u8> {
         2 => over_budget(rng, size),
         3 => Some(over_capacity(rng, size)),
         4 => over_racks(rng, size),
-        5 if size.version == 2 => wrongly_paired(rng, size),
+        5 if size.version >= 2 => wrongly_paired(rng, size),
         _ => None,
     };
     let bytes = draft.unwrap_or_else(|| placement_reference::gen::draft(rng, size));
@@ -88,12 +149,12 @@ fn damaged(rng: &mut Rng, size: Size) -> Vec<u8> {
     }
 }
 
-/// The input of one trial, of either version.
+/// The input of one trial, of any version.
 fn input(rng: &mut Rng) -> Vec<u8> {
-    let version = rng.from_to(1, 2) as u16;
+    let version = rng.from_to(1, 3) as u16;
     let of = |size: Size| Size { version, ..size };
     match rng.below(200) {
-        0 => coarse_of(rng, version).bytes(),
+        0 => in_version(coarse(rng), version).bytes(),
         1..=3 => too_long(rng),
         4..=13 => noise(rng, version as u8),
         14..=49 => damaged(rng, of(SMALL)),
@@ -104,13 +165,18 @@ fn input(rng: &mut Rng) -> Vec<u8> {
     }
 }
 
-/// A large plan that comes to rest soon, in version 2 with pairs back to back.
-fn coarse_of(rng: &mut Rng, version: u16) -> Draft {
-    let draft = coarse(rng);
-    if version == 1 || draft.machines() < 2 {
-        return draft;
+/// The plan in this version, from version 2 on with pairs back to back.
+fn in_version(draft: Draft, version: u16) -> Draft {
+    let paired = if draft.machines() < 2 {
+        draft.unpaired()
+    } else {
+        draft.coupled(draft.records.len())
+    };
+    match version {
+        1 => draft,
+        2 => paired,
+        _ => paired.wide(),
     }
-    draft.coupled(draft.records.len())
 }
 
 /// How many trials ended in which way.
@@ -119,10 +185,12 @@ struct Tally {
     refused: [u64; 18],
     rest: u64,
     spent: u64,
+    converted: u64,
 }
 
 impl Tally {
-    fn add(&mut self, verdict: Verdict) {
+    fn add(&mut self, verdict: Verdict, converted: bool) {
+        self.converted += u64::from(converted);
         match verdict {
             Verdict::Refused(row) => self.refused[usize::from(row)] += 1,
             Verdict::Ended(End::Rest) => self.rest += 1,
@@ -136,39 +204,55 @@ impl Tally {
             .map(|row| format!("{row}:{}", self.refused[usize::from(row)]))
             .collect();
         format!(
-            "accepted {} (at rest {}, spent {}), refused {}",
+            "accepted {} (at rest {}, spent {}), of them converted {}, refused {}",
             self.rest + self.spent,
             self.rest,
             self.spent,
+            self.converted,
             refused.join(" ")
         )
     }
 }
 
-/// Saves the input on which the two differ, says so, and stops.
-fn differ(name: &str, bytes: &[u8], reference: &str, program: &[u8]) -> Result<()> {
+/// Gives the input to a program. Where it writes something else than is wanted, saves the input, says so, and stops.
+fn demand(program: &str, name: &str, bytes: &[u8], wanted: &Said) -> Result<()> {
+    let said = said(program, bytes)?;
+    if said == *wanted {
+        return Ok(());
+    }
     let path = std::env::temp_dir().join(format!("fuzz-{name}.plan"));
     std::fs::write(&path, bytes)?;
     println!(
-        "fuzz: {name}: the program differs; the plan is in {}",
+        "fuzz: {name}: {program} differs; the plan is in {}",
         path.display()
     );
-    println!("-- the reference prints:\n{reference}");
-    println!(
-        "-- the program prints:\n{}",
-        String::from_utf8_lossy(program)
-    );
+    println!("-- the reference writes:\n{}", wanted.text());
+    println!("-- the program writes:\n{}", said.text());
     exit(1)
 }
 
-/// Compares the two on one input.
-fn compare(program: &str, name: &str, bytes: &[u8]) -> Result<Verdict> {
-    let (verdict, reference) = listed(bytes, STEP_BUDGET);
-    let said = printed(program, bytes)?;
-    if said != reference.as_bytes() {
-        differ(name, bytes, &reference, &said)?;
+/// The two programs.
+struct Programs {
+    place: String,
+    convert: String,
+}
+
+impl Programs {
+    /// Compares both with the reference on one input; a plan and its conversion have the same listing.
+    fn compare(&self, tally: &mut Tally, name: &str, bytes: &[u8]) -> Result<()> {
+        let (verdict, text) = listed(bytes, STEP_BUDGET);
+        let listing = Said::output(text.into_bytes());
+        demand(&self.place, name, bytes, &listing)?;
+        let conversion = converted(bytes);
+        tally.add(verdict, conversion.is_ok());
+        match conversion {
+            Err(row) => demand(&self.convert, name, bytes, &Said::refused(row)),
+            Ok(result) => {
+                demand(&self.convert, name, bytes, &Said::output(result.clone()))?;
+                demand(&self.place, &format!("{name}-converted"), &result, &listing)
+            }
+        }
     }
-    Ok(verdict)
 }
 
 /// The argument at `at` as a number, or `otherwise`.
@@ -179,24 +263,31 @@ fn number(at: usize, otherwise: u64) -> u64 {
     })
 }
 
+/// The argument at `at`, the path of a program.
+fn path(at: usize) -> String {
+    let argument = std::env::args().nth(at);
+    argument.expect("usage: fuzz PLACE CONVERT [COUNT] [SEED]")
+}
+
 fn main() -> Result<()> {
-    let program = std::env::args()
-        .nth(1)
-        .expect("usage: fuzz PROGRAM [COUNT] [SEED]");
-    let (count, seed) = (number(2, 3000), number(3, 1));
+    let programs = Programs {
+        place: path(1),
+        convert: path(2),
+    };
+    let (count, seed) = (number(3, 3000), number(4, 1));
     let mut tally = Tally::default();
     for (name, bytes) in named() {
-        tally.add(compare(&program, name, &bytes)?);
+        programs.compare(&mut tally, name, &bytes)?;
     }
     for k in 0..count {
         let mut rng = Rng::new(seed.wrapping_mul(1 << 32).wrapping_add(k));
         let bytes = if k % 3000 == 2999 {
-            let draft = patient(&mut rng);
-            rng.one_of(&[&draft, &draft.coupled(76)]).bytes()
+            let version = rng.from_to(1, 3) as u16;
+            in_version(patient(&mut rng), version).bytes()
         } else {
             input(&mut rng)
         };
-        tally.add(compare(&program, &format!("seed-{seed}-plan-{k}"), &bytes)?);
+        programs.compare(&mut tally, &format!("seed-{seed}-plan-{k}"), &bytes)?;
     }
     println!(
         "fuzz: seed {seed}, {} named inputs and {count} random ones, no difference: {}",

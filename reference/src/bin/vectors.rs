@@ -1,8 +1,9 @@
 //! Writes the stored trials and examples into a folder: trials.stdin, trials.stdout, examples/*.plan, examples/*.listing.
 
+use placement_reference::convert::converted;
 use placement_reference::gen::{patient, sized, Draft, Rng, SMALL};
 use placement_reference::listing::{text, STEP_BUDGET};
-use placement_reference::samples::{empty, h_budget, y, H};
+use placement_reference::samples::{empty, h_budget, video, y, H};
 use placement_reference::stream::replay;
 use placement_reference::trials::stream;
 use std::fs::{create_dir_all, write};
@@ -35,15 +36,23 @@ fn pairs() -> Draft {
     draft
 }
 
+/// A plan of version 1 or 2 as the converter writes it.
+fn in_version_3(bytes: &[u8]) -> Vec<u8> {
+    converted(bytes).expect("an accepted plan")
+}
+
 /// The example plans with their names.
 fn examples() -> Vec<(&'static str, Vec<u8>)> {
     vec![
         ("h", H.to_vec()),
+        ("h-3", in_version_3(&H)),
         ("y", y().bytes()),
         ("empty", empty().bytes()),
         ("refused", h_budget(3).bytes()),
         ("mixed", mixed().bytes()),
         ("pairs", pairs().bytes()),
+        ("pairs-3", in_version_3(&pairs().bytes())),
+        ("wide", video().bytes()),
         // It needs 100,036 steps to rest, so the program's budget ends a little before.
         ("spent", patient(&mut Rng::new(0)).bytes()),
     ]

@@ -20,14 +20,6 @@ pub fn all(w: &mut Writer, rng: &mut Rng) {
     large(w, rng);
 }
 
-/// From the first placement to rest.
-fn to_rest(w: &mut Writer, draft: &Draft) {
-    plan_calls(w, draft);
-    w.calls("sr");
-    w.run(100_000);
-    w.calls("r");
-}
-
 /// Plans of version 1 as they are, and in version 2 with all pair bytes 0: the answers are the same.
 fn beside_version_1(w: &mut Writer, rng: &mut Rng) {
     w.title("version 2 with all pair bytes 0, beside the same plan in version 1");
@@ -141,14 +133,10 @@ fn refused_pairs(w: &mut Writer) {
         (26, 1),
         (32, 1),
     ] {
-        let mut bytes = K.to_vec();
-        bytes[at] = byte;
-        refused_plan(w, &bytes);
+        refused_plan(w, &changed(&K, at, byte));
     }
     for (at, byte) in [(17, 13), (15, 1), (23, 11), (24, 1), (25, 1), (19, 1)] {
-        let mut bytes = K.to_vec();
-        bytes[at] = byte;
-        refused_plan(w, &bytes);
+        refused_plan(w, &changed(&K, at, byte));
     }
     refused_plan(w, &h_changed(4, 2));
     refused_plan(w, &K[..38]);
@@ -166,7 +154,7 @@ fn refused_pairs(w: &mut Writer) {
 }
 
 /// Every call on words handed in, the words set anew before those that may write.
-fn handed_in(w: &mut Writer, draft: &Draft, words: &[u64]) {
+pub(super) fn handed_in(w: &mut Writer, draft: &Draft, words: &[u64]) {
     w.plan(&draft.bytes());
     w.words(words);
     w.calls("krs");

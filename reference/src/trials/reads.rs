@@ -16,7 +16,8 @@ pub fn all(w: &mut Writer, rng: &mut Rng) {
     counts_handed_in(w);
     popularities_of_pairs(w);
     unordered_lists(w);
-    random_histories(w, rng);
+    w.title("reads: random histories");
+    random_histories(w, rng, 60, &[1, 2]);
 }
 
 /// A record of any numbers that are not 0, so that one written shows.
@@ -195,15 +196,20 @@ fn event(w: &mut Writer, caller: &Caller, event: &Event) {
     }
 }
 
-/// Random histories over short lists, with a few strange records behind.
-fn random_histories(w: &mut Writer, rng: &mut Rng) {
-    w.title("reads: random histories");
-    for k in 0..60 {
+/// Random histories over short lists, with a few strange records behind, and plans of these versions.
+pub(super) fn random_histories(
+    w: &mut Writer,
+    rng: &mut Rng,
+    number: usize,
+    versions: &'static [u16],
+) {
+    for k in 0..number {
         let manner = Manner {
             room: 1 + k % 10,
             calls: 24,
             damaged: k % 3 == 2,
             dense: rng.once_in(3),
+            versions,
         };
         let mut list = vec![Entry::default(); manner.room];
         let mut caller = Caller {
