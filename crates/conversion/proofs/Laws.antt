@@ -1,14 +1,13 @@
 -- Laws of the new file's pieces.
 -- Assumes nothing.
-use mathlib.Core.Path.{_≡_, refl, ap, sym, subst}
+use mathlib.Core.Path.{_≡_, ap, sym, subst}
 use mathlib.Core.List.{List, [], _∷_, _++_}
-use Prim.Native.Nat.{ℕ, zero, suc, _+_, _-_, _/_, _%_, _<_, _≤_}
-use native.Mathlib.Omega.{arith}
+use Prim.Native.Nat.{ℕ}
 use Rattle.order.specs.Table.{joined}
 use Rattle.order.proofs.Tables.{joined-cong}
 use Rattle.model.specs.Plan.{Block, Format, formatOf, formatIn, blockIn}
 use Rattle.model.specs.Refusal.{judge, accepted}
-use Rattle.model.specs.Writing.{bytesOf, headerBytes, recordBytes, planBytes}
+use Rattle.model.specs.Writing.{headerBytes, recordBytes, planBytes}
 use Rattle.model.specs.Conversion.{writtenVersion, converted}
 use Rattle.text.specs.Pasted.{Room, Put}
 use Rattle.header.specs.declared.Header.{Header}
@@ -24,20 +23,6 @@ room-same {at} {a} {b} {text} e room = subst (λ (piece : List ℕ). Room at pie
 
 pub put-same : {at next : ℕ} {a b old text : List ℕ} → a ≡ b → Put at a old text next → Put at b old text next
 put-same {at} {next} {a} {b} {old} {text} e put = subst (λ (piece : List ℕ). Put at piece old text next) e put
-
--- ── bytesOf ────────────────────────────────────────────────────────────────────────────────────────────────────────────
-
--- in no bytes, nothing is put
-pub bytesOf-none : (width n : ℕ) → width ≡ 0 → bytesOf width n ≡ []
-unfolding bytesOf
-bytesOf-none zero n e = refl
-bytesOf-none (suc width) n e = absurd (omega arith)
-
--- the last byte after those of n / 256
-pub bytesOf-more : (width n : ℕ) → (width ≡ 0 → ⊥) → bytesOf width n ≡ bytesOf (width - 1) (n / 256) ++ (n % 256) ∷ []
-unfolding bytesOf
-bytesOf-more zero n some = absurd (some refl)
-bytesOf-more (suc width) n some = let e : suc width - 1 ≡ width = omega arith in rw e
 
 -- ── recordBytes ────────────────────────────────────────────────────────────────────────────────────────────────────────
 

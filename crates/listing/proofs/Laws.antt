@@ -4,17 +4,17 @@ use mathlib.Core.Path.{_≡_, ap, ap₂, sym, _∙_}
 use mathlib.Core.Bool.{Bool}
 use mathlib.Core.List.{List, [], _∷_, _++_, append-assoc, append-nil}
 use Prim.Native.Nat.{ℕ, _+_, _-_, _^_, _<_, _≤_}
-use native.Mathlib.Nat.{le-of-eq, zero-add}
+use native.Mathlib.Nat.{le-of-eq}
 use native.Mathlib.Omega.{arith}
-use lib.ListN.{length, getD, drop, drop-of-length-le}
+use lib.ListN.{length, getD, drop-of-length-le}
 use Rattle.order.specs.Table.{table, filled}
 use Rattle.model.specs.Plan.{Plan, machines, blockCount, blockOf}
 use Rattle.model.specs.Refusal.{maxMachines}
 use Rattle.model.specs.Replication.{share, chosen}
 use Rattle.model.specs.Placement.{wordOf, countOf, firstWord, firstPlacement, maxLoad, minLoad}
 use Rattle.model.specs.Steps.{Run, run}
-use Rattle.model.specs.Calls.{answered, reportOf}
-use Rattle.model.specs.Listing.{wrote, numberField, fields, lineEnd, line, blockWord, planLine, holders, blockLine, endWord, lastLine, listingOf, listingRoom}
+use Rattle.model.specs.Calls.{reportOf}
+use Rattle.model.specs.Listing.{numberField, fields, lineEnd, line, blockWord, planLine, holders, blockLine, endWord, lastLine, listingOf, listingRoom}
 use Rattle.theory.specs.Widths.{shareBound}
 use Rattle.theory.proofs.PlacementFirst.{firstPlacement-feasible}
 use Rattle.order.specs.Table.{joined}
@@ -26,11 +26,9 @@ use Rattle.cluster.proofs.Laws.{cluster-blocks, profiles-share, profiles-count,
 use Rattle.bits.specs.Words.{Lowest}
 use Rattle.balance.specs.declared.Ran.{Ran}
 use Rattle.balance.specs.Standing.{ranOf}
-use Rattle.text.specs.Pasted.{pasted, Room, Put}
+use Rattle.text.specs.Pasted.{Room, Put}
 use Rattle.text.proofs.Laws.{room-first, room-next, put-then}
 use Rattle.listing.specs.declared.FirstRun.{FirstRun}
-use Rattle.listing.specs.declared.ListingAnswer.the-variants.{Listed}
-use Rattle.listing.specs.Entries.{listingOutcome}
 use Rattle.listing.specs.Rows.{numberRow, rowAt, firstRow, rows, endRow, allRows, FirstRunAs}
 
 -- the lowest machine's field first, then those of the word without it

@@ -4,20 +4,20 @@
 use mathlib.Core.Path.{_≡_, refl, ap, sym, subst, _∙_}
 use mathlib.Core.Bool.{not, _||_}
 use mathlib.Core.List.{List, []}
-use Prim.Native.Nat.{ℕ, zero, suc, _≤_}
+use Prim.Native.Nat.{ℕ, _≤_}
 use native.Mathlib.Omega.{arith}
-use borrow.Author.Tests.{le-ltb, eq-eqb}
+use borrow.Author.Tests.{le-ltb}
 use lib.Dec.{ltb, eqb, lit<}
 use lib.ListN.{length}
 use Rattle.order.specs.Table.{table, joined}
 use Rattle.order.proofs.Booleans.{in-range, cond-all}
-use Rattle.model.specs.Plan.{Block, Plan, blockCount, blockOf, commonLength, minTotal, upper, isPaired, pairsBack, pairsNext, field, markIn, versionIn, Format, formatOf, blockIn, planIn}
-use Rattle.model.specs.Refusal.{mark, maxBlocks, check1, check2, check3, Verdict, accepted, judge}
+use Rattle.model.specs.Plan.{Block, Plan, blockCount, blockOf, commonLength, minTotal, upper, isPaired, pairsBack, pairsNext, field, markIn, versionIn, formatOf, blockIn, planIn}
+use Rattle.model.specs.Refusal.{mark, maxBlocks, check1, check2, check3, accepted, judge}
 use Rattle.model.specs.Calls.{refuse, onPlan}
 use Rattle.model.specs.Listing.{inputRoom}
 use Rattle.model.specs.Writing.{bytesOf, headerBytes, recordBytes, planBytes}
 use Rattle.model.specs.Conversion.{convertedVersion, writtenVersion, withVersion, converted, convertRefusal, convertVerdict, convertCall}
-use Rattle.theory.specs.Refusal.{Shaped, Valid}
+use Rattle.theory.specs.Refusal.{Valid}
 use Rattle.theory.specs.Writing.{AreBytes, BlockFits, PlanFits}
 use Rattle.theory.proofs.Plan.{field-narrow, formatOf-longest}
 use Rattle.theory.proofs.Refusal.{refuseIf-zero, check3-read, verdict-accepted, accepted-laws, accepted-mark, judge-accepted}
@@ -25,7 +25,7 @@ use Rattle.theory.proofs.WritingPlan.{reads-written, accepted-fits}
 use Rattle.theory.proofs.Conversion.{converted-length, convertVerdict-judged, convertCall-short, convertCall-refused}
 use Rattle.theorems.specs.Trials.{plan-H, plan-full}
 use Rattle.theorems.specs.Versions.{verdictWith}
-use Rattle.theorems.specs.Conversion.{Taken, Takes, Converts, Conversions, wide-H, ConversionExamples}
+use Rattle.theorems.specs.Conversion.{Taken, Converts, Conversions, wide-H, ConversionExamples}
 use Rattle.theorems.proofs.Trials.{trials}
 use Rattle.theorems.proofs.Versions.{same-answers}
 use Rattle.theorems.proofs.LongInput.{long-conversion}

@@ -7,13 +7,12 @@ use mathlib.Core.List.{List, [], _∷_, _++_, append-assoc, append-nil}
 use mathlib.Core.Logic.{_⊎_, inl, inr}
 use Prim.Native.Nat.{ℕ, zero, suc, _+_, _*_, _-_, _/_, _%_, _^_, _<_, _≤_}
 use native.Mathlib.Nat.{not-suc-le-zero, le-trans, mul-le-mul-left, mul-le-mul-right, pow-suc, mod-eq-of-lt}
-use native.Mathlib.Numerals.{add-one}
 use native.Mathlib.Decide.{decLt, ℕ-discrete}
 use native.Mathlib.Omega.{arith}
 use borrow.Author.Tests.{lt-ltb, le-ltb}
-use lib.Arith.{le-zero}
 use lib.Dec.{eqb}
-use lib.ListN.{length, length-append}
+use lib.ListN.{length, length-append, take, drop}
+use lib.Seq.{take-at}
 use Rattle.order.specs.Sum.{sum}
 use Rattle.order.proofs.Sums.{sum-suc, sum-mono, sum-const, delta-same, delta-other}
 use Rattle.order.proofs.Tables.{joined-length-le}
@@ -23,7 +22,7 @@ use Rattle.model.specs.Refusal.{maxMachines, Verdict, refused, accepted, judge}
 use Rattle.model.specs.Replication.{share, chosen}
 use Rattle.model.specs.Placement.{bit, wordOf, held, countOf, replicas, Feasible, firstPlacement, shareOf, load, maxLoad, minLoad, totalLoad, maxShare}
 use Rattle.model.specs.Steps.{run}
-use Rattle.model.specs.Calls.{refuse, reportOf}
+use Rattle.model.specs.Calls.{turnedBack, answered, Outcome, refuse, reportOf}
 use Rattle.model.specs.Listing.{digits, decimal, numberField, fields, line, planLine, holders, blockLine, endWord, lastLine, listingOf, refusedLine, printedOf, printed, listingRoom, shortRoom, roomRefusal, wrote, listingCall, printCall}
 use Rattle.theory.specs.Widths.{shareBound, loadBound}
 use Rattle.theory.specs.Refusal.{Valid}
@@ -286,6 +285,34 @@ roomRefusal-short lent l = rw (lt-ltb lent listingRoom l)
 pub roomRefusal-enough : (lent : ℕ) → listingRoom ≤ lent → roomRefusal lent ≡ 0
 unfolding roomRefusal
 roomRefusal-enough lent l = rw (le-ltb lent listingRoom l)
+
+-- ── wrote ────────────────────────────────────────────────────────────────────────────────────────
+module _ (out old text : List ℕ) where
+  -- the text begins with what was written, and the answer is its length
+  module _ (size : ℕ) (e : record { answer = answered size; items = text } ≡ wrote out old) where
+    pub wrote-size : size ≡ length out
+    unfolding wrote
+    wrote-size =
+        let same : answered size ≡ answered (length out) = ap (λ (o : Outcome ℕ). o .answer) e in
+        cc
+
+    wrote-items : text ≡ out ++ drop (length out) old
+    unfolding wrote
+    wrote-items = ap (λ (o : Outcome ℕ). o .items) e
+
+    pub wrote-within : size ≤ length text
+    wrote-within = omega (arith, wrote-size, ap length wrote-items ∙ length-append out (drop (length out) old))
+
+    pub wrote-part : take size text ≡ out
+    wrote-part = ap (take size) wrote-items ∙ take-at out (drop (length out) old) size (sym wrote-size)
+
+  -- and it is no refusal
+  pub wrote-never : (code : ℕ) → refuse code text ≡ wrote out old → ⊥
+  unfolding wrote
+  wrote-never code e =
+      let same : turnedBack code ≡ answered (length out) = ap (λ (o : Outcome ℕ). o .answer) e in
+      let z : _≡_ {A = ℕ} 0 1 = cc in
+      omega arith
 
 -- ── listingCall ──────────────────────────────────────────────────────────────────────────────────
 module _ (bytes text : List ℕ) (budget : ℕ) where

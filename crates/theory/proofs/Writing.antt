@@ -2,7 +2,7 @@
 -- Assumes nothing.
 use mathlib.Core.Path.{_≡_, refl, ap, ap₂, sym, _∙_}
 use mathlib.Core.List.{List, [], _∷_, _++_, append-assoc}
-use Prim.Native.Nat.{ℕ, zero, suc, _+_, _*_, _/_, _%_, _^_, _<_, _≤_}
+use Prim.Native.Nat.{ℕ, zero, suc, _+_, _*_, _-_, _/_, _%_, _^_, _<_, _≤_}
 use native.Mathlib.Nat.{pow-suc, mul-comm, mul-le-mul-left, mul-le-mul-right, add-zero, not-suc-le-zero}
 use native.Mathlib.Numerals.{add-one}
 use native.Mathlib.Decide.{ℕ-discrete}
@@ -88,6 +88,18 @@ unfolding bytesOf
 bytesOf-length zero n = refl
 bytesOf-length (suc width) n =
     length-append (bytesOf width (n / 256)) (n % 256 ∷ []) ∙ ap (λ (k : ℕ). k + 1) (bytesOf-length width (n / 256)) ∙ add-one width
+
+-- in no bytes, nothing is put
+pub bytesOf-none : (width n : ℕ) → width ≡ 0 → bytesOf width n ≡ []
+unfolding bytesOf
+bytesOf-none zero n e = refl
+bytesOf-none (suc width) n e = absurd (omega arith)
+
+-- the last byte after those of n / 256
+pub bytesOf-more : (width n : ℕ) → (width ≡ 0 → ⊥) → bytesOf width n ≡ bytesOf (width - 1) (n / 256) ++ (n % 256) ∷ []
+unfolding bytesOf
+bytesOf-more zero n some = absurd (some refl)
+bytesOf-more (suc width) n some = let e : suc width - 1 ≡ width = omega arith in rw e
 
 -- where a number's bytes stand, that number is read
 pub bytesOf-read : (bytes : List ℕ) (at width n : ℕ) → n < 256 ^ width → Stands bytes at (bytesOf width n) → field bytes at width ≡ n

@@ -8,7 +8,7 @@ use native.Mathlib.Omega.{arith}
 use Rattle.model.specs.Writing.{bytesOf}
 use Rattle.text.specs.Pasted.{Room}
 use Rattle.text.proofs.Laws.{put-none, room-first, room-next, put-then}
-use Rattle.conversion.proofs.Laws.{bytesOf-none, bytesOf-more}
+use Rattle.theory.proofs.Writing.{bytesOf-none, bytesOf-more}
 use borrow.Fn.Kinds.{In}
 use borrow.Fn.PlainCycle.{Measures, is, falls, and}
 use Rattle.conversion.proofs.put_number.Reads as put-number

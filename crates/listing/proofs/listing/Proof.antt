@@ -39,7 +39,7 @@ same-length : tie.Need-same-length
 same-length c = search needs
 
 returns-3 : tie.Need-returns-3
-unfolding verdictOf
+unfolding verdictOf listingOutcome
 returns-3 c =
     let listed = c .before .before in
     let read = listed .before .before .before .before .before in

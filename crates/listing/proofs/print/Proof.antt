@@ -51,7 +51,7 @@ same-length : tie.Need-same-length
 same-length c = search needs
 
 returns-2 : tie.Need-returns-2
-unfolding refusedLine verdictOf readingCode
+unfolding refusedLine verdictOf readingCode listingOutcome
 returns-2 c =
     let put = c .before .before in
     let code = put .before .before .before .before in
@@ -74,7 +74,7 @@ same-length-2 : tie.Need-same-length-2
 same-length-2 c = search needs
 
 returns-3 : tie.Need-returns-3
-unfolding verdictOf
+unfolding verdictOf listingOutcome
 returns-3 c =
     let listed = c .before .before in
     let read = listed .before .before .before .before .before in

@@ -4,8 +4,8 @@ use borrow.Author.Needs.{needs}
 use mathlib.Core.Path.{ap, sym, _∙_}
 use native.Mathlib.Omega.{arith}
 use lib.Seq.{length-take-le}
-use Rattle.place.specs.Output.{outputIn}
-use Rattle.place.proofs.Laws.{source-short}
+use Rattle.input.specs.Input.{onInput}
+use Rattle.input.proofs.Laws.{source-short}
 use Rattle.place.proofs.output.Statement.{statement}
 use Rattle.place.proofs.output.Tie as tie
 
@@ -41,16 +41,16 @@ list-requires-2 : tie.Need-list-requires-2
 list-requires-2 c κs = search needs
 
 returns : tie.Need-returns
-unfolding outputIn
-returns c = sym (ap (outputIn _) (c .before .enum-told .given .1))
+unfolding onInput
+returns c = sym (ap (onInput _ _ _) (c .before .enum-told .given .1))
 
 returns-2 : tie.Need-returns-2
-unfolding outputIn
-returns-2 c = c .list .ensures ∙ sym (ap (outputIn _) (c .before .before .before .input .given .1))
+unfolding onInput
+returns-2 c = c .list .ensures ∙ sym (ap (onInput _ _ _) (c .before .before .before .input .given .1))
 
 returns-3 : tie.Need-returns-3
-unfolding outputIn
-returns-3 c = c .list2 .ensures ∙ sym (ap (outputIn _) (c .before .before .enum-told2 .given .1))
+unfolding onInput
+returns-3 c = c .list2 .ensures ∙ sym (ap (onInput _ _ _) (c .before .before .enum-told2 .given .1))
 
 pub output-spec : {M : Type 1} → statement M
 output-spec =

@@ -1,9 +1,9 @@
--- `place::judge` meets its contract: a full buffer first, then the next read's answer.
+-- `input::judge` meets its contract: a full buffer first, then the next read's answer.
 -- Assumes nothing.
 use mathlib.Core.Path.{sym}
-use Rattle.place.proofs.Laws.{inputOf-full, inputOf-ended, inputOf-failed}
-use Rattle.place.proofs.judge.Statement.{statement}
-use Rattle.place.proofs.judge.Tie as tie
+use Rattle.input.proofs.Laws.{inputOf-full, inputOf-ended, inputOf-failed}
+use Rattle.input.proofs.judge.Statement.{statement}
+use Rattle.input.proofs.judge.Tie as tie
 
 returns : tie.Need-returns
 returns c = sym (inputOf-full _ _ _ (c .if1 .taken))

@@ -1,4 +1,4 @@
--- `place::fill` meets its contract: the buffer keeps its bytes' number, and the reads' answers are judged.
+-- `input::fill` meets its contract: the buffer keeps its bytes' number, and the reads' answers are judged.
 -- Assumes nothing.
 use borrow.Author.Needs.{needs}
 use mathlib.Core.Path.{subst, sym}
@@ -8,8 +8,8 @@ use mir.Facts.{toZ-ofZ}
 use Rattle.libc.specs.Io.{Moved}
 use Rattle.model.specs.Plan.{formatOf}
 use Rattle.model.specs.Listing.{inputRoom}
-use Rattle.place.proofs.fill.Statement.{statement}
-use Rattle.place.proofs.fill.Tie as tie
+use Rattle.input.proofs.fill.Statement.{statement}
+use Rattle.input.proofs.fill.Tie as tie
 
 slice-aggregate-read-full : tie.Need-slice-aggregate-read-full
 slice-aggregate-read-full c = search needs
