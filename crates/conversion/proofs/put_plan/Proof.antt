@@ -3,11 +3,13 @@
 use borrow.Author.Needs.{needs}
 use mathlib.Core.List.{_++_}
 use denote.Ref.{now}
+use Rattle.model.specs.Conversion.{writtenVersion}
 use Rattle.text.specs.Pasted.{Room}
 use Rattle.text.proofs.Laws.{room-first, room-next, put-then}
 use Rattle.header.specs.Format.{asFormat}
 use Rattle.plan.specs.Reading.{planOf}
-use Rattle.conversion.specs.Pieces.{newHeader, newRecords}
+use Rattle.encoding.specs.Pieces.{headerWith}
+use Rattle.conversion.specs.Pieces.{newRecords}
 use Rattle.conversion.proofs.Laws.{converted-parts}
 use Rattle.conversion.proofs.put_plan.Statement.{statement}
 use Rattle.conversion.proofs.put_plan.Tie as tie
@@ -15,7 +17,7 @@ use Rattle.conversion.proofs.put_plan.Tie as tie
 -- room for the header and the records
 parts-room : (start : tie.Start)
     → let a = start .args in
-    Room 0 (newHeader (a .h) ++ newRecords (asFormat (a .new)) (planOf (now (a .bytes)) (a .h))) (now (a .buffer))
+    Room 0 (headerWith writtenVersion (a .h) ++ newRecords (asFormat (a .new)) (planOf (now (a .bytes)) (a .h))) (now (a .buffer))
 parts-room start = rw (start .pre .format-is, ← (converted-parts (now (start .args .bytes)) (start .args .h))) (start .pre .room)
 
 put-header-requires : tie.Need-put-header-requires

@@ -1,4 +1,4 @@
--- `conversion::put_numbers` meets its contract. The loop's invariant: the numbers passed stand in the buffer.
+-- `encoding::put_numbers` meets its contract. The loop's invariant: the numbers passed stand in the buffer.
 -- Assumes nothing.
 use mathlib.Core.Path.{_≡_, refl, _∙_}
 use Prim.Native.Nat.{_-_, _≤_}
@@ -9,9 +9,9 @@ use Rattle.order.specs.Table.{joined}
 use Rattle.order.proofs.Tables.{joined-zero}
 use Rattle.text.specs.Pasted.{Put}
 use Rattle.text.proofs.Laws.{put-none, joined-room, joined-put}
-use Rattle.conversion.specs.Pieces.{numberAt, numbersBytes}
-use Rattle.conversion.proofs.put_numbers.Statement.{statement}
-use Rattle.conversion.proofs.put_numbers.Tie as tie
+use Rattle.encoding.specs.Pieces.{numberAt, numbersBytes}
+use Rattle.encoding.proofs.put_numbers.Statement.{statement}
+use Rattle.encoding.proofs.put_numbers.Tie as tie
 
 abbrev Inv-loop : tie.InvT-loop
 Inv-loop buffer₀ at widths numbers next₀ i₀ buffer next i =

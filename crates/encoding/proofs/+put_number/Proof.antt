@@ -11,12 +11,12 @@ use Rattle.text.proofs.Laws.{put-none, room-first, room-next, put-then}
 use Rattle.theory.proofs.Writing.{bytesOf-none, bytesOf-more}
 use borrow.Fn.Kinds.{In}
 use borrow.Fn.PlainCycle.{Measures, is, falls, and}
-use Rattle.conversion.proofs.put_number.Reads as put-number
-use Rattle.conversion.proofs.put_number.Kinds as put-number-kinds
-use Rattle.conversion.proofs.+put_number.Lts-put_number as put-number-lts
+use Rattle.encoding.proofs.put_number.Reads as put-number
+use Rattle.encoding.proofs.put_number.Kinds as put-number-kinds
+use Rattle.encoding.proofs.+put_number.Lts-put_number as put-number-lts
 use Rattle.text.proofs.put_byte.Reads as put-byte-reads
-use Rattle.conversion.proofs.+put_number.{statement}
-use Rattle.conversion.proofs.+put_number.Tie.{close}
+use Rattle.encoding.proofs.+put_number.{statement}
+use Rattle.encoding.proofs.+put_number.Tie.{close}
 
 abbrev μ-put-number : Measures 1 put-number-kinds.ps ℕ
 μ-put-number κs a = a .1 .1 .0

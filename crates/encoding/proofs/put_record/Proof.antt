@@ -1,4 +1,4 @@
--- `conversion::put_record` meets its contract: the numbers in their widths are the block's record.
+-- `encoding::put_record` meets its contract: the numbers in their widths are the block's record.
 -- Assumes nothing.
 use mathlib.Core.Path.{_≡_, refl}
 use mathlib.Core.List.{[], _∷_}
@@ -8,10 +8,10 @@ use borrow.Author.Needs.{needs}
 use Rattle.model.specs.Writing.{recordBytes}
 use Rattle.model.specs.Plan.{blockIn}
 use Rattle.header.specs.Format.{asFormat}
-use Rattle.conversion.specs.Pieces.{numbersBytes}
-use Rattle.conversion.proofs.Laws.{room-same, put-same, recordBytes-numbers}
-use Rattle.conversion.proofs.put_record.Statement.{statement}
-use Rattle.conversion.proofs.put_record.Tie as tie
+use Rattle.encoding.specs.Pieces.{numbersBytes}
+use Rattle.encoding.proofs.Laws.{room-same, put-same, recordBytes-numbers}
+use Rattle.encoding.proofs.put_record.Statement.{statement}
+use Rattle.encoding.proofs.put_record.Tie as tie
 
 popularity-requires : tie.Need-popularity-requires
 popularity-requires c κs = search needs
