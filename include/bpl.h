@@ -12,12 +12,13 @@
  *
  *    1  the plan is shorter than 15 bytes           10  the sum of least copies is above the budget
  *    2  its mark differs from 42 50 4C              11  the sum of least copies is above M * C
- *    3  its version is neither 1 nor 2              12  fewer than B counts or words are lent
+ *    3  its version is none of 1, 2 and 3; for      12  fewer than B counts or words are lent, or for
+ *       bpl_convert it is neither 1 nor 2               bpl_convert fewer than 15 + 7 * B bytes
  *    4  R or S is 0, or M is above 64               13  a bit at or above M is set
  *    5  C is 0 or above 1,024                       14  a block's copies are not its chosen count
  *    6  B is above 1,024                            15  a block lies in fewer racks than its spread
- *    7  its length is not 15 + 5 * B in version 1   16  a machine holds more than C copies
- *       or 15 + 6 * B in version 2                  17  a pair byte is neither 0 nor 1, or the last block has
+ *    7  its length is not that of its version:      16  a machine holds more than C copies
+ *       15 + 5 * B, 15 + 6 * B or 15 + 7 * B        17  a pair byte is neither 0 nor 1, or the last block has
  *    8  least copies 0 or above min(8, M), of a         1, or two successive blocks have, or a pair differs
  *       paired block above min(8, M / 2)                in popularity, least copies or spread
  *    9  a spread is 0, above the least copies, or   18  a machine holds both blocks of a pair
@@ -29,7 +30,8 @@
  *   16 and 18 are made on a placement handed in (bpl_check, bpl_report, bpl_step, bpl_run, the calls of bpl_play), each
  *   over all blocks or machines before the next. 19 is made by bpl_read and bpl_popularity, after 1 to 11 and 17, and
  *   then 20 and 21 by bpl_read.
- *   In version 2 a record has a sixth byte: 1 pairs the block with the next one, and no machine holds copies of both.
+ *   A record has the popularity in 3 bytes, in version 3 in 4, then the least copies and the spread in one each and, in
+ *   versions 2 and 3, a pair byte: 1 pairs the block with the next one, and no machine holds copies of both.
  *   M / 2 is rounded down. Both of a pair are paired for 8, and so is every block behind a byte of 1.
  *
  * Buffers
@@ -46,6 +48,7 @@
  *   - `list` takes the reads that count, and `count` says how many: the entries are the first `count` records. Start
  *     with a count of 0, and hand in the list and the count that the last accepted read left. Records past the usable
  *     length, the smaller of list_len and BPL_MAX_ENTRIES, are never read or written; a count above it is taken as it.
+ *   - `buffer` takes the bytes of a plan file. Its bytes past the plan that is written stay.
  *   - `out` takes numbers. Its items past those named are never written.
  *
  * The functions keep no state and use no memory but the lent buffers and the stack (120 KiB were enough where it was
@@ -62,9 +65,9 @@
 extern "C" {
 #endif
 
-/* The largest plan of any version: 1,024 blocks in version 2. */
+/* The largest plan of any version: 1,024 blocks in version 3. */
 #define BPL_MAX_BLOCKS 1024
-#define BPL_MAX_PLAN_BYTES (15 + 6 * BPL_MAX_BLOCKS)
+#define BPL_MAX_PLAN_BYTES (15 + 7 * BPL_MAX_BLOCKS)
 
 /* The records of a list that are used at most, and the milliseconds that a read counts: two hours. */
 #define BPL_MAX_ENTRIES 4096
@@ -78,6 +81,7 @@ extern "C" {
 #define BPL_PLAY_NUMBERS 7
 #define BPL_READ_NUMBERS 1
 #define BPL_POPULARITY_NUMBERS 1
+#define BPL_CONVERT_NUMBERS 1
 
 /* Bytes of text that bpl_listing has to be lent: every listing fits. */
 #define BPL_LISTING_ROOM 65536
@@ -215,6 +219,15 @@ uint32_t bpl_read(const uint8_t *plan, size_t plan_len, uint32_t block, uint32_t
  */
 uint32_t bpl_popularity(const uint8_t *plan, size_t plan_len, uint32_t block,
                         const struct bpl_entry *list, size_t list_len, uint64_t count, uint64_t *out, size_t out_len);
+
+/*
+ * Converts a plan of version 1 or 2 to version 3: refusals 1 to 12 and 17, 3 also for version 3, and 255 where out_len
+ * is below 1. 12, after all other checks, where buffer_len is below 15 + 7 * B: BPL_MAX_PLAN_BYTES are always enough.
+ * Writes the plan in version 3 to the start of `buffer` and its length, 15 + 7 * B, to out[0]; the bytes behind it
+ * stay. It has the same fields, with pair bytes of 0 for version 1, and so the same counts, placements and listing.
+ */
+uint32_t bpl_convert(const uint8_t *plan, size_t plan_len, uint8_t *buffer, size_t buffer_len,
+                     uint64_t *out, size_t out_len);
 
 #ifdef __cplusplus
 }

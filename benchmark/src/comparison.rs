@@ -3,7 +3,7 @@
 use crate::optimised::State;
 use crate::plans::{Pairs, Size, LARGEST};
 use crate::reads::{full_list, tick_that_drops, Call};
-use crate::sides::{compared, first_words, run_timed, step_timed, Side, LIBRARY};
+use crate::sides::{compared, first_words, run_timed, step_timed, Answer, Side, LIBRARY};
 use crate::table::Table;
 use crate::timing::{ratio, shown, timed};
 use placement_reference::gen::Draft;
@@ -229,15 +229,19 @@ pub fn reads() {
 /// The plans of one kind whose counts are chosen one after the other.
 const PLANS: u64 = 32;
 
-/// The chosen counts of several plans: seconds for one of them, and the counts.
-fn several_timed(side: &Side, plans: &[Vec<u8>], blocks: usize) -> (f64, Vec<Vec<u8>>) {
-    let mut counts = vec![vec![0; blocks]; plans.len()];
+/// A call on several plans, each with a buffer of so many bytes: seconds for one of them, and the buffers.
+fn several_timed<T>(
+    plans: &[Vec<u8>],
+    room: usize,
+    call: impl Fn(&[u8], &mut [u8]) -> Answer<T>,
+) -> (f64, Vec<Vec<u8>>) {
+    let mut buffers = vec![vec![0; room]; plans.len()];
     let (seconds, ()) = timed(|| {
-        for (bytes, counts) in plans.iter().zip(&mut counts) {
-            (side.counts)(bytes, counts).expect("an accepted plan");
+        for (bytes, buffer) in plans.iter().zip(&mut buffers) {
+            call(bytes, buffer).expect("an accepted plan");
         }
     });
-    (seconds / plans.len() as f64, counts)
+    (seconds / plans.len() as f64, buffers)
 }
 
 /// The chosen counts over several plans of a kind: on how many passes a single plan takes, chance has a say.
@@ -250,11 +254,58 @@ pub fn counts() {
         for (name, bound) in [("24 bits", 1 << 24), ("0 to 255", 256), ("0 to 9", 10)] {
             let plans = size.several(PLANS, bound);
             let (times, _) = compared("counts", |side| {
-                several_timed(side, &plans, usize::from(blocks))
+                several_timed(&plans, usize::from(blocks), side.counts)
             });
             row(&mut table, &[blocks.to_string(), name.to_string()], times);
         }
     }
+    table.print();
+}
+
+/// The bytes of a converted plan of the largest size.
+const CONVERTED: usize = 15 + 7 * LARGEST.blocks as usize;
+
+/// The calls of one version: judging a plan, choosing the counts and, where there is one, the conversion.
+fn version_rows(table: &mut Table, size: Size, popularities: &str, bound: u64) {
+    let plans = size.several(PLANS, bound);
+    let mut add = |call: &str, times: [f64; 3]| {
+        let version = size.version().to_string();
+        let own = [call, &version, popularities].map(str::to_string);
+        row(table, &own, times);
+    };
+    let plan = compared("plan", |side| {
+        several_timed(&plans, 0, |bytes, _| (side.plan)(bytes))
+    });
+    add("plan", plan.0);
+    let blocks = usize::from(size.blocks);
+    let counts = compared("counts", |side| several_timed(&plans, blocks, side.counts));
+    add("counts", counts.0);
+    if !size.wide {
+        let convert = compared("convert", |side| {
+            several_timed(&plans, CONVERTED, side.convert)
+        });
+        add("convert", convert.0);
+    }
+}
+
+/// The same plans in versions 2 and 3, and what the wider popularity costs; conversions.
+pub fn versions() {
+    println!("## Versions\n");
+    println!("64 machines, 1,024 blocks. {PLANS} plans of a kind, one after the other: the mean time for one plan. In versions 2 and 3 half");
+    println!("of the blocks are in pairs, and with 24 bits they are the same plans. A conversion writes version 3.\n");
+    let narrow = Size {
+        pairs: Pairs::Half,
+        ..LARGEST
+    };
+    let wide = Size {
+        wide: true,
+        ..narrow
+    };
+    let mut table = table(&["call", "version", "popularities"]);
+    version_rows(&mut table, LARGEST, "24 bits", 1 << 24);
+    version_rows(&mut table, narrow, "24 bits", 1 << 24);
+    version_rows(&mut table, wide, "24 bits", 1 << 24);
+    version_rows(&mut table, wide, "32 bits", 1 << 32);
     table.print();
 }
 
@@ -299,6 +350,18 @@ fn small_calls(table: &mut Table, name: &str, draft: &Draft) {
         "listing",
         compared(name, |side| timed(|| (side.listing)(&bytes, 100_000))).0,
     );
+    add(
+        "convert",
+        compared(name, |side| convert_timed(side, &bytes)).0,
+    );
+}
+
+/// A conversion: seconds, and the plan written.
+fn convert_timed(side: &Side, bytes: &[u8]) -> (f64, Vec<u8>) {
+    let mut buffer = vec![0; CONVERTED];
+    let (seconds, length) = timed(|| (side.convert)(bytes, &mut buffer));
+    buffer.truncate(length.expect("an accepted plan"));
+    (seconds, buffer)
 }
 
 /// The chosen counts: seconds, and the counts.

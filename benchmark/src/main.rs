@@ -54,6 +54,7 @@ fn all(mode: &Mode) {
     comparison::pairs(mode.steps.min(3000));
     comparison::reads();
     comparison::counts();
+    comparison::versions();
     growth::growth();
     comparison::smallest();
     memory::memory(mode.program);

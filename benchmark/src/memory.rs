@@ -123,6 +123,7 @@ fn on_small_stack() {
         };
         (side.read)(&read);
         (side.popularity)(&read);
+        (side.convert)(&bytes, &mut [0; 7183]).expect("an accepted plan");
         (side.listing)(&bytes, STEPS)
     };
     let thread = std::thread::Builder::new().stack_size(STACK);

@@ -2,13 +2,13 @@
 //!
 //! Loads and lists of blocks per machine are carried from step to step, pairs of machines with Lm <= Ln are passed
 //! over, and the racks of a block are counted only where it changes racks and its spread is above one. The other block of
-//! a pair is looked up in a table. Reads are entered in place. Reading a plan, counts, the first placement and
-//! popularities are the reference's, which are quick already.
+//! a pair is looked up in a table. Reads are entered in place, and a converted plan's records are copied. Reading a plan,
+//! counts, the first placement and popularities are the reference's, which are quick already.
 
 use placement_reference::calls::Report;
 use placement_reference::counts::{chosen, share};
 use placement_reference::placement::{copies_of, first, holds};
-use placement_reference::plan::{read, Plan, Refusal};
+use placement_reference::plan::{read, read_of, Plan, Refusal};
 use placement_reference::reads::{Entry, HALF_TURN, MOST_ENTRIES, WINDOW};
 use placement_reference::steps::{End, Kind, Step, KINDS};
 use std::fmt::Write;
@@ -330,6 +330,24 @@ pub fn enter_read(
     list[kept] = Entry { block, tick };
     list[kept + 1..usable].fill(Entry::default());
     Ok(kept as u64 + 1)
+}
+
+/// Writes a plan of version 1 or 2 as version 3, record by record: a byte of 0, the record, and in version 1 a pair byte
+/// of 0. Answers its length.
+pub fn enter_convert(bytes: &[u8], buffer: &mut [u8]) -> Result<usize, Refusal> {
+    let length = 15 + 7 * read_of(bytes, &[1, 2])?.blocks.len();
+    if buffer.len() < length {
+        return Err(12);
+    }
+    buffer[..15].copy_from_slice(&bytes[..15]);
+    buffer[4] = 3;
+    let old = bytes[15..].chunks_exact(4 + usize::from(bytes[4]));
+    let new = buffer[15..length].chunks_exact_mut(7);
+    for (new, old) in new.zip(old) {
+        let pair = old.get(5).copied().unwrap_or(0);
+        new.copy_from_slice(&[0, old[0], old[1], old[2], old[3], old[4], pair]);
+    }
+    Ok(length)
 }
 
 /// The line of one block: number, count, share, machines rising.

@@ -12,6 +12,8 @@ pub struct Size {
     pub mixed: bool,
     /// Which blocks are paired.
     pub pairs: Pairs,
+    /// The plan is in version 3.
+    pub wide: bool,
 }
 
 /// The pairs of a plan. The last two are the same plan in version 2, of which the first half of the blocks are alike by
@@ -33,6 +35,7 @@ pub const LARGEST: Size = Size {
     blocks: 1024,
     mixed: false,
     pairs: Pairs::Version1,
+    wide: false,
 };
 
 impl Size {
@@ -46,6 +49,15 @@ impl Size {
             "mixed"
         } else {
             "one"
+        }
+    }
+
+    /// The version of its plans.
+    pub fn version(&self) -> u16 {
+        match (self.wide, self.pairs) {
+            (true, _) => 3,
+            (_, Pairs::Version1) => 1,
+            _ => 2,
         }
     }
 
@@ -81,22 +93,27 @@ impl Size {
 
     /// A plan with a budget of 4,000 copies for 1,024 blocks, and machines that can hold 5,120; in proportion for
     /// fewer blocks.
-    fn plan(&self, seed: u64, popularity: impl Fn(&mut Rng) -> u32) -> Vec<u8> {
+    fn draft(&self, seed: u64, popularity: impl Fn(&mut Rng) -> u32) -> Draft {
         let mut rng = Rng::new(seed);
         let blocks = u32::from(self.blocks);
         let records = (0..blocks).map(|_| {
             let popularity = popularity(&mut rng);
             self.record(&mut rng, popularity)
         });
-        let draft = Draft {
+        Draft {
             version: 1,
             racks: self.racks,
             per_rack: self.per_rack,
             capacity: (5 * blocks).div_ceil(self.machines() as u32) as u16,
             records: records.collect(),
             budget: blocks * 4000 / 1024,
-        };
-        let draft = self.paired(draft);
+        }
+    }
+
+    /// Such a plan with the pairs of this size, in its version.
+    fn plan(&self, seed: u64, popularity: impl Fn(&mut Rng) -> u32) -> Vec<u8> {
+        let mut draft = self.paired(self.draft(seed, popularity));
+        draft.version = self.version();
         assert!(draft.plan().is_some(), "a plan that is timed is accepted");
         draft.bytes()
     }
@@ -111,7 +128,7 @@ impl Size {
         self.plan(SEED, |rng| rng.below(10) as u32)
     }
 
-    /// Several plans with popularities below a bound.
+    /// Several plans with popularities below a bound; above 24 bits for version 3 alone.
     pub fn several(&self, number: u64, bound: u64) -> Vec<Vec<u8>> {
         (1..=number)
             .map(|seed| self.plan(seed, |rng| rng.below(bound) as u32))

@@ -4,13 +4,14 @@ use crate::optimised;
 use crate::reads::{popularity_timed, read_timed, Call};
 use crate::timing::timed;
 use placement_reference::calls::{self, Report};
+use placement_reference::convert::enter_convert;
 use placement_reference::listing;
 use placement_reference::plan::Refusal;
 use placement_reference::reads::{enter_popularity, enter_read, Entry};
 use placement_reference::steps::{End, Kind, Step};
 
 /// What a call answers.
-type Answer<T> = Result<T, Refusal>;
+pub type Answer<T> = Result<T, Refusal>;
 
 /// How a run ended, and the steps taken.
 type Ended = (End, u32);
@@ -29,6 +30,7 @@ pub struct Side {
     pub step: fn(&[u8], &mut [u64]) -> Answer<Option<Step>>,
     pub run: fn(&[u8], &mut [u64], u32) -> Answer<Ended>,
     pub listing: fn(&[u8], u32) -> String,
+    pub convert: fn(&[u8], &mut [u8]) -> Answer<usize>,
     pub read: fn(&Call) -> ReadTimed,
     pub popularity: fn(&Call) -> (f64, u64),
 }
@@ -44,6 +46,7 @@ pub const REFERENCE: Side = Side {
     step: calls::enter_step,
     run: calls::enter_run,
     listing: listing::text,
+    convert: enter_convert,
     read: |call| read_timed(call, Entry::clone, Entry::clone, enter_read),
     popularity: |call| popularity_timed(call, Entry::clone, enter_popularity),
 };
@@ -56,6 +59,7 @@ pub const OPTIMISED: Side = Side {
     step: optimised::enter_step,
     run: optimised::enter_run,
     listing: optimised::listing,
+    convert: optimised::enter_convert,
     read: |call| read_timed(call, Entry::clone, Entry::clone, optimised::enter_read),
     ..REFERENCE
 };
@@ -83,6 +87,7 @@ pub const LIBRARY: Side = Side {
         Ok(text) => text,
         Err(refusal) => format!("refused {}\n", refusal.number()),
     },
+    convert: |bytes, lent| bpl::convert(bytes, lent).map_err(bpl::Refusal::number),
     read: |call| {
         read_timed(
             call,

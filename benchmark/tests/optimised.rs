@@ -1,9 +1,11 @@
-//! The optimised version against the reference on random plans: step by step, whole runs, checks, listings and reads.
+//! The optimised version against the reference on random plans: step by step, whole runs, checks, listings, reads and
+//! conversions.
 
 use placement_benchmark::optimised::{
-    check, enter_read, enter_report, enter_run, enter_step, listing, State,
+    check, enter_convert, enter_read, enter_report, enter_run, enter_step, listing, State,
 };
 use placement_reference::calls;
+use placement_reference::convert;
 use placement_reference::damage::{any_row, broken, flawed, mispaired, MISPAIRINGS};
 use placement_reference::gen::*;
 use placement_reference::histories::{history, manner, Caller, Event};
@@ -36,17 +38,17 @@ fn same_run(bytes: &[u8], words: &[u64], budget: u32) {
     assert_eq!(ours, theirs);
 }
 
-/// A size in both versions.
-fn both_versions(size: Size) -> [Size; 2] {
-    [size, size.paired()]
+/// A size in all versions.
+fn all_versions(size: Size) -> [Size; 3] {
+    [1, 2, 3].map(|version| Size { version, ..size })
 }
 
 #[test]
 fn steps_of_random_plans() {
     let mut rng = Rng::new(1);
     let mut taken = 0;
-    for size in [TINY, SMALL, MEDIUM].into_iter().flat_map(both_versions) {
-        for _ in 0..150 {
+    for size in [TINY, SMALL, MEDIUM].into_iter().flat_map(all_versions) {
+        for _ in 0..100 {
             let plan = draft(&mut rng, size).plan().expect("accepted");
             taken += same_steps(&plan, &first(&plan), 60);
             let words = leaning(&mut rng, &plan);
@@ -72,8 +74,8 @@ fn steps_that_a_pair_forbids() {
 #[test]
 fn steps_with_full_machines() {
     let mut rng = Rng::new(2);
-    for size in both_versions(SMALL) {
-        for _ in 0..150 {
+    for size in all_versions(SMALL) {
+        for _ in 0..100 {
             let plan = filled(&mut rng, size).plan().expect("accepted");
             let words = leaning(&mut rng, &plan);
             same_steps(&plan, &words, 60);
@@ -88,7 +90,8 @@ fn steps_of_the_largest_plans() {
         (8, 8, LARGE),
         (1, 64, LARGE),
         (64, 1, LARGE),
-        (8, 8, LARGE.paired()),
+        (8, 8, all_versions(LARGE)[1]),
+        (8, 8, all_versions(LARGE)[2]),
     ] {
         let plan = sized(&mut rng, size, racks, per_rack, 1024)
             .plan()
@@ -111,9 +114,9 @@ fn whole_runs() {
         },
     ]
     .into_iter()
-    .flat_map(both_versions)
+    .flat_map(all_versions)
     {
-        for _ in 0..100 {
+        for _ in 0..70 {
             let draft = draft(&mut rng, size);
             let plan = draft.plan().expect("accepted");
             let words = leaning(&mut rng, &plan);
@@ -140,7 +143,7 @@ fn rest_is_answered_at_rest() {
 fn checks_and_single_steps() {
     let mut rng = Rng::new(5);
     for k in 0..1200 {
-        let size = both_versions(SMALL)[k / 600];
+        let size = all_versions(SMALL)[k / 400];
         let draft = draft(&mut rng, size);
         let plan = draft.plan().expect("accepted");
         let rows = [0, 1, 2, 3, 4].map(|r| k >> r & 1 == 1);
@@ -170,8 +173,8 @@ fn listings() {
     for draft in [h(), y(), z(), k(), empty(), one_machine()] {
         assert_eq!(listing(&draft.bytes(), 100), text(&draft.bytes(), 100));
     }
-    for k in 0..400 {
-        let size = both_versions(SMALL)[k / 200];
+    for k in 0..450 {
+        let size = all_versions(SMALL)[k / 150];
         let bytes = draft(&mut rng, size).bytes();
         let row = any_row(&mut rng, size.version);
         let damaged = flawed(&mut rng, bytes.clone(), row);
@@ -180,8 +183,35 @@ fn listings() {
         }
     }
     for how in MISPAIRINGS {
-        if let Some(draft) = mispaired(&mut rng, SMALL.paired(), how) {
-            assert_eq!(listing(&draft.bytes(), 20), "refused 17\n");
+        for size in &all_versions(SMALL)[1..] {
+            if let Some(draft) = mispaired(&mut rng, *size, how) {
+                assert_eq!(listing(&draft.bytes(), 20), "refused 17\n");
+            }
+        }
+    }
+}
+
+/// Both make the same of a conversion into a buffer of so many bytes.
+fn same_conversion(bytes: &[u8], lent: usize) {
+    let (mut ours, mut theirs) = (vec![0xEE; lent], vec![0xEE; lent]);
+    let answer = enter_convert(bytes, &mut ours);
+    assert_eq!(answer, convert::enter_convert(bytes, &mut theirs));
+    assert_eq!(ours, theirs);
+}
+
+#[test]
+fn conversions() {
+    let mut rng = Rng::new(7);
+    for k in 0..1500 {
+        let size = all_versions(SMALL)[k / 500];
+        let draft = draft(&mut rng, size);
+        let need = 15 + 7 * draft.records.len();
+        let row = any_row(&mut rng, size.version);
+        let damaged = flawed(&mut rng, draft.bytes(), row);
+        for bytes in [draft.bytes(), damaged] {
+            for lent in [0, need - 1, need, need + 3] {
+                same_conversion(&bytes, lent);
+            }
         }
     }
 }

@@ -19,7 +19,7 @@ impl Refusal {
         match self.0 {
             1 => "the plan is shorter than 15 bytes",
             2 => "the plan's mark differs",
-            3 => "the plan's version is neither 1 nor 2",
+            3 => "the plan's version is none of 1, 2 and 3, or is 3 already where it is converted",
             4 => "racks or machines per rack 0, or more than 64 machines",
             5 => "the capacity is 0 or above 1,024",
             6 => "more than 1,024 blocks",
@@ -30,7 +30,7 @@ impl Refusal {
             9 => "a spread of 0, above the least copies, or above the racks",
             10 => "the sum of least copies is above the budget",
             11 => "the sum of least copies is above what the machines hold",
-            12 => "fewer items are lent than the plan has blocks",
+            12 => "a lent buffer is too short for the plan's blocks",
             13 => "a bit at or above the number of machines is set",
             14 => "a block's copies are not its chosen count",
             15 => "a block lies in fewer racks than its spread",

@@ -1,6 +1,6 @@
 //! Block placement for a recording store: safe functions over the proved archive `libcapi.a`.
 //!
-//! A plan is the bytes of a plan file, of version 1 or 2. A placement is one word per block; bit m of a word is set
+//! A plan is the bytes of a plan file, of version 1, 2 or 3. A placement is one word per block; bit m of a word is set
 //! where machine m holds a copy. Words past the plan's first B are never read or written. Reads of blocks are counted
 //! in a lent list of entries, for the next plan file. A refused call writes nothing, and answers the number of the
 //! check that refused it.
@@ -23,6 +23,14 @@
 //! assert_eq!(words, [1, 2, 1]);
 //! assert_eq!(bpl::run(&plan, &mut words, 100)?, bpl::RunEnd::Rest(0));
 //! assert_eq!(bpl::check(&plan, &[1, 1, 2]).unwrap_err().number(), 18);
+//!
+//! // Version 3 has four bytes for the popularity, so that it may be above 16,777,215.
+//! let mut wide = [0; 15 + 7 * 3];
+//! let length = bpl::convert(&plan, &mut wide)?;
+//! assert_eq!(wide[15..22], [0, 0, 0, 4, 1, 1, 1]);
+//! assert_eq!(bpl::listing(&wide[..length], 100)?, bpl::listing(&plan, 100)?);
+//! wide[29] = 1;
+//! assert_eq!(bpl::report(&wide, &words)?.max_share, 840 * (9 + (1 << 24)));
 //! # Ok::<(), bpl::Refusal>(())
 //! ```
 #![deny(unsafe_op_in_unsafe_fn)]
@@ -135,6 +143,27 @@ pub fn listing(plan: &[u8], budget: u32) -> Result<String, Refusal> {
     })?;
     text.truncate(out[0] as usize);
     Ok(String::from_utf8(text).expect("a listing is ASCII"))
+}
+
+/// Writes a plan of version 1 or 2 as version 3 to the start of `buffer`, and answers its length, 15 + 7 × B: refusals 1
+/// to 12, 3 also for version 3, and 17. The bytes behind it stay.
+///
+/// The plan written has the same fields, with pair bytes of 0 for version 1, and so the same counts, placements and
+/// listing.
+pub fn convert(plan: &[u8], buffer: &mut [u8]) -> Result<usize, Refusal> {
+    let mut out = [0; raw::CONVERT_NUMBERS];
+    // SAFETY: as in `counts`, for `buffer`; `out` is a local of its own with the length that is passed.
+    settled(unsafe {
+        raw::bpl_convert(
+            plan.as_ptr(),
+            plan.len(),
+            buffer.as_mut_ptr(),
+            buffer.len(),
+            out.as_mut_ptr(),
+            out.len(),
+        )
+    })?;
+    Ok(out[0] as usize)
 }
 
 /// Plays a script: checks, steps and runs, one after the other over the same words, each with the plan's bytes or the

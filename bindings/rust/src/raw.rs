@@ -7,7 +7,8 @@
 
 use crate::reads::Entry;
 
-/// Words of `out` that a report, a step, a run, a listing, a play, a read and a popularity write, and have to be lent.
+/// Words of `out` that a report, a step, a run, a listing, a play, a read, a popularity and a conversion write, and have
+/// to be lent.
 pub const REPORT_NUMBERS: usize = 4;
 pub const STEP_NUMBERS: usize = 6;
 pub const RUN_NUMBERS: usize = 2;
@@ -15,6 +16,7 @@ pub const LISTING_NUMBERS: usize = 1;
 pub const PLAY_NUMBERS: usize = 7;
 pub const READ_NUMBERS: usize = 1;
 pub const POPULARITY_NUMBERS: usize = 1;
+pub const CONVERT_NUMBERS: usize = 1;
 
 /// Bytes of text that a listing has to be lent.
 pub const LISTING_ROOM: usize = 65536;
@@ -101,6 +103,15 @@ extern "C" {
         list: *const Entry,
         list_len: usize,
         count: u64,
+        out: *mut u64,
+        out_len: usize,
+    ) -> u32;
+
+    pub fn bpl_convert(
+        plan: *const u8,
+        plan_len: usize,
+        buffer: *mut u8,
+        buffer_len: usize,
         out: *mut u64,
         out_len: usize,
     ) -> u32;

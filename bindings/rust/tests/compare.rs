@@ -1,5 +1,5 @@
 //! Every entry on a plan or a placement against the independent reference, on random ones and over random lists of
-//! calls; those on reads are in reads.rs. BPL_CASES sets the number of cases.
+//! calls; those on reads are in reads.rs, more of conversions is in convert.rs. BPL_CASES sets the number of cases.
 
 mod common;
 #[path = "common/entries.rs"]
@@ -7,7 +7,7 @@ mod entries;
 
 use bpl::{RunEnd, Step};
 use common::*;
-use placement_reference::gen::{coarse, largest, leaning, sized, Rng, LARGE};
+use placement_reference::gen::{coarse, largest, leaning, sized, Draft, Rng, LARGE};
 use placement_reference::plan::read;
 
 /// The number of blocks that the bytes tell, if they are a plan.
@@ -75,6 +75,9 @@ fn each_entry() {
         entries::first(&bytes, &mut patterned(words.len()));
         entries::first(&bytes, &mut patterned(blocks.saturating_sub(1)));
         entries::listing(&bytes, budget(rng));
+        for lent in buffer_lengths(rng, &bytes) {
+            let _ = entries::convert(&bytes, lent);
+        }
     }
     assert!(
         cases(20_000) < 5000 || met.all(),
@@ -94,13 +97,14 @@ fn call(rng: &mut Rng, bytes: &[u8], words: &mut [u64]) {
         most
     };
     let part = &mut words[..lent as usize];
-    match rng.below(9) {
+    match rng.below(10) {
         0 => drop(entries::check(bytes, part)),
         1 => entries::report(bytes, part),
         2 => entries::counts(bytes, part.len()),
         3 if rng.once_in(4) => entries::first(bytes, part),
         4 | 5 => drop(entries::run(bytes, part, budget(rng))),
         6 => entries::listing(bytes, 3),
+        7 => drop(entries::convert(bytes, part.len())),
         _ => drop(entries::step(bytes, part)),
     }
 }
@@ -124,16 +128,28 @@ fn lists_of_calls() {
     }
 }
 
+/// The largest plan of version 3, with popularities near the end of 32 bits.
+fn widest(rng: &mut Rng) -> Draft {
+    let mut draft = sized(rng, LARGE.wide(), 8, 8, 1024);
+    for record in &mut draft.records {
+        record.popularity = u32::MAX - record.popularity;
+    }
+    draft
+}
+
 /// A few large plans: all entries, with few steps.
 #[test]
 fn large_plans() {
     for case in 0..cases(2000).div_ceil(100) {
         let rng = &mut Rng::new(2 << 32 | case);
-        let draft = match rng.below(4) {
+        let draft = match rng.below(5) {
             0 => coarse(rng),
             1 => largest(rng).coupled(1024),
-            2 => sized(rng, LARGE, 8, 8, 1024),
-            _ => sized(rng, LARGE.paired(), 8, 8, 1024),
+            2 => widest(rng),
+            _ => {
+                let size = any_version(rng, LARGE);
+                sized(rng, size, 8, 8, 1024)
+            }
         };
         let bytes = draft.bytes();
         let mut words = patterned(draft.records.len() + 5);
@@ -146,6 +162,9 @@ fn large_plans() {
         entries::report(&bytes, &words);
         entries::listing(&bytes, 1);
         entries::listing(&bytes[..bytes.len() - 1], 1);
+        for lent in buffer_lengths(rng, &bytes) {
+            let _ = entries::convert(&bytes, lent);
+        }
     }
 }
 

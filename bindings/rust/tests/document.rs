@@ -81,6 +81,51 @@ fn plan_k() {
     assert_eq!(listing.as_deref(), Ok(samples::K_LISTING));
 }
 
+/// Plans H and K converted: pair bytes 0 for H, K's own for K, and the same listings. Bytes behind the plan stay.
+#[test]
+fn plans_converted() {
+    let mut buffer = [0xEE; 50];
+    assert_eq!(bpl::convert(&samples::H, &mut buffer), Ok(36));
+    assert_eq!(buffer[..36], samples::H_3);
+    assert_eq!(buffer[36..], [0xEE; 14]);
+    let listing = bpl::listing(&samples::H_3, 100_000);
+    assert_eq!(listing.as_deref(), Ok(samples::H_LISTING));
+
+    assert_eq!(bpl::convert(&samples::K, &mut buffer), Ok(43));
+    assert_eq!(buffer[..43], samples::K_3);
+    let listing = bpl::listing(&samples::K_3, 100_000);
+    assert_eq!(listing.as_deref(), Ok(samples::K_LISTING));
+}
+
+/// The converter's refusals: version 3 itself, and a buffer one byte too short. Nothing is written.
+#[test]
+fn conversions_refused() {
+    let mut buffer = [0xEE; 36];
+    let again = bpl::convert(&samples::H_3, &mut buffer).unwrap_err();
+    assert_eq!(again.number(), 3);
+    let short = bpl::convert(&samples::H, &mut buffer[..35]).unwrap_err();
+    assert_eq!(
+        short.to_string(),
+        "refused 12: a lent buffer is too short for the plan's blocks"
+    );
+    assert_eq!(buffer, [0xEE; 36]);
+}
+
+/// The largest popularity of version 3, of one block on one machine: its share has 42 bits.
+#[test]
+fn widest_popularity() {
+    let mut bytes = vec![0x42, 0x50, 0x4C, 0, 3, 1, 1, 0, 1, 0, 0, 0, 1, 0, 1];
+    bytes.extend([0xFF, 0xFF, 0xFF, 0xFF, 1, 1, 0]);
+    let share = 840 * u64::from(u32::MAX);
+    let listing =
+        format!("plan 1 1 1\nblock 0 1 {share} 0\nrest 0 {share} {share} {share} {share}\n");
+    assert_eq!(bpl::listing(&bytes, 9), Ok(listing));
+    assert_eq!(
+        bpl::report(&bytes, &[1]).map(|report| report.max_load),
+        Ok(share)
+    );
+}
+
 /// A step that would bring a pair together is none; without the pair it is the next one.
 #[test]
 fn steps_that_a_pair_forbids() {
@@ -186,6 +231,12 @@ fn refusals() {
     );
     let short = bpl::first(&samples::h().bytes(), &mut [0; 2]).unwrap_err();
     assert_eq!(short.number(), 12);
+    let mut strange = samples::H;
+    strange[4] = 5;
+    assert_eq!(
+        bpl::plan(&strange).unwrap_err().to_string(),
+        "refused 3: the plan's version is none of 1, 2 and 3, or is 3 already where it is converted"
+    );
     let mut differing = samples::k();
     differing.records[1].popularity += 1;
     let differs = bpl::plan(&differing.bytes()).unwrap_err();

@@ -412,7 +412,7 @@ fn what_is_claimed_after_a_list() {
 fn large_plans() {
     for case in 0..cases(2000).div_ceil(400) {
         let rng = &mut Rng::new(11 << 32 | case);
-        let size = rng.one_of(&[LARGE, LARGE.paired()]);
+        let size = any_version(rng, LARGE);
         let draft = sized(rng, size, 8, 8, 1024);
         let plan = draft.plan().expect("an accepted draft");
         let scene = Scene {

@@ -8,7 +8,7 @@ use bpl::Entry;
 use common::*;
 use placement_reference::gen::Rng;
 
-/// Buffers as one call leaves them, with its code.
+/// Buffers as one call leaves them, with its code. A conversion writes to the text.
 #[derive(Clone, Debug, PartialEq)]
 struct Left {
     code: u32,
@@ -27,6 +27,7 @@ enum Call {
     Listing(u32),
     Read { block: u32, tick: u32, count: u64 },
     Popularity { block: u32, count: u64 },
+    Convert,
 }
 
 impl Call {
@@ -39,6 +40,7 @@ impl Call {
             Call::Listing(_) => LISTING_NUMBERS,
             Call::Read { .. } => READ_NUMBERS,
             Call::Popularity { .. } => POPULARITY_NUMBERS,
+            Call::Convert => CONVERT_NUMBERS,
         }
     }
 
@@ -65,6 +67,7 @@ impl Call {
                 Call::Popularity { block, count } => {
                     bpl_popularity(plan, plan_len, block, list, list_len, count, out, lent)
                 }
+                Call::Convert => bpl_convert(plan, plan_len, text, text_len, out, lent),
             }
         };
         left
@@ -93,7 +96,7 @@ fn any_list(rng: &mut Rng) -> Vec<Entry> {
 
 fn any_call(rng: &mut Rng) -> Call {
     let (block, count) = (rng.below(5) as u32, rng.below(7));
-    match rng.below(6) {
+    match rng.below(7) {
         0 => Call::Report,
         1 => Call::Step,
         2 => Call::Run(budget(rng)),
@@ -102,6 +105,7 @@ fn any_call(rng: &mut Rng) -> Call {
             let tick = rng.below(9_000_000) as u32;
             Call::Read { block, tick, count }
         }
+        5 => Call::Convert,
         _ => Call::Popularity { block, count },
     }
 }
@@ -172,7 +176,7 @@ fn out_past_the_numbers() {
             "{call:?}"
         );
         let written = match call {
-            Call::Listing(_) => exact.out[0] as usize,
+            Call::Listing(_) | Call::Convert => exact.out[0] as usize,
             _ => 0,
         };
         assert_eq!(exact.text[written..], before.text[written..], "{call:?}");

@@ -3,6 +3,7 @@
 use super::common::*;
 use bpl::{RunEnd, Step};
 use placement_reference::calls::*;
+use placement_reference::convert::enter_convert;
 use placement_reference::listing;
 
 pub fn plan(bytes: &[u8]) {
@@ -63,6 +64,23 @@ pub fn run(bytes: &[u8], words: &mut [u64], budget: u32) -> Result<RunEnd, u8> {
     assert_eq!(*words, theirs, "run {budget} {bytes:?} {before:?}");
     kept(said.is_err(), bytes, &before, words);
     said
+}
+
+/// A conversion into a buffer of so many bytes; answers the plan written.
+pub fn convert(bytes: &[u8], lent: usize) -> Result<Vec<u8>, u8> {
+    let before: Vec<u8> = (0..lent).map(|i| 0xE0 | (i as u8 % 16)).collect();
+    let (mut ours, mut theirs) = (before.clone(), before.clone());
+    let said = numbered(bpl::convert(bytes, &mut ours));
+    let expected = enter_convert(bytes, &mut theirs);
+    assert_eq!(said, expected, "convert {lent} {bytes:?}");
+    assert_eq!(ours, theirs, "convert {lent} {bytes:?}");
+    let written = said.unwrap_or(0);
+    assert_eq!(
+        ours[written..],
+        before[written..],
+        "convert {lent} {bytes:?}"
+    );
+    said.map(|length| ours[..length].to_vec())
 }
 
 pub fn listing(bytes: &[u8], budget: u32) {

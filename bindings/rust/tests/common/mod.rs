@@ -30,7 +30,15 @@ const LONG: Size = Size {
     version: 1,
 };
 
-/// Mostly small plans, since the reference's search is plain loops; both versions.
+/// The same size in any version.
+pub fn any_version(rng: &mut Rng, size: Size) -> Size {
+    Size {
+        version: rng.from_to(1, 3) as u16,
+        ..size
+    }
+}
+
+/// Mostly small plans, since the reference's search is plain loops; all versions.
 pub fn size(rng: &mut Rng) -> Size {
     let size = match rng.below(20) {
         0 => MEDIUM,
@@ -38,7 +46,7 @@ pub fn size(rng: &mut Rng) -> Size {
         2..=9 => SMALL,
         _ => TINY,
     };
-    rng.one_of(&[size, size.paired()])
+    any_version(rng, size)
 }
 
 /// A plan that the checks accept.
@@ -54,7 +62,8 @@ pub fn accepted(rng: &mut Rng) -> Draft {
 /// A plan that row 17 refuses, at times with a flaw of rows 8 to 11 beside it.
 fn wrongly_paired(rng: &mut Rng, size: Size) -> Option<Draft> {
     let how = rng.one_of(&MISPAIRINGS);
-    let alone = mispaired(rng, size.paired(), how)?;
+    let version = size.version.max(2);
+    let alone = mispaired(rng, Size { version, ..size }, how)?;
     Some(match rng.below(8) {
         row @ (0 | 1) => with_block_flaw(rng, alone, 8 + row as u8),
         row @ (2 | 3) => with_sum_flaw(rng, alone, 8 + row as u8),
@@ -135,6 +144,22 @@ pub fn lent_words(rng: &mut Rng, bytes: &[u8]) -> Vec<u64> {
     let spare = rng.below(4) as usize;
     words.extend(patterned(spare));
     words
+}
+
+/// Lengths for a converted plan's buffer: two at random, near to what the plan needs, and what it needs.
+pub fn buffer_lengths(rng: &mut Rng, bytes: &[u8]) -> [usize; 3] {
+    let blocks = bytes
+        .get(13..15)
+        .map_or(0, |b| usize::from(b[0]) << 8 | usize::from(b[1]));
+    let need = 15 + 7 * blocks;
+    let near = need - 3 + rng.below(7) as usize;
+    let any = match rng.below(4) {
+        0 => 0,
+        1 => bytes.len(),
+        2 => need - 1,
+        _ => rng.below(2 * need as u64) as usize,
+    };
+    [near, any, need]
 }
 
 /// Words that all differ.
