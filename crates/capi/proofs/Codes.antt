@@ -12,21 +12,23 @@ use lib.Dec.{ltb, lit≤}
 use lib.ListN.{length}
 use Rattle.model.specs.Plan.{Plan, blockCount, planIn}
 use Rattle.model.specs.Refusal.{refuseIf, check12, refusal, accepted, verdict, judge, verdictCode}
-use Rattle.model.specs.Calls.{Answer, turnedBack, answered, Outcome, OutcomeOver, onPlan, unless, bufferRefusal, placementRefusal, onPlacement, countsCall, firstCall, checkCall, reportCall, stepCall, runCall}
+use Rattle.model.specs.Calls.{Answer, turnedBack, answered, Outcome, OutcomeOver, onPlan, unless, placementRefusal, onPlacement, countsCall, firstCall, checkCall, reportCall, stepCall, runCall}
 use Rattle.model.specs.Listing.{listingRoom, roomRefusal, wrote, listingCall}
+use Rattle.model.specs.Conversion.{converted, convertRefusal, convertVerdict, convertCall}
 use Rattle.theory.proofs.Refusal.{refuseIf-all, refusal-le}
 use Rattle.model.specs.declared.Entry.{Entry}
 use Rattle.model.specs.ReadLog.{readCall, popularityCall}
 use Rattle.theory.proofs.Calls.{placementRefusal-le}
+use Rattle.theory.proofs.Conversion.{convertRefusal-le}
 use Rattle.theory.proofs.ReadLog.{check19-le, readRefusal-le}
-use Rattle.capi.specs.Interface.{shortOut, replied}
+use Rattle.interface.specs.Interface.{shortOut, replied}
 use Rattle.capi.specs.Codes.{lastRow, RefusalCode, Tells, EffectTells, Codes, ReadCodes}
 use Rattle.capi.proofs.Laws.{out-short, out-enough}
 
 -- row 12 alone
-buffer-le : (items : List ℕ) (p : Plan) → bufferRefusal items p ≤ lastRow
+buffer-le : (lent count : ℕ) → check12 lent count 0 ≤ lastRow
 unfolding check12
-buffer-le items p = refuseIf-all (λ n. n ≤ lastRow) (ltb (length items) (blockCount p)) 12 0 (lit≤ tt) (lit≤ tt)
+buffer-le lent count = refuseIf-all (λ n. n ≤ lastRow) (ltb lent count) 12 0 (lit≤ tt) (lit≤ tt)
 
 -- an answer whose refusals have codes of refusals
 abbrev Told : {A : Type 0} → Answer A → Type 0
@@ -99,11 +101,11 @@ verdict-done (suc code) p = (λ e. absurd (omega arith), λ d. absurd (let e = d
 module _ (plan items out : List ℕ) (budget : ℕ) where
   counts-told : Told (countsCall plan items .answer)
   unfolding countsCall
-  counts-told = plan-told items plan _ _ (buffer-le items (planIn plan)) tt
+  counts-told = plan-told items plan _ _ (buffer-le (length items) (blockCount (planIn plan))) tt
 
   first-told : Told (firstCall plan items .answer)
   unfolding firstCall
-  first-told = plan-told items plan _ _ (buffer-le items (planIn plan)) tt
+  first-told = plan-told items plan _ _ (buffer-le (length items) (blockCount (planIn plan))) tt
 
   check-told : Told (checkCall plan items .answer)
   unfolding checkCall
@@ -129,6 +131,13 @@ module _ (plan items out : List ℕ) (budget : ℕ) where
   unfolding listingCall roomRefusal wrote
   listing-told = unless-told items _ _ (room-row (ltb (length items) listingRoom)) (plan-told items plan _ _ (lit≤ tt) tt)
 
+  convert-told : Told (convertCall plan items .answer)
+  unfolding convertCall convertVerdict wrote
+  convert-told =
+      verdict-told items (convertRefusal plan) (planIn plan) _ _ (convertRefusal-le plan)
+      (inl (buffer-le (length items) (length (converted (planIn plan)))))
+      tt
+
   pub codes : Codes plan items out budget
   unfolding judge
   codes =
@@ -142,6 +151,7 @@ module _ (plan items out : List ℕ) (budget : ℕ) where
         step-tells = effect-tells _ _ items out _ step-told;
         run-tells = effect-tells _ _ items out _ run-told;
         listing-tells = effect-tells _ _ items out _ listing-told;
+        convert-tells = effect-tells _ _ items out _ convert-told;
       }
 
 -- the calls on reads

@@ -8,7 +8,7 @@ use Rattle.model.specs.Claims.{Played}
 use Rattle.script.specs.declared.LastReply.{LastReply}
 use Rattle.script.specs.Script.{replyIs}
 use Rattle.script.specs.Promise.{ScriptPlayed}
-use Rattle.capi.specs.Interface.{over, replyNumbers}
+use Rattle.interface.specs.Interface.{over, replyNumbers}
 use Rattle.capi.specs.Script.{playOutcome, PlayedInto}
 use Rattle.capi.proofs.Laws.{answers}
 

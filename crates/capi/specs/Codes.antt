@@ -8,9 +8,10 @@ use Rattle.model.specs.Plan.{Plan}
 use Rattle.model.specs.Refusal.{accepted, judge, verdictCode}
 use Rattle.model.specs.Calls.{Answer, answered, OutcomeOver, countsCall, firstCall, checkCall, reportCall, stepCall, runCall}
 use Rattle.model.specs.Listing.{listingCall}
+use Rattle.model.specs.Conversion.{convertCall}
 use Rattle.model.specs.declared.Entry.{Entry}
 use Rattle.model.specs.ReadLog.{readCall, popularityCall}
-use Rattle.capi.specs.Interface.{shortOut, effect, noNumbers, reportNumbers, stepNumbers, runNumbers, oneNumber}
+use Rattle.interface.specs.Interface.{shortOut, effect, noNumbers, reportNumbers, stepNumbers, runNumbers, oneNumber}
 
 -- The last row of the table of refusals.
 abbrev pub lastRow : ℕ
@@ -44,6 +45,7 @@ pub record Codes (plan items out : List ℕ) (budget : ℕ) : Type 0 where
   pub step-tells : EffectTells 6 stepNumbers items out (stepCall plan items)
   pub run-tells : EffectTells 2 runNumbers items out (runCall plan items budget)
   pub listing-tells : EffectTells 1 oneNumber items out (listingCall plan budget items)
+  pub convert-tells : EffectTells 1 oneNumber items out (convertCall plan items)
 
 -- And of those on reads.
 pub record ReadCodes (plan : List ℕ) (list : List Entry) (out : List ℕ) (block tick count : ℕ) : Type 0 where

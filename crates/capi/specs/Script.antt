@@ -10,7 +10,7 @@ use Rattle.model.specs.Placement.{Feasible}
 use Rattle.model.specs.Calls.{Outcome, answered}
 use Rattle.model.specs.Claims.{Reply, Played, checked, play, Allowed, After}
 use Rattle.script.specs.Script.{callsOf}
-use Rattle.capi.specs.Interface.{effectOf, effect, replyNumbers}
+use Rattle.interface.specs.Interface.{effectOf, effect, replyNumbers}
 
 -- A play always has an answer, its last reply.
 abbrev pub playOutcome : Played → Outcome Reply

@@ -1,64 +1,27 @@
 // The functions that the archive exports to C: thin wrappers over the public entries, on numbers and slices alone.
 // Each returns 0 or the number of a refusal, and writes only where it returns 0.
+use conversion::ConvertAnswer;
 use listing::ListingAnswer;
 use model::Entry;
 use plan::Reading;
-use script::LastReply;
-use search::Step;
 use service::CheckAnswer;
 use service::CountsAnswer;
 use service::FirstAnswer;
 use service::ReportAnswer;
 use service::RunAnswer;
 use service::StepAnswer;
-use window::ReadsAnswer;
 ghost use mathlib.Core.List.{[]};
 ghost use mathlib.Core.Path.{_≡_};
-ghost use Prim.Native.Nat.{_≤_};
-ghost use lib.ListN.{length};
 ghost use Rattle.model.specs.Refusal.{verdictCode, judge};
 ghost use Rattle.model.specs.Calls.{countsCall, firstCall, checkCall, reportCall, stepCall, runCall};
 ghost use Rattle.model.specs.Listing.{listingCall};
+ghost use Rattle.model.specs.Conversion.{convertCall};
 ghost use Rattle.model.specs.ReadLog.{readCall, popularityCall};
-ghost use Rattle.search.specs.Scene.{stepOf};
-ghost use Rattle.script.specs.Script.{replyIs};
-ghost use Rattle.capi.specs.Interface.{effectOf, effect, over, noNumbers, reportNumbers, stepNumbers, runNumbers, oneNumber, replyNumbers, toldCode, toldOut};
+ghost use Rattle.interface.specs.Interface.{effectOf, effect, noNumbers, reportNumbers, stepNumbers, runNumbers, oneNumber};
 ghost use Rattle.capi.specs.Script.{PlayedInto};
 
 // The code for an `out` that is shorter than what the call writes there, above all refusal numbers.
 const SHORT_OUT: u32 = 255;
-
-// A refusal's number as the code returned.
-fn code_of(number: u8) -> u32
-    ensures { λ r. ⌜ r ≡ number ⌝ }
-{
-    number as u32
-}
-
-// Writes the numbers into the first words of out; its later words stay.
-fn write_numbers(out: &mut [u64], numbers: &[u64])
-    requires { ⌜ length (now numbers) ≤ length (now out) ⌝ }
-    ensures { λ r. ⌜ now (out .exit) ≡ over (now (numbers .entry)) (now (out .entry)) ⌝ }
-{
-    let mut i: usize = 0;
-    while i < numbers.len() {
-        out[i] = numbers[i];
-        i += 1;
-    }
-}
-
-// A step as numbers: 1 if there is one, its kind, m, n, i, j; 0 where there is none.
-fn step_numbers(step: Step) -> [u64; 6]
-    ensures { λ r. ⌜ r ≡ stepNumbers (stepOf step) ⌝ }
-{
-    match step {
-        Step::Rest => [0, 0, 0, 0, 0, 0],
-        Step::Move { m, n, i } => [1, 0, m as u64, n as u64, i as u64, 0],
-        Step::Swap { m, n, i, j } => [1, 1, m as u64, n as u64, i as u64, j as u64],
-        Step::RackMove { m, n, i } => [1, 2, m as u64, n as u64, i as u64, 0],
-        Step::RackSwap { m, n, i, j } => [1, 3, m as u64, n as u64, i as u64, j as u64],
-    }
-}
 
 // Judges a plan.
 #[no_mangle]
@@ -67,7 +30,7 @@ pub extern "C" fn bpl_plan(plan: &[u8]) -> u32
 {
     let reading = plan::read(plan);
     match reading {
-        Reading::Refused(number) => code_of(number),
+        Reading::Refused(number) => interface::code_of(number),
         Reading::Accepted(_h) => 0,
     }
 }
@@ -80,7 +43,7 @@ pub extern "C" fn bpl_counts(plan: &[u8], counts: &mut [u8]) -> u32
 {
     let answer = service::counts(plan, counts);
     match answer {
-        CountsAnswer::Refused(number) => code_of(number),
+        CountsAnswer::Refused(number) => interface::code_of(number),
         CountsAnswer::Counted(_top) => 0,
     }
 }
@@ -93,7 +56,7 @@ pub extern "C" fn bpl_first(plan: &[u8], words: &mut [u64]) -> u32
 {
     let answer = service::first(plan, words);
     match answer {
-        FirstAnswer::Refused(number) => code_of(number),
+        FirstAnswer::Refused(number) => interface::code_of(number),
         FirstAnswer::Placed(_blocks) => 0,
     }
 }
@@ -106,7 +69,7 @@ pub extern "C" fn bpl_check(plan: &[u8], words: &[u64]) -> u32
 {
     let answer = service::check(plan, words);
     match answer {
-        CheckAnswer::Refused(number) => code_of(number),
+        CheckAnswer::Refused(number) => interface::code_of(number),
         CheckAnswer::Feasible(_blocks) => 0,
     }
 }
@@ -122,10 +85,10 @@ pub extern "C" fn bpl_report(plan: &[u8], words: &[u64], out: &mut [u64]) -> u32
     }
     let answer = service::report(plan, words);
     match answer {
-        ReportAnswer::Refused(number) => code_of(number),
+        ReportAnswer::Refused(number) => interface::code_of(number),
         ReportAnswer::Reported(report, top) => {
             let numbers = [report.max_load, report.min_load, report.total_load, top];
-            write_numbers(out, &numbers);
+            interface::write_numbers(out, &numbers);
             0
         }
     }
@@ -142,10 +105,10 @@ pub extern "C" fn bpl_step(plan: &[u8], words: &mut [u64], out: &mut [u64]) -> u
     }
     let answer = service::step(plan, words);
     match answer {
-        StepAnswer::Refused(number) => code_of(number),
+        StepAnswer::Refused(number) => interface::code_of(number),
         StepAnswer::Next(step) => {
-            let numbers = step_numbers(step);
-            write_numbers(out, &numbers);
+            let numbers = interface::step_numbers(step);
+            interface::write_numbers(out, &numbers);
             0
         }
     }
@@ -162,15 +125,15 @@ pub extern "C" fn bpl_run(plan: &[u8], words: &mut [u64], budget: u32, out: &mut
     }
     let answer = service::run(plan, words, budget);
     match answer {
-        RunAnswer::Refused(number) => code_of(number),
+        RunAnswer::Refused(number) => interface::code_of(number),
         RunAnswer::Rested(steps) => {
             let numbers = [1, steps as u64];
-            write_numbers(out, &numbers);
+            interface::write_numbers(out, &numbers);
             0
         }
         RunAnswer::Spent(steps) => {
             let numbers = [0, steps as u64];
-            write_numbers(out, &numbers);
+            interface::write_numbers(out, &numbers);
             0
         }
     }
@@ -187,28 +150,32 @@ pub extern "C" fn bpl_listing(plan: &[u8], budget: u32, text: &mut [u8], out: &m
     }
     let answer = listing::listing(plan, budget, text);
     match answer {
-        ListingAnswer::Refused(number) => code_of(number),
+        ListingAnswer::Refused(number) => interface::code_of(number),
         ListingAnswer::Listed(size) => {
             let numbers = [size as u64];
-            write_numbers(out, &numbers);
+            interface::write_numbers(out, &numbers);
             0
         }
     }
 }
 
-// A reply as numbers: its kind (0 refused, 1 checked, 2 a step, 3 a run), then its own.
-fn reply_numbers(reply: LastReply) -> [u64; 7]
-    ensures { λ r. ⌜ r ≡ replyNumbers (replyIs reply) ⌝ }
+// Converts a version 1 or 2 plan to version 3 in a lent buffer. The result's length is answered.
+#[no_mangle]
+pub extern "C" fn bpl_convert(plan: &[u8], buffer: &mut [u8], out: &mut [u64]) -> u32
+    ensures { λ r. ⌜ effectOf r (now (buffer .exit)) (now (out .exit))
+        ≡ effect 1 oneNumber (now (buffer .entry)) (now (out .entry)) (convertCall (now (plan .entry)) (now (buffer .entry))) ⌝ }
 {
-    match reply {
-        LastReply::Refused(number) => [0, number as u64, 0, 0, 0, 0, 0],
-        LastReply::Checked => [1, 0, 0, 0, 0, 0, 0],
-        LastReply::Stepped(step) => {
-            let s = step_numbers(step);
-            [2, s[0], s[1], s[2], s[3], s[4], s[5]]
+    if out.len() < 1 {
+        return SHORT_OUT;
+    }
+    let answer = conversion::convert(plan, buffer);
+    match answer {
+        ConvertAnswer::Refused(number) => interface::code_of(number),
+        ConvertAnswer::Converted(length) => {
+            let numbers = [length as u64];
+            interface::write_numbers(out, &numbers);
+            0
         }
-        LastReply::Rested(steps) => [3, 1, steps as u64, 0, 0, 0, 0],
-        LastReply::Spent(steps) => [3, 0, steps as u64, 0, 0, 0, 0],
     }
 }
 
@@ -228,24 +195,9 @@ pub extern "C" fn bpl_play(
         return SHORT_OUT;
     }
     let reply = script::play(plan, other, words, script);
-    let numbers = reply_numbers(reply);
-    write_numbers(out, &numbers);
+    let numbers = interface::reply_numbers(reply);
+    interface::write_numbers(out, &numbers);
     0
-}
-
-// An answer of the calls on reads: its code, and its number into the first word of out.
-fn tell_reads(answer: ReadsAnswer, out: &mut [u64]) -> u32
-    requires { ⌜ 1 ≤ length (now out) ⌝ }
-    ensures { λ r. ⌜ (r ≡ toldCode answer) × (now (out .exit) ≡ toldOut answer (now (out .entry))) ⌝ }
-{
-    match answer {
-        ReadsAnswer::Refused(number) => code_of(number),
-        ReadsAnswer::Number(n) => {
-            let numbers = [n];
-            write_numbers(out, &numbers);
-            0
-        }
-    }
 }
 
 // Notes a read of a block at a tick in a lent list of entries, and answers the new count.
@@ -265,7 +217,7 @@ pub extern "C" fn bpl_read(
         return SHORT_OUT;
     }
     let answer = reads::read(plan, block, tick, list, count);
-    tell_reads(answer, out)
+    interface::tell_reads(answer, out)
 }
 
 // Counts a block's popularity in a lent list of entries. The list is never written.
@@ -284,5 +236,5 @@ pub extern "C" fn bpl_popularity(
         return SHORT_OUT;
     }
     let answer = reads::popularity(plan, block, list, count);
-    tell_reads(answer, out)
+    interface::tell_reads(answer, out)
 }

@@ -1,17 +1,19 @@
 -- Laws of the converter's definitions: the result's length, which bytes it takes, and how the call's outcome follows.
 -- Assumes nothing.
 use mathlib.Core.Path.{_≡_, ap, _∙_}
+use mathlib.Core.Bool.{Bool, not, _||_}
 use mathlib.Core.List.{List}
 use Prim.Native.Nat.{ℕ, zero, suc, _<_, _≤_}
 use native.Mathlib.Nat.{pos-of-ne-zero}
 use native.Mathlib.Omega.{arith}
+use lib.Dec.{eqb, ltb, lit≤}
 use lib.ListN.{length}
-use Rattle.model.specs.Plan.{Plan, blockCount, markIn, versionIn, formatOf, recordAt, planIn}
-use Rattle.model.specs.Refusal.{orElse, check1, check2, check3, refusal, refused, accepted, verdict, judge}
+use Rattle.model.specs.Plan.{Plan, blockCount, commonLength, markIn, versionIn, formatOf, recordAt, planIn}
+use Rattle.model.specs.Refusal.{refuseIf, orElse, mark, check1, check2, check3, refusal, refused, accepted, verdict, judge}
 use Rattle.model.specs.Calls.{refuse}
 use Rattle.model.specs.Listing.{wrote}
 use Rattle.model.specs.Conversion.{convertedVersion, writtenVersion, withVersion, converted, convertRefusal, convertVerdict, resultRefusal, convertCall}
-use Rattle.theory.proofs.Refusal.{orElse-some, check12-short, check12-enough}
+use Rattle.theory.proofs.Refusal.{refuseIf-all, orElse-some, check12-short, check12-enough, refusal-le}
 use Rattle.theory.proofs.Calls.{onPlan-verdict, onPlan-refused, onPlan-made, callRefusal-accepted}
 use Rattle.theory.proofs.WritingPlan.{planBytes-length}
 
@@ -19,6 +21,19 @@ use Rattle.theory.proofs.WritingPlan.{planBytes-length}
 pub converted-length : (p : Plan) → length (converted p) ≡ recordAt (formatOf writtenVersion) (blockCount p)
 unfolding converted
 converted-length p = planBytes-length (withVersion writtenVersion p)
+
+-- ── convertRefusal ───────────────────────────────────────────────────────────────────────────────
+-- it has a number up to 17, as the plan's own
+pub convertRefusal-le : (bytes : List ℕ) → convertRefusal bytes ≤ 17
+unfolding convertRefusal check1 check2 check3
+convertRefusal-le bytes =
+    let version = versionIn bytes in
+    row (ltb (length bytes) commonLength) 1 _ (lit≤ tt)
+    (row (not (eqb (markIn bytes) mark)) 2 _ (lit≤ tt)
+    (row (eqb version 0 || ltb convertedVersion version) 3 _ (lit≤ tt) (refusal-le bytes)))
+  where
+    row : (t : Bool) (code later : ℕ) → code ≤ 17 → later ≤ 17 → refuseIf t code later ≤ 17
+    row = refuseIf-all (λ n. n ≤ 17)
 
 -- ── convertVerdict ───────────────────────────────────────────────────────────────────────────────
 pub convertVerdict-refused : (bytes : List ℕ) (code : ℕ) → convertRefusal bytes ≡ code → 1 ≤ code → convertVerdict bytes ≡ refused code

@@ -5,7 +5,7 @@ use borrow.Author.Needs.{needs}
 use mathlib.Core.Path.{refl}
 use native.Mathlib.Omega.{arith}
 use Rattle.service.specs.Entries.{checkOutcome}
-use Rattle.capi.specs.Interface.{over, noNumbers}
+use Rattle.interface.specs.Interface.{over, noNumbers}
 use Rattle.capi.proofs.Laws.{turned-back, answers}
 use Rattle.capi.proofs.bpl_check.Statement.{statement}
 use Rattle.capi.proofs.bpl_check.Tie as tie

@@ -2,7 +2,7 @@
 -- Assumes nothing.
 use borrow.Author.Needs.{needs}
 use Rattle.listing.specs.Entries.{listingOutcome}
-use Rattle.capi.specs.Interface.{oneNumber}
+use Rattle.interface.specs.Interface.{oneNumber}
 use Rattle.capi.proofs.Laws.{out-short, turned-back, answers}
 use Rattle.capi.proofs.bpl_listing.Statement.{statement}
 use Rattle.capi.proofs.bpl_listing.Tie as tie

@@ -2,7 +2,7 @@
 -- Assumes nothing.
 use borrow.Author.Needs.{needs}
 use native.Mathlib.Omega.{arith}
-use Rattle.capi.specs.Interface.{replyNumbers}
+use Rattle.interface.specs.Interface.{replyNumbers}
 use Rattle.capi.proofs.Laws.{out-short}
 use Rattle.capi.proofs.PlayLaws.{played-into}
 use Rattle.capi.proofs.bpl_play.Statement.{statement}

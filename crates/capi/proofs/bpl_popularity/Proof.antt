@@ -38,13 +38,13 @@ use Rattle.reads.proofs.popularity as asks
 use Rattle.reads.proofs.popularity.Symbol as asks-def
 use Rattle.reads.proofs.popularity.Symbol.{name as #reads·popularity}
 use Rattle.reads.proofs.popularity.Met as asks-thm
-use Rattle.capi.specs.Interface.{effectOf, effect, oneNumber, toldCode, toldOut}
+use Rattle.interface.specs.Interface.{effectOf, effect, oneNumber, toldCode, toldOut}
 use Rattle.capi.proofs.Guards.{guards}
 use Rattle.capi.proofs.Laws.{out-short, reads-told}
-use Rattle.capi.proofs.tell_reads as tell
-use Rattle.capi.proofs.tell_reads.Symbol as tell-def
-use Rattle.capi.proofs.tell_reads.Symbol.{name as #capi·tell-reads}
-use Rattle.capi.proofs.tell_reads.Met as tell-thm
+use Rattle.interface.proofs.tell_reads as tell
+use Rattle.interface.proofs.tell_reads.Symbol as tell-def
+use Rattle.interface.proofs.tell_reads.Symbol.{name as #interface·tell-reads}
+use Rattle.interface.proofs.tell_reads.Met as tell-thm
 use Rattle.capi.proofs.bpl_popularity.Key.{name as #capi·bpl-popularity}
 use Rattle.capi.proofs.bpl_popularity as f
 use Rattle.capi.proofs.bpl_popularity.Statement as stated
@@ -145,7 +145,7 @@ module _ {M : Type 1} (𝓤 : URA M) (H : Heap 𝓤) (A : Atoms 𝓤) (W : Given
       move ! (1 ∷ 0 ∷ []) $ fjoin ! $ nothing ! $ fjoin ! $ nothing ! $ fjoin ! $ nothing ! $ fjoin ! $ nothing ! $ fjoin ! $ frame ! $
       owned ! u32 (Is u32) (uint-makes 𝓤 H A W w32) r (vint w32 r ∷ []) (refl, g) $ done !
 
-  walk : (𝓣 : Tables 𝓤 H) → Triple 𝓤 (𝓣 .C #reads·popularity) (Asks 𝓤 H A mem run) → Triple 𝓤 (𝓣 .C #capi·tell-reads) (Tell 𝓤 H A mem run)
+  walk : (𝓣 : Tables 𝓤 H) → Triple 𝓤 (𝓣 .C #reads·popularity) (Asks 𝓤 H A mem run) → Triple 𝓤 (𝓣 .C #interface·tell-reads) (Tell 𝓤 H A mem run)
       → ent 𝓤 (onEntry 𝓤 H A f.signature (κ, (κ′, (κ″, tt))) (q, (q′, (q″, tt))) x at) (WpFn 𝓤 H (𝓣 .C) (𝓣 .Λ) code.function (vp ∷ vint w32 block ∷ vl ∷ vint w64 count ∷ vo ∷ []) Post)
   walk 𝓣 known-asks known-tell =
       qed W ((‵ (flft κ q) ⊛ (‵ (flft κ′ q′) ⊛ tell-tokens)) ∷ ‵ (owns (ShrSlice (named 0) κ u8 ∷ u32 ∷ ShrSlice (named 1) κ′ entryRow ∷ u64 ∷ MutSlice (named 2) κ″ u64 ∷ []) x at) ∷ []) ∵
@@ -197,7 +197,7 @@ module _ {M : Type 1} (𝓤 : URA M) (H : Heap 𝓤) (A : Atoms 𝓤) (W : Given
       (ap₂ (λ (k : ℕ) (zs : List ℕ). effectOf k (l .now) zs) (told .0) (told .1) ∙ reads-told r (l .now) (l .now) (o .now) call enough e))))))))))))))))))))))))
 
 module _ {M : Type 1} (𝓤 : URA M) (H : Heap 𝓤) (A : Atoms 𝓤) (W : Given 𝓤 H A) (mem : Memory → SProp 𝓤) (run : Routine → Fun 𝓤) where
-  bpl-popularity-walks : (𝓣 : Tables 𝓤 H) → Triple 𝓤 (𝓣 .C #reads·popularity) (Asks 𝓤 H A mem run) → Triple 𝓤 (𝓣 .C #capi·tell-reads) (Tell 𝓤 H A mem run)
+  bpl-popularity-walks : (𝓣 : Tables 𝓤 H) → Triple 𝓤 (𝓣 .C #reads·popularity) (Asks 𝓤 H A mem run) → Triple 𝓤 (𝓣 .C #interface·tell-reads) (Tell 𝓤 H A mem run)
       → Walks 𝓤 H A f.ended stayed (WpFn 𝓤 H (𝓣 .C) (𝓣 .Λ) code.function) (f.clauses 𝓤 H A mem run)
   bpl-popularity-walks 𝓣 known-asks known-tell = walked 𝓤 H A f.ended stayed (f.clauses 𝓤 H A mem run) (WpFn 𝓤 H (𝓣 .C) (𝓣 .Λ) code.function)
       (λ κs. (slice-vals, (uint-vals w32, (slice-vals, (uint-vals w64, (slice-vals, tt))))))
@@ -218,7 +218,7 @@ module _ {M : Type 1} (𝓤 : URA M) (H : Heap 𝓤) (A : Atoms 𝓤) (W : Given
   )
 
 bpl-popularity-meets : {M : Type 1} (𝓤 : URA M) (H : Heap 𝓤) (A : Atoms 𝓤) → Given 𝓤 H A → (mem : Memory → SProp 𝓤) (run : Routine → Fun 𝓤) (𝓣 : Tables 𝓤 H)
-    → Triple 𝓤 (𝓣 .C #reads·popularity) (Asks 𝓤 H A mem run) → Triple 𝓤 (𝓣 .C #capi·tell-reads) (Tell 𝓤 H A mem run) → Meets 𝓤 H A f.signature (WpFn 𝓤 H (𝓣 .C) (𝓣 .Λ) code.function) (f.spec 𝓤 H A mem run)
+    → Triple 𝓤 (𝓣 .C #reads·popularity) (Asks 𝓤 H A mem run) → Triple 𝓤 (𝓣 .C #interface·tell-reads) (Tell 𝓤 H A mem run) → Meets 𝓤 H A f.signature (WpFn 𝓤 H (𝓣 .C) (𝓣 .Λ) code.function) (f.spec 𝓤 H A mem run)
 bpl-popularity-meets 𝓤 H A W mem run 𝓣 known-asks known-tell = walk-meets 𝓤 H A f.ended stayed W (goes 𝓤 H A W mem run) (f.clauses 𝓤 H A mem run) (WpFn 𝓤 H (𝓣 .C) (𝓣 .Λ) code.function) (WpFn-mono 𝓤 H (W .laws) 𝓣 code.function)
     (bpl-popularity-walks 𝓤 H A W mem run 𝓣 known-asks known-tell)
 
@@ -229,4 +229,4 @@ bpl-popularity-spec 𝓤 H 𝓜 𝓖 𝓡 =
     (tables 𝓤 H 𝓜 𝓡 code.env .C) (tables 𝓤 H 𝓜 𝓡 code.env .Λ) #capi·bpl-popularity code.function (code.unfolded 𝓤 H 𝓜 𝓡)
     (bpl-popularity-meets 𝓤 H (𝓖 .A) (givenOf 𝓤 H 𝓜 𝓖) (𝓜 .mem) (𝓡 .run) (tablesOf 𝓤 H 𝓜 (tables 𝓤 H 𝓜 𝓡 code.env))
     (cited 𝓤 H (Asks 𝓤 H (𝓖 .A) (𝓜 .mem) (𝓡 .run)) 𝓜 𝓡 code.env #reads·popularity asks-def.routine code.calls-reads·popularity (asks-thm.met 𝓤 H 𝓜 𝓖 𝓡))
-    (cited 𝓤 H (Tell 𝓤 H (𝓖 .A) (𝓜 .mem) (𝓡 .run)) 𝓜 𝓡 code.env #capi·tell-reads tell-def.routine code.calls-capi·tell-reads (tell-thm.met 𝓤 H 𝓜 𝓖 𝓡)))
+    (cited 𝓤 H (Tell 𝓤 H (𝓖 .A) (𝓜 .mem) (𝓡 .run)) 𝓜 𝓡 code.env #interface·tell-reads tell-def.routine code.calls-interface·tell-reads (tell-thm.met 𝓤 H 𝓜 𝓖 𝓡)))

@@ -2,7 +2,7 @@
 -- Assumes nothing.
 use borrow.Author.Needs.{needs}
 use Rattle.service.specs.Entries.{reportOutcome}
-use Rattle.capi.specs.Interface.{reportNumbers}
+use Rattle.interface.specs.Interface.{reportNumbers}
 use Rattle.capi.proofs.Laws.{out-short, turned-back, answers}
 use Rattle.capi.proofs.bpl_report.Statement.{statement}
 use Rattle.capi.proofs.bpl_report.Tie as tie

@@ -2,7 +2,7 @@
 -- Assumes nothing.
 use borrow.Author.Needs.{needs}
 use Rattle.service.specs.Entries.{runOutcome}
-use Rattle.capi.specs.Interface.{runNumbers}
+use Rattle.interface.specs.Interface.{runNumbers}
 use Rattle.capi.proofs.Laws.{out-short, turned-back, answers}
 use Rattle.capi.proofs.bpl_run.Statement.{statement}
 use Rattle.capi.proofs.bpl_run.Tie as tie

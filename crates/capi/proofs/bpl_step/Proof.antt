@@ -2,7 +2,7 @@
 -- Assumes nothing.
 use borrow.Author.Needs.{needs}
 use Rattle.service.specs.Entries.{stepOutcome}
-use Rattle.capi.specs.Interface.{stepNumbers}
+use Rattle.interface.specs.Interface.{stepNumbers}
 use Rattle.capi.proofs.Laws.{out-short, turned-back, answers}
 use Rattle.capi.proofs.bpl_step.Statement.{statement}
 use Rattle.capi.proofs.bpl_step.Tie as tie

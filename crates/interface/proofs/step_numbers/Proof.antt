@@ -1,10 +1,10 @@
--- `capi::step_numbers` meets its contract, variant by variant.
+-- `interface::step_numbers` meets its contract, variant by variant.
 -- Assumes nothing.
 use borrow.Author.Needs.{needs}
 use Rattle.search.specs.Scene.{stepOf}
-use Rattle.capi.specs.Interface.{stepNumbers}
-use Rattle.capi.proofs.step_numbers.Statement.{statement}
-use Rattle.capi.proofs.step_numbers.Tie as tie
+use Rattle.interface.specs.Interface.{stepNumbers}
+use Rattle.interface.proofs.step_numbers.Statement.{statement}
+use Rattle.interface.proofs.step_numbers.Tie as tie
 
 enum-told : tie.Need-enum-told
 enum-told c = search needs

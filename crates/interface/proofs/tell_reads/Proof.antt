@@ -1,11 +1,11 @@
--- `capi::tell_reads` meets its contract, arm by arm.
+-- `interface::tell_reads` meets its contract, arm by arm.
 -- Assumes nothing.
 use mathlib.Core.Path.{ap, sym, _∙_}
 use borrow.Author.Needs.{needs}
 use denote.Ref.{now}
-use Rattle.capi.specs.Interface.{toldCode, toldOut}
-use Rattle.capi.proofs.tell_reads.Statement.{statement}
-use Rattle.capi.proofs.tell_reads.Tie as tie
+use Rattle.interface.specs.Interface.{toldCode, toldOut}
+use Rattle.interface.proofs.tell_reads.Statement.{statement}
+use Rattle.interface.proofs.tell_reads.Tie as tie
 
 enum-known-answer : tie.Need-enum-known-answer
 enum-known-answer c = search needs

@@ -1,13 +1,13 @@
--- `capi::write_numbers` meets its contract. The loop's invariant: the numbers passed stand in out.
+-- `interface::write_numbers` meets its contract. The loop's invariant: the numbers passed stand in out.
 -- Assumes nothing.
 use mathlib.Core.Path.{_≡_, refl}
 use Prim.Native.Nat.{_-_, _<_, _≤_}
 use native.Mathlib.Omega.{arith}
 use borrow.Author.Needs.{needs}
 use lib.ListN.{length, length-set}
-use Rattle.capi.proofs.Laws.{Written, written-none, written-more, written-all}
-use Rattle.capi.proofs.write_numbers.Statement.{statement}
-use Rattle.capi.proofs.write_numbers.Tie as tie
+use Rattle.interface.proofs.Laws.{Written, written-none, written-more, written-all}
+use Rattle.interface.proofs.write_numbers.Statement.{statement}
+use Rattle.interface.proofs.write_numbers.Tie as tie
 
 abbrev Inv-loop : tie.InvT-loop
 Inv-loop out₀ numbers i₀ out i = (i ≤ length numbers) × (length out ≡ length out₀) × Written numbers out₀ i out

@@ -62,7 +62,7 @@ stepNumbers (swap racks m n i j) = 1 ∷ swapKind racks ∷ m ∷ n ∷ i ∷ j 
 unfoldable pub runNumbers : RunReply → List ℕ
 runNumbers r = cond (r .rested) 1 0 ∷ r .steps ∷ []
 
--- Of a listing the number of bytes written, of a read the new count, of a popularity the popularity.
+-- Of a listing the number of bytes written, of a conversion the length of the result, of a read the new count, of a popularity the popularity.
 abbrev pub oneNumber : ℕ → List ℕ
 oneNumber n = n ∷ []
 

@@ -1,11 +1,11 @@
--- `capi::reply_numbers` meets its contract, variant by variant.
+-- `interface::reply_numbers` meets its contract, variant by variant.
 -- Assumes nothing.
 use borrow.Author.Needs.{needs}
 use Rattle.script.specs.Script.{replyIs}
-use Rattle.capi.specs.Interface.{replyNumbers}
-use Rattle.capi.proofs.Laws.{stepNumbers-six}
-use Rattle.capi.proofs.reply_numbers.Statement.{statement}
-use Rattle.capi.proofs.reply_numbers.Tie as tie
+use Rattle.interface.specs.Interface.{replyNumbers}
+use Rattle.interface.proofs.Laws.{stepNumbers-six}
+use Rattle.interface.proofs.reply_numbers.Statement.{statement}
+use Rattle.interface.proofs.reply_numbers.Tie as tie
 
 enum-known-reply : tie.Need-enum-known-reply
 enum-known-reply c = search needs
