@@ -72,6 +72,17 @@ pub fn field_at(bytes: &[u8], at: usize, width: usize) -> usize
     value
 }
 
+// The same for a field of one byte or none, without a loop.
+pub fn byte_at(bytes: &[u8], at: usize, width: usize) -> usize
+    requires { ⌜ (at + width ≤ length (now bytes)) × (width ≤ 1) ⌝ }
+    ensures { λ r. ⌜ (r ≡ field (now (bytes .entry)) at width) × (r < 256 ^ width) ⌝ }
+{
+    if width == 0 {
+        return 0;
+    }
+    wide(bytes[at])
+}
+
 // The width of a popularity: three bytes before version 3.
 fn popularity_width(version: usize) -> usize
     ensures { λ r. ⌜ r ≡ formatOf version .popularityWidth ⌝ }

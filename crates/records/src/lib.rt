@@ -15,12 +15,15 @@ ghost use Rattle.records.specs.Records.{RecordIn, RecordsIn, RecordsOf};
 // The most copies of a block.
 const MAX_REPLICAS: usize = 8;
 
-// The popularity of block i.
+// The popularity of block i. With a width that is known to the compiler the bytes are read without a loop.
 pub fn popularity(bytes: &[u8], format: Format, i: usize) -> u64
     requires { ⌜ RecordIn (now bytes) (asFormat format) i ⌝ }
     ensures { λ r. ⌜ (r ≡ blockIn (asFormat format) (now (bytes .entry)) i .popularity) × (r < popularityBound) ⌝ }
 {
     let at = header::record_at(format, i);
+    if format.popularity_width == 3 {
+        return header::field_at(bytes, at, 3) as u64;
+    }
     header::field_at(bytes, at, format.popularity_width) as u64
 }
 
@@ -30,7 +33,7 @@ pub fn min_replicas(bytes: &[u8], format: Format, i: usize) -> usize
     ensures { λ r. ⌜ (r ≡ blockIn (asFormat format) (now (bytes .entry)) i .minReplicas) × (r < 256) ⌝ }
 {
     let at = header::record_at(format, i) + format.popularity_width;
-    header::field_at(bytes, at, format.min_replicas_width)
+    header::byte_at(bytes, at, format.min_replicas_width)
 }
 
 // The spread of block i.
@@ -39,7 +42,7 @@ pub fn min_racks(bytes: &[u8], format: Format, i: usize) -> usize
     ensures { λ r. ⌜ (r ≡ blockIn (asFormat format) (now (bytes .entry)) i .minRacks) × (r < 256) ⌝ }
 {
     let at = header::record_at(format, i) + format.popularity_width + format.min_replicas_width;
-    header::field_at(bytes, at, format.min_racks_width)
+    header::byte_at(bytes, at, format.min_racks_width)
 }
 
 // The pair byte of block i: 0 where the format has none.
@@ -51,7 +54,7 @@ pub fn pair_byte(bytes: &[u8], format: Format, i: usize) -> usize
         + format.popularity_width
         + format.min_replicas_width
         + format.min_racks_width;
-    header::field_at(bytes, at, format.pair_byte_width)
+    header::byte_at(bytes, at, format.pair_byte_width)
 }
 
 // The link of block i to its partner: 2 to the next block, 0 to the preceding one, 1 where it has none.

@@ -16,13 +16,13 @@ add-at c = search needs
 add-at-2 : tie.Need-add-at-2
 add-at-2 c = search needs
 
-field-at-requires : tie.Need-field-at-requires
-field-at-requires c κs = search needs
+byte-at-requires : tie.Need-byte-at-requires
+byte-at-requires c κs = search needs
 
 returns : tie.Need-returns
 unfolding blockIn
 returns c =
-    let r = c .field-at .ensures in
+    let r = c .byte-at .ensures in
     let at = c .before .before .before in
     let format = at .before .before .args .format in (
       rw (← (at .record-at .ensures .0), ← (add-assoc (at .record-at .result) (format .«popularity_width») (format .«min_replicas_width»)))
@@ -31,4 +31,4 @@ returns c =
     )
 
 pub min-racks-spec : {M : Type 1} → statement M
-min-racks-spec = tie.close (tie.spec record-at-requires add-at add-at-2 field-at-requires returns)
+min-racks-spec = tie.close (tie.spec record-at-requires add-at add-at-2 byte-at-requires returns)

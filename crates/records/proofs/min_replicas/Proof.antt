@@ -12,15 +12,15 @@ record-at-requires c κs = search needs
 add-at : tie.Need-add-at
 add-at c = search needs
 
-field-at-requires : tie.Need-field-at-requires
-field-at-requires c κs = search needs
+byte-at-requires : tie.Need-byte-at-requires
+byte-at-requires c κs = search needs
 
 returns : tie.Need-returns
 unfolding blockIn
 returns c =
-    let r = c .field-at .ensures in
+    let r = c .byte-at .ensures in
     let at = c .before .before in
     (rw (← (at .record-at .ensures .0)) (r .0), field-narrow _ _ 1 (r .1) (at .before .before .pre .fits .replicas-max))
 
 pub min-replicas-spec : {M : Type 1} → statement M
-min-replicas-spec = tie.close (tie.spec record-at-requires add-at field-at-requires returns)
+min-replicas-spec = tie.close (tie.spec record-at-requires add-at byte-at-requires returns)

@@ -19,8 +19,8 @@ add-at-2 c = search needs
 add-at-3 : tie.Need-add-at-3
 add-at-3 c = search needs
 
-field-at-requires : tie.Need-field-at-requires
-field-at-requires c κs = search needs
+byte-at-requires : tie.Need-byte-at-requires
+byte-at-requires c κs = search needs
 
 returns : tie.Need-returns
 unfolding blockIn
@@ -32,8 +32,8 @@ returns c =
       ← (at .record-at .ensures .0),
       ← (add-assoc r (format .«popularity_width» + format .«min_replicas_width») (format .«min_racks_width»)),
       ← (add-assoc r (format .«popularity_width») (format .«min_replicas_width»)),
-    ) (c .field-at .ensures .0)
+    ) (c .byte-at .ensures .0)
 
 pub pair-byte-spec : {M : Type 1} → statement M
 pair-byte-spec =
-    tie.close (tie.spec record-at-requires add-at add-at-2 add-at-3 field-at-requires returns)
+    tie.close (tie.spec record-at-requires add-at add-at-2 add-at-3 byte-at-requires returns)
