@@ -25,14 +25,14 @@ use Rattle.theory.proofs.WritingPlan.{reads-written, accepted-fits}
 use Rattle.theory.proofs.Conversion.{converted-length, convertVerdict-judged, convertCall-short, convertCall-refused}
 use Rattle.theorems.specs.Trials.{plan-H, plan-full}
 use Rattle.theorems.specs.Versions.{verdictWith}
-use Rattle.theorems.specs.Conversion.{Taken, Converts, Conversions, wide-H, ConversionExamples}
+use Rattle.theorems.specs.Conversion.{OldPlan, Converts, Conversions, wide-H, ConversionExamples}
 use Rattle.theorems.proofs.Trials.{trials}
 use Rattle.theorems.proofs.Versions.{same-answers}
 use Rattle.theorems.proofs.LongInput.{long-conversion}
 
 -- ── Takes ────────────────────────────────────────────────────────────────────────────────────────
 module _ (bytes : List ℕ) (p : Plan) where
-  taken : convertVerdict bytes ≡ accepted p → Taken bytes p
+  taken : convertVerdict bytes ≡ accepted p → OldPlan bytes p
   unfolding convertVerdict convertRefusal check1 check2 check3 planIn
   taken e =
       let z = verdict-accepted (convertRefusal bytes) (planIn bytes) p e in
@@ -42,7 +42,7 @@ module _ (bytes : List ℕ) (p : Plan) where
       let old = in-range (versionIn bytes) convertedVersion (z3 .0) .1 in
       record { accepts = judge-accepted bytes (z3 .1) ∙ ap accepted (z .1); version-max = subst (λ (q : Plan). q .version ≤ convertedVersion) (z .1) old }
 
-  takes : Taken bytes p → convertVerdict bytes ≡ accepted p
+  takes : OldPlan bytes p → convertVerdict bytes ≡ accepted p
   unfolding check1 check2 formatOf planIn
   takes t =
       let laws = accepted-laws bytes p (t .accepts) in

@@ -13,13 +13,13 @@ use Rattle.theorems.specs.Trials.{plan-H, plan-full}
 use Rattle.theorems.specs.Versions.{SameAnswers}
 
 -- "A converter writes any accepted version 1 or 2 plan as version 3": it takes exactly those.
-pub record Taken (bytes : List ℕ) (p : Plan) : Type 0 where
+pub record OldPlan (bytes : List ℕ) (p : Plan) : Type 0 where
   pub accepts : judge bytes ≡ accepted p
   pub version-max : p .version ≤ convertedVersion
 
 pub record Takes (bytes : List ℕ) (p : Plan) : Type 0 where
-  pub taken : convertVerdict bytes ≡ accepted p → Taken bytes p
-  pub takes : Taken bytes p → convertVerdict bytes ≡ accepted p
+  pub taken : convertVerdict bytes ≡ accepted p → OldPlan bytes p
+  pub takes : OldPlan bytes p → convertVerdict bytes ≡ accepted p
 
 -- "And the result has the same fields, counts, placement and listing": it is accepted, the two plans are equal but for the version, and
 -- every call answers the same. It is shorter than what a program reads at most.
