@@ -9,9 +9,10 @@ use native.Mathlib.Nat.{le-trans}
 use native.Mathlib.Omega.{arith}
 use lib.ListN.{getD}
 use Rattle.order.proofs.Booleans.{bool-cases}
-use Rattle.model.specs.Plan.{Plan, machines, maxReplicas, blockCount, blockOf, pairsNext, pairsBack, isPaired, partner, upper}
+use Rattle.model.specs.Plan.{Plan, machines, blockCount, blockOf, pairsNext, pairsBack, isPaired, partner, upper}
 use Rattle.model.specs.Replication.{FeasibleCounts, share}
 use Rattle.model.specs.Placement.{shareOf}
+use Rattle.theory.specs.Widths.{mostReplicas}
 use Rattle.theory.specs.Refusal.{ValidBlock, Shaped, Valid}
 use Rattle.theory.proofs.Plan.{partner-below, upper-max}
 use Rattle.theory.proofs.Replication.{feasibleCounts-range}
@@ -145,7 +146,7 @@ module _ (p : Plan) (word i : ℕ) (ends : linkIn word ≡ linkOf p i) where
 -- ── demandOf ───────────────────────────────────────────────────────────────────────────────────────────────────────────
 
 -- the numbers of a valid block fit eight bits each
-eight : (n k : ℕ) → n ≤ k → k ≤ maxReplicas → n < 256
+eight : (n k : ℕ) → n ≤ k → k ≤ mostReplicas → n < 256
 eight n k l m = omega arith
 
 module _ (p : Plan) (i : ℕ) (b : ValidBlock p i) where
@@ -200,7 +201,7 @@ module _ (p : Plan) (c : Cluster) (demands : List ℕ) (of : DemandsOf p c deman
 
 -- ── profileOf ──────────────────────────────────────────────────────────────────────────────────────────────────────────
 
-module _ (p : Plan) (count : ℕ → ℕ) (i : ℕ) (b : ValidBlock p i) (few : count i ≤ maxReplicas) where
+module _ (p : Plan) (count : ℕ → ℕ) (i : ℕ) (b : ValidBlock p i) (few : count i ≤ mostReplicas) where
   pub profileOf-share : shareIn (profileOf p count i) ≡ share (blockOf p i .popularity) (count i)
   unfolding profileOf
   profileOf-share = let s = spread-narrow p i b in let k = linkOf-narrow p i in omega arith
@@ -224,7 +225,7 @@ module _ (p : Plan) (count : ℕ → ℕ) (c : Cluster) (profiles : List ℕ) (o
   in-plan : i < blockCount p
   in-plan = rw (cluster-blocks p c (of .cluster)) at l
 
-  count-few : count i ≤ maxReplicas
+  count-few : count i ≤ mostReplicas
   count-few = feasibleCounts-range p count (of .cluster .valid .shaped) counts i in-plan .1
 
   pub profiles-share : shareIn (getD profiles i 0) ≡ share (blockOf p i .popularity) (count i)

@@ -5,10 +5,10 @@ use mathlib.Core.Bool.{cond}
 use mathlib.Core.List.{List}
 use Prim.Native.Nat.{ℕ, _+_, _*_, _-_, _/_, _%_, _<_, _≤_}
 use lib.ListN.{length, getD}
-use Rattle.model.specs.Plan.{Plan, maxReplicas, blockOf, pairsNext, pairsBack, isPaired, partner, upper}
+use Rattle.model.specs.Plan.{Plan, blockOf, pairsNext, pairsBack, isPaired, partner, upper}
 use Rattle.model.specs.Replication.{share}
 use Rattle.model.specs.Placement.{Feasible}
-use Rattle.theory.specs.Widths.{popularityBound, shareBound}
+use Rattle.theory.specs.Widths.{mostReplicas, popularityBound, shareBound}
 use Rattle.cluster.specs.declared.Cluster.{Cluster}
 use Rattle.cluster.specs.Cluster.{InRange, ClusterOf}
 
@@ -70,7 +70,7 @@ pub record DemandInRange (demand : ℕ) : Type 0 where
   pub popularity-narrow : popularityIn demand < popularityBound
   pub least-pos : 1 ≤ leastIn demand
   pub least-most : leastIn demand ≤ mostIn demand
-  pub most-max : mostIn demand ≤ maxReplicas
+  pub most-max : mostIn demand ≤ mostReplicas
 
 -- The link of block i names one of so many blocks.
 pub record Linked (blocks word i : ℕ) : Type 0 where

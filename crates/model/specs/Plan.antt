@@ -1,4 +1,4 @@
--- Document 01, "The plan file", and document 02, U1 and U4: what the bytes of a plan say.
+-- Document 01, "The plan file", and document 02, U1, U4 and U5: what the bytes of a plan say.
 use mathlib.Core.Bool.{Bool, false, cond, _||_}
 use mathlib.Core.List.{List}
 use Prim.Native.Nat.{ℕ, zero, suc, _+_, _*_, _-_, _/_, min}
@@ -73,12 +73,15 @@ isPaired p i = pairsNext p i || pairsBack p i
 unfoldable pub partner : Plan → ℕ → ℕ
 partner p i = cond (pairsNext p i) (suc i) (i - 1)
 
--- The upper count of block i: the smaller of 8 and M, of a paired one of 8 and half of M rounded down.
-abbrev pub maxReplicas : ℕ
-maxReplicas = 8
+-- The most copies of a block in a version: 8, from version 3 on 10.
+unfoldable pub maxReplicas : ℕ → ℕ
+maxReplicas version = cond (ltb version 3) 8 10
 
+-- The upper count of block i: the smaller of the most copies and M, of a paired one of the most copies and half of M rounded down.
 unfoldable pub upper : Plan → ℕ → ℕ
-upper p i = min maxReplicas (cond (isPaired p i) (machines p / 2) (machines p))
+upper p i =
+    let most = maxReplicas (p .version) in
+    cond (isPaired p i) (min most (machines p / 2)) (min most (machines p))
 
 -- The sum of the least copies.
 unfoldable pub minTotal : Plan → ℕ

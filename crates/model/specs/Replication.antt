@@ -1,4 +1,4 @@
--- Document 01, "Counts and shares". A block's count is its replication factor.
+-- Document 01, "Counts and shares", and document 02, U5. A block's count is its replication factor.
 use mathlib.Core.Bool.{Bool, _&&_}
 use Prim.Native.Nat.{ℕ, suc, _+_, _*_, _-_, _/_, _<_, _≤_, min}
 use lib.Dec.{leb}
@@ -16,9 +16,9 @@ pub record FeasibleCounts (p : Plan) (count : ℕ → ℕ) : Type 0 where
   pub at-most : (i : ℕ) → i < blockCount p → count i ≤ upper p i
   pub in-limit : sum (blockCount p) count ≤ limit p
 
--- The units in a read, and the share of a copy: P × 840 / count.
+-- The units in a read, which 1 to 10 divide, and the share of a copy: P × 2520 / count.
 abbrev pub unit : ℕ
-unit = 840
+unit = 2520
 
 unfoldable pub share : ℕ → ℕ → ℕ
 share popularity count = popularity * unit / count

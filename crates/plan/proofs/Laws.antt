@@ -77,6 +77,10 @@ module _ (bytes : List ℕ) (h : Header) (of : HeaderOf bytes h) where
   pub planIn-blocks : h .cluster .blocks ≡ blockCount (planIn bytes)
   planIn-blocks = sym (planOf-blocks bytes h) ∙ ap blockCount (of .held)
 
+  pub planIn-version : h .version ≡ planIn bytes .version
+  unfolding planOf
+  planIn-version = ap (λ (p : Plan). p .version) (of .held)
+
   pub planIn-racks : h .cluster .racks ≡ domains (planIn bytes)
   unfolding planOf
   planIn-racks = ap domains (of .held)

@@ -33,7 +33,7 @@ fn scan_records(bytes: &[u8], h: Header) -> Records
     while i < cluster.blocks {
         let least = records::min_replicas(bytes, format, i);
         let spread = records::min_racks(bytes, format, i);
-        let most = records::upper_count(cluster, records::link(bytes, format, i));
+        let most = records::upper_count(h.version, cluster, records::link(bytes, format, i));
         let code = records::block_refusal(most, cluster.racks, least, spread);
         if code != 0 {
             return Records::Fault(code);
@@ -122,7 +122,7 @@ pub fn decode(bytes: &[u8], h: Header, demands: &mut [u64])
             records::popularity(bytes, format, i),
             records::min_replicas(bytes, format, i),
             records::min_racks(bytes, format, i),
-            records::upper_count(cluster, linked),
+            records::upper_count(h.version, cluster, linked),
             linked,
         );
         i += 1;

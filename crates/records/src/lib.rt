@@ -4,16 +4,13 @@ use header::Format;
 ghost use mathlib.Core.Path.{_≡_};
 ghost use mathlib.Core.Bool.{cond};
 ghost use Prim.Native.Nat.{ℕ, _/_, _<_, _≤_};
-ghost use Rattle.model.specs.Plan.{Plan, machines, blockCount, isPaired, upper, blockIn};
+ghost use Rattle.model.specs.Plan.{Plan, machines, blockCount, isPaired, maxReplicas, upper, blockIn};
 ghost use Rattle.model.specs.Refusal.{maxMachines, check8, check9, alike, pairRefusal};
-ghost use Rattle.theory.specs.Widths.{popularityBound};
+ghost use Rattle.theory.specs.Widths.{mostReplicas, popularityBound};
 ghost use Rattle.cluster.specs.Cluster.{machinesIn, InRange};
 ghost use Rattle.cluster.specs.Blocks.{linkOf};
 ghost use Rattle.header.specs.Format.{asFormat};
 ghost use Rattle.records.specs.Records.{RecordIn, RecordsIn, RecordsOf};
-
-// The most copies of a block.
-const MAX_REPLICAS: usize = 8;
 
 // The popularity of block i. With a width that is known to the compiler the bytes are read without a loop.
 pub fn popularity(bytes: &[u8], format: Format, i: usize) -> u64
@@ -90,16 +87,28 @@ fn machines_for(cluster: Cluster, link: usize) -> usize
     machines / 2
 }
 
-// The upper count of a block with this link: the smaller of 8 and the machines that it can use.
-pub fn upper_count(cluster: Cluster, link: usize) -> usize
-    requires { ⌜ InRange cluster ⌝ }
-    ensures { λ r. ⌜ ((p : Plan) (i : ℕ) → machinesIn cluster ≡ machines p → link ≡ linkOf p i → r ≡ upper p i) × (r < 256) ⌝ }
+// The most copies of a block in a version.
+fn max_replicas(version: usize) -> usize
+    ensures { λ r. ⌜ (r ≡ maxReplicas version) × (r ≤ mostReplicas) ⌝ }
 {
+    if version < 3 {
+        return 8;
+    }
+    10
+}
+
+// The upper count of a block with this link: the smaller of the version's most copies and the machines that it can use.
+pub fn upper_count(version: usize, cluster: Cluster, link: usize) -> usize
+    requires { ⌜ InRange cluster ⌝ }
+    ensures { λ r. ⌜ ((p : Plan) (i : ℕ) → version ≡ p .version → machinesIn cluster ≡ machines p → link ≡ linkOf p i
+        → r ≡ upper p i) × (r < 256) ⌝ }
+{
+    let most = max_replicas(version);
     let machines = machines_for(cluster, link);
-    if machines < MAX_REPLICAS {
+    if machines < most {
         return machines;
     }
-    MAX_REPLICAS
+    most
 }
 
 // Checks 8 and 9 of one block; 0 where both pass.

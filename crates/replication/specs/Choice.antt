@@ -6,11 +6,11 @@ use Prim.Native.Nat.{ℕ, suc, _*_, _-_, _^_, _<_, _≤_}
 use lib.ListN.{getD}
 use Rattle.order.specs.Sum.{sum}
 use Rattle.order.specs.Table.{filled}
-use Rattle.model.specs.Plan.{Plan, maxReplicas, blockCount, blockOf, upper, minTotal}
+use Rattle.model.specs.Plan.{Plan, blockCount, blockOf, upper, minTotal}
 use Rattle.model.specs.Refusal.{maxMachines, maxCapacity, maxBlocks}
 use Rattle.model.specs.Replication.{limit as limitOf, unit, share, largestShare, need, reachable, chosen}
 use Rattle.theory.specs.Refusal.{Valid}
-use Rattle.theory.specs.Widths.{popularityBound, shareBound}
+use Rattle.theory.specs.Widths.{mostReplicas, popularityBound, shareBound}
 use Rattle.cluster.specs.declared.Cluster.{Cluster}
 use Rattle.cluster.specs.Blocks.{popularityIn, leastIn, mostIn, DemandInRange, DemandsFit, DemandsOf, profileOf, ProfilesFit}
 use Rattle.replication.specs.declared.Fraction.{Fraction}
@@ -23,7 +23,7 @@ use Rattle.replication.specs.declared.Tally.{Tally}
 pub record FractionFits (f : Fraction) : Type 0 where
   pub popularity-max : f .popularity ≤ popularityBound
   pub count-pos : 1 ≤ f .count
-  pub count-max : f .count ≤ maxReplicas
+  pub count-max : f .count ≤ mostReplicas
 
 abbrev pub shareAt : Fraction → ℕ
 shareAt f = share (f .popularity) (f .count)
@@ -72,7 +72,7 @@ pub record FigureAsked (c : Cluster) (demands : List ℕ) (wanted : ℕ) : Type 
 
 -- The needs at a figure: what holds of their numbers, and what they say of plan p.
 pub record TallyFits (c : Cluster) (wanted : ℕ) (t : Tally) : Type 0 where
-  pub total-max : t .total ≤ maxReplicas * c .blocks
+  pub total-max : t .total ≤ mostReplicas * c .blocks
   pub fewer-max : t .fewer ≤ t .total
   pub next-above : wanted < t .next
 
@@ -120,7 +120,7 @@ pub record NarrowAsked (b : Bracket) (wanted : ℕ) (t : Tally) (limit : ℕ) : 
   pub low-max : b .low ≤ wanted
   pub wanted-less : wanted < b .high
   pub next-above : wanted < t .next
-  pub fewer-max : t .fewer ≤ maxReplicas * maxBlocks
+  pub fewer-max : t .fewer ≤ mostReplicas * maxBlocks
   pub limit-max : limit ≤ maxMachines * maxCapacity
 
 -- What is left after it.

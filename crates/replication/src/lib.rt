@@ -9,7 +9,7 @@ ghost use Rattle.cluster.specs.Blocks.{DemandsFit, DemandsOf};
 ghost use Rattle.replication.specs.Choice.{FractionFits, shareAt, NextAsked, NextAs, ScaleOf, NeedAsked, NeedOf, FigureAsked, TallyFits, TallyOf, ExtentFits, ExtentOf, BracketAsked, BracketFits, NarrowAsked, NarrowedTo, LimitedDemands, ChooseAsked, FigureOf, ChosenAs};
 
 // The units in a read.
-const UNIT: u64 = 840;
+const UNIT: u64 = 2520;
 
 // Estimates are reckoned in parts of a copy, 2^48 to one copy: these, and the units in a read times these.
 const PARTS: u64 = 281474976710656;

@@ -5,13 +5,14 @@ use mathlib.Core.Path.{_≡_, refl, ap, sym, subst, _∙_}
 use mathlib.Core.Bool.{not, _||_}
 use mathlib.Core.List.{List, []}
 use Prim.Native.Nat.{ℕ, _≤_}
+use native.Mathlib.Nat.{le-trans}
 use native.Mathlib.Omega.{arith}
 use borrow.Author.Tests.{le-ltb}
 use lib.Dec.{ltb, eqb, lit<}
 use lib.ListN.{length}
 use Rattle.order.specs.Table.{table, joined}
 use Rattle.order.proofs.Booleans.{in-range, cond-all}
-use Rattle.model.specs.Plan.{Block, Plan, blockCount, blockOf, commonLength, minTotal, upper, isPaired, pairsBack, pairsNext, field, markIn, versionIn, formatOf, blockIn, planIn}
+use Rattle.model.specs.Plan.{Block, Plan, machines, blockCount, blockOf, commonLength, minTotal, maxReplicas, isPaired, pairsBack, pairsNext, field, markIn, versionIn, formatOf, blockIn, planIn}
 use Rattle.model.specs.Refusal.{mark, maxBlocks, check1, check2, check3, accepted, judge}
 use Rattle.model.specs.Calls.{refuse, onPlan}
 use Rattle.model.specs.Listing.{inputRoom}
@@ -19,7 +20,7 @@ use Rattle.model.specs.Writing.{bytesOf, headerBytes, recordBytes, planBytes}
 use Rattle.model.specs.Conversion.{convertedVersion, writtenVersion, withVersion, converted, convertRefusal, convertVerdict, convertCall}
 use Rattle.theory.specs.Refusal.{Valid}
 use Rattle.theory.specs.Writing.{AreBytes, BlockFits, PlanFits}
-use Rattle.theory.proofs.Plan.{field-narrow, formatOf-longest}
+use Rattle.theory.proofs.Plan.{maxReplicas-most, upper-grows, field-narrow, formatOf-longest}
 use Rattle.theory.proofs.Refusal.{refuseIf-zero, check3-read, verdict-accepted, accepted-laws, accepted-mark, judge-accepted}
 use Rattle.theory.proofs.WritingPlan.{reads-written, accepted-fits}
 use Rattle.theory.proofs.Conversion.{converted-length, convertVerdict-judged, convertCall-short, convertCall-refused}
@@ -27,7 +28,7 @@ use Rattle.theorems.specs.Trials.{plan-H, plan-full}
 use Rattle.theorems.specs.Versions.{verdictWith}
 use Rattle.theorems.specs.Conversion.{OldPlan, Converts, Conversions, wide-H, ConversionExamples}
 use Rattle.theorems.proofs.Trials.{trials}
-use Rattle.theorems.proofs.Versions.{same-answers}
+use Rattle.theorems.proofs.Versions.{limits, same-answers}
 use Rattle.theorems.proofs.LongInput.{long-conversion}
 
 -- ── Takes ────────────────────────────────────────────────────────────────────────────────────────
@@ -60,10 +61,14 @@ module _ (bytes : List ℕ) (p : Plan) where
       ∙ t .accepts
 
 -- ── Converts ─────────────────────────────────────────────────────────────────────────────────────
--- what the rows leave of a plan does not go by its version
-valid-free : (version : ℕ) (p : Plan) → Valid p → Valid (withVersion version p)
-unfolding upper isPaired pairsBack pairsNext minTotal
-valid-free version p v =
+-- a valid plan is valid in the version that is written, which allows no fewer copies
+written-limit : (version : ℕ) → maxReplicas version ≤ maxReplicas writtenVersion
+unfolding maxReplicas
+written-limit = maxReplicas-most
+
+written-valid : (p : Plan) → Valid p → Valid (withVersion writtenVersion p)
+unfolding isPaired pairsBack pairsNext minTotal
+written-valid p v =
     let s = v .shaped in
     record {
       shaped =
@@ -76,7 +81,7 @@ valid-free version p v =
             blocks-max = s .blocks-max;
             block = λ i l.
                 let b = s .block i l in
-                record { min-pos = b .min-pos; min-upper = b .min-upper; racks-pos = b .racks-pos; racks-min = b .racks-min; racks-all = b .racks-all };
+                record { min-pos = b .min-pos; min-upper = le-trans (b .min-upper) (upper-grows p writtenVersion (written-limit (p .version)) i); racks-pos = b .racks-pos; racks-min = b .racks-min; racks-all = b .racks-all };
             pair = λ i l.
                 let q = s .pair i l in
                 record {
@@ -120,13 +125,16 @@ converts : (bytes : List ℕ) → AreBytes bytes → (p : Plan) → convertVerdi
 unfolding converted inputRoom
 converts bytes each p e =
     let old = taken bytes p e .accepts in
-    let valid = accepted-laws bytes p old .valid in
+    let laws = accepted-laws bytes p old in
+    let valid = laws .valid in
     let new : judge (converted p) ≡ accepted (withVersion writtenVersion p) =
-    reads-written (withVersion writtenVersion p) (valid-free writtenVersion p valid) (written-fits p (accepted-fits bytes each p old)) in
+    reads-written (withVersion writtenVersion p) (written-valid p valid) (written-fits p (accepted-fits bytes each p old)) in
     let longest = formatOf-longest writtenVersion (blockCount p) maxBlocks (valid .shaped .blocks-max) in
     record {
       accepts = new;
-      same = same-answers writtenVersion bytes (converted p) (new ∙ sym (ap (verdictWith writtenVersion) old));
+      same = λ few.
+          same-answers writtenVersion bytes (converted p) (new ∙ sym (ap (verdictWith writtenVersion) old))
+          (λ q accepts. limits .few (q .version) writtenVersion (machines q) (subst (λ (r : Plan). machines r ≤ 8) (laws .held ∙ sym (accepted-laws bytes q accepts .held)) few));
       fits = omega (arith, converted-length p);
     }
 

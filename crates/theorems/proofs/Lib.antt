@@ -18,3 +18,4 @@ pub mod Ties
 pub mod Listing
 pub mod LongInput
 pub mod Conversion
+pub mod NotKept

@@ -8,8 +8,8 @@ use lib.ListN.{length, getD}
 use Rattle.order.specs.Sum.{sum}
 use Rattle.order.specs.Table.{table, joined}
 use Rattle.order.specs.Search.{firstUp, least, allb, largest, smallest}
-use Rattle.model.specs.Plan.{Plan, blockCount, blockOf, upper, minTotal, versionIn, field, formatOf, formatIn, recordAt, blockIn, planIn, isPaired, pairsBack, pairsNext, partner}
-use Rattle.model.specs.Refusal.{check1, refusal, Verdict, judge}
+use Rattle.model.specs.Plan.{Plan, blockCount, blockOf, maxReplicas, upper, minTotal, versionIn, field, formatOf, formatIn, recordAt, blockIn, planIn, isPaired, pairsBack, pairsNext, partner}
+use Rattle.model.specs.Refusal.{check1, refusal, Verdict, accepted, judge}
 use Rattle.model.specs.Replication.{limit, share, need, chosen}
 use Rattle.model.specs.Placement.{bit, replicas, replicasIn, domainsUsed, used, allWithin, allSpread, allFit, countsFeasible, isFeasible, position, laidWord, firstWord, firstPlacement, shareOf, load, maxLoad, minLoad, totalLoad, maxShare, allApart, keptApart}
 use Rattle.model.specs.Steps.{shifted, afterMove, afterSwap, after, improves, canMove, canSwap, routes, nextMove, nextSwap, nextStep, Run, run}
@@ -25,24 +25,27 @@ use Rattle.theorems.specs.Listing.{listing-H, listing-empty, ListingLaws
 use Rattle.theorems.proofs.Trials.{figures, trials}
 
 -- the lines of a run
-runLines : Plan → Run → List ℕ
+unfoldable pub runLines : Plan → Run → List ℕ
 runLines p r = planLine p ++ joined (blockCount p) (blockLine p (r .words)) ++ lastLine p r
+
+-- what is printed, from the first placement and the run that starts there
+pub printed-run : (bytes words text : List ℕ) → judge bytes ≡ accepted (planIn bytes) → firstPlacement (planIn bytes) ≡ words
+    → runLines (planIn bytes) (run (planIn bytes) stepLimit words) ≡ text
+    → printed bytes stepLimit ≡ text
+unfolding printed printedOf listingOf runLines
+printed-run bytes words text accepts first lines =
+    ap (λ (v : Verdict). printedOf v stepLimit) accepts
+    ∙ ap (λ (w : List ℕ). runLines (planIn bytes) (run (planIn bytes) stepLimit w)) first
+    ∙ lines
 
 -- plan H's first placement, at rest
 H-first : firstPlacement (planIn plan-H) ≡ 15 ∷ 5 ∷ 2 ∷ []
-unfolding firstPlacement planIn blockIn formatOf field upper isPaired pairsBack pairsNext chosen position laidWord firstWord need share sum table least plan-H
+unfolding firstPlacement planIn blockIn formatOf field upper maxReplicas isPaired pairsBack pairsNext chosen position laidWord firstWord need share sum table least plan-H
 H-first = rw (figures .H) refl
 
 H-lines : runLines (planIn plan-H) (run (planIn plan-H) stepLimit (15 ∷ 5 ∷ 2 ∷ [])) ≡ listing-H
-unfolding runLines lastLine planLine blockLine joined holders line fields numberField decimal digits reportOf maxLoad minLoad totalLoad maxShare planIn blockIn formatOf field upper isPaired pairsBack pairsNext minTotal shifted afterMove afterSwap after improves canMove canSwap routes nextMove nextSwap nextStep run bit replicas replicasIn domainsUsed used allWithin allSpread allFit allApart keptApart partner countsFeasible isFeasible shareOf load largest smallest share limit sum table allb firstUp plan-H listing-H
+unfolding runLines lastLine planLine blockLine joined holders line fields numberField decimal digits reportOf maxLoad minLoad totalLoad maxShare planIn blockIn formatOf field upper maxReplicas isPaired pairsBack pairsNext minTotal shifted afterMove afterSwap after improves canMove canSwap routes nextMove nextSwap nextStep run bit replicas replicasIn domainsUsed used allWithin allSpread allFit allApart keptApart partner countsFeasible isFeasible shareOf load largest smallest share limit sum table allb firstUp plan-H listing-H
 H-lines = refl
-
-H-printed : printed plan-H stepLimit ≡ listing-H
-unfolding printed printedOf listingOf runLines
-H-printed =
-    ap (λ (v : Verdict). printedOf v stepLimit) (trials .H-accepted)
-    ∙ ap (λ (words : List ℕ). runLines (planIn plan-H) (run (planIn plan-H) stepLimit words)) H-first
-    ∙ H-lines
 
 empty-printed : (budget : ℕ) → printed [] budget ≡ listing-empty
 unfolding printed printedOf refusedLine line fields numberField decimal digits judge refusal check1 listing-empty
@@ -59,7 +62,7 @@ share-fits bytes h count i l =
 pub listing-laws : ListingLaws
 listing-laws =
     record {
-      H = H-printed;
+      H = printed-run plan-H _ _ (trials .H-accepted) H-first H-lines;
       empty = empty-printed;
       fits = λ bytes h budget l. go bytes h budget l (refusal bytes) refl (refusal-le bytes);
     }

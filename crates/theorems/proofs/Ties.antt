@@ -11,7 +11,7 @@ use Rattle.order.specs.Sum.{sum}
 use Rattle.order.specs.Table.{table}
 use Rattle.order.specs.Search.{firstUp, least, allb, largest}
 use Rattle.order.proofs.Extremes.{largest-term, sum-largest}
-use Rattle.model.specs.Plan.{blockCount, blockOf, upper, minTotal, field, formatOf, blockIn, planIn, isPaired, pairsBack, pairsNext, partner}
+use Rattle.model.specs.Plan.{blockCount, blockOf, maxReplicas, upper, minTotal, field, formatOf, blockIn, planIn, isPaired, pairsBack, pairsNext, partner}
 use Rattle.model.specs.Refusal.{check1, check2, check3, check4, check5, check6, check7, check8, check9, blockRefusal, blocksRefusal, check10, check11, check12, planRefusal, refusal, judge, accepted, pairsRefusal, pairRefusal, check17, alike}
 use Rattle.model.specs.Replication.{limit, unit, share, need, reachable, figure, chosen}
 use Rattle.model.specs.Placement.{bit, replicas, replicasIn, domainsUsed, used, Feasible, allWithin, allSpread, allFit, countsFeasible, isFeasible, shareOf, load, maxLoad, totalLoad, allApart, keptApart}
@@ -29,30 +29,30 @@ use Rattle.theorems.specs.Ties.{plan-tied, tied, sixes, fours, Ties}
 use Rattle.theorems.proofs.TotalLoad.{loads-total}
 
 accepts : judge plan-tied ≡ accepted tied
-unfolding judge refusal check1 check2 check3 check4 check5 check6 check7 planRefusal blocksRefusal blockRefusal check8 check9 pairsRefusal pairRefusal check17 alike check10 check11 planIn blockIn formatOf field upper isPaired pairsBack pairsNext minTotal sum table firstUp plan-tied
+unfolding judge refusal check1 check2 check3 check4 check5 check6 check7 planRefusal blocksRefusal blockRefusal check8 check9 pairsRefusal pairRefusal check17 alike check10 check11 planIn blockIn formatOf field upper maxReplicas isPaired pairsBack pairsNext minTotal sum table firstUp plan-tied
 accepts = refl
 
 valid : Valid tied
 valid = accepted-laws plan-tied tied accepts .valid
 
 -- the figure is one read, which twelve copies reach
-figure-tied : figure tied ≡ 840
-unfolding reachable need share limit upper isPaired pairsBack pairsNext sum least allb
-figure-tied = figure-at tied valid 839 refl refl
+figure-tied : figure tied ≡ 2520
+unfolding reachable need share limit upper maxReplicas isPaired pairsBack pairsNext sum least allb
+figure-tied = figure-at tied valid 2519 refl refl
 
 passes : placementRefusal sixes tied ≡ 0
-unfolding placementRefusal allCounted check12 allWithin allSpread allFit allApart keptApart partner used replicas replicasIn domainsUsed chosen need share upper isPaired pairsBack pairsNext bit sum least allb
+unfolding placementRefusal allCounted check12 allWithin allSpread allFit allApart keptApart partner used replicas replicasIn domainsUsed chosen need share upper maxReplicas isPaired pairsBack pairsNext bit sum least allb
 passes = rw figure-tied refl
 
 feasible : Feasible tied (chosen tied) sixes
 feasible = placementRefusal-feasible tied valid sixes passes
 
 -- the loads, in units
-hot0 : load tied sixes 0 ≡ 5040
+hot0 : load tied sixes 0 ≡ 15120
 unfolding load shareOf share replicas bit sum
 hot0 = refl
 
-hot1 : load tied sixes 1 ≡ 5040
+hot1 : load tied sixes 1 ≡ 15120
 unfolding load shareOf share replicas bit sum
 hot1 = refl
 
@@ -107,11 +107,11 @@ best count words f = omega (arith, loads-total tied valid count words f, twelve,
 
 -- the run, on the plan's fields: five steps, and then no step is left
 rest-tied : nextStep tied fours ≡ none
-unfolding shifted afterMove afterSwap improves canMove canSwap routes nextMove nextSwap nextStep bit replicas replicasIn domainsUsed used allWithin allSpread allFit allApart keptApart partner countsFeasible isFeasible shareOf load share limit upper isPaired pairsBack pairsNext sum firstUp allb
+unfolding shifted afterMove afterSwap improves canMove canSwap routes nextMove nextSwap nextStep bit replicas replicasIn domainsUsed used allWithin allSpread allFit allApart keptApart partner countsFeasible isFeasible shareOf load share limit upper maxReplicas isPaired pairsBack pairsNext sum firstUp allb
 rest-tied = refl
 
 run-tied : (more : ℕ) → run tied (suc (suc (suc (suc (suc more))))) sixes ≡ record { rested = true; steps = 5; words = fours }
-unfolding shifted afterMove afterSwap after improves canMove canSwap routes nextMove nextSwap nextStep run bit replicas replicasIn domainsUsed used allWithin allSpread allFit allApart keptApart partner countsFeasible isFeasible shareOf load share limit upper isPaired pairsBack pairsNext sum firstUp allb
+unfolding shifted afterMove afterSwap after improves canMove canSwap routes nextMove nextSwap nextStep run bit replicas replicasIn domainsUsed used allWithin allSpread allFit allApart keptApart partner countsFeasible isFeasible shareOf load share limit upper maxReplicas isPaired pairsBack pairsNext sum firstUp allb
 run-tied more =
     ap (λ (r : Run). record { rested = r .rested; steps = suc (suc (suc (suc (suc (r .steps))))); words = r .words }) (run-none tied fours more rest-tied)
 
@@ -121,7 +121,7 @@ run-enough budget l =
     rw split at (run-tied (budget - 5))
 
 pub ties : Ties
-unfolding checkCall stepCall runCall onPlacement shifted afterMove afterSwap after improves canMove canSwap routes nextMove nextSwap nextStep bit replicas replicasIn domainsUsed used allWithin allSpread allFit allApart keptApart partner countsFeasible isFeasible shareOf load maxLoad share limit upper isPaired pairsBack pairsNext sum table firstUp allb largest
+unfolding checkCall stepCall runCall onPlacement shifted afterMove afterSwap after improves canMove canSwap routes nextMove nextSwap nextStep bit replicas replicasIn domainsUsed used allWithin allSpread allFit allApart keptApart partner countsFeasible isFeasible shareOf load maxLoad share limit upper maxReplicas isPaired pairsBack pairsNext sum table firstUp allb largest
 ties =
     record {
       accepts = accepts;

@@ -19,7 +19,7 @@ unfolding replicas
 block-load p words i =
     sum-scale (machines p) (shareOf p words i) (bit (wordOf words i)) ∙ mul-comm (shareOf p words i) _
 
--- Summed over the blocks first, a block with count k has k times its share, which is 840 times its popularity, as shares are exact.
+-- Summed over the blocks first, a block with count k has k times its share, which is 2520 times its popularity, as shares are exact.
 pub loads-total : LoadsTotal
 unfolding totalLoad load shareOf
 loads-total p valid count words feasible =

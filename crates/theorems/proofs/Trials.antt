@@ -8,7 +8,7 @@ use lib.ListN.{set}
 use Rattle.order.specs.Sum.{sum}
 use Rattle.order.specs.Table.{table, filled}
 use Rattle.order.specs.Search.{firstUp, least, allb, largest}
-use Rattle.model.specs.Plan.{upper, minTotal, field, formatOf, blockIn, planIn, isPaired, pairsBack, pairsNext, partner}
+use Rattle.model.specs.Plan.{maxReplicas, upper, minTotal, field, formatOf, blockIn, planIn, isPaired, pairsBack, pairsNext, partner}
 use Rattle.model.specs.Refusal.{check1, check2, check3, check4, check5, check6, check7, check8, check9, blockRefusal, blocksRefusal, check10, check11, check12, planRefusal, refusal, judge, pairsRefusal, pairRefusal, check17, alike}
 use Rattle.model.specs.Replication.{limit, share, largestShare, need, reachable, figure, chosen}
 use Rattle.model.specs.Placement.{bit, replicas, replicasIn, domainsUsed, used, allWithin, allSpread, allFit, countsFeasible, isFeasible, position, laidWord, firstWord, shareOf, load, allApart, keptApart}
@@ -24,25 +24,25 @@ pub figure-of : (bytes : List ℕ) (f : ℕ) → refusal bytes ≡ 0 → reachab
 figure-of bytes f passes = figure-at (planIn bytes) (refusal-zero bytes passes) f
 
 pub record Figures : Type 0 where
-  pub H : figure (planIn plan-H) ≡ 2520
-  pub H4 : figure (planIn (set plan-H 12 4)) ≡ 5040
-  pub full2 : figure (planIn (set plan-full 8 2)) ≡ 840
-  pub Y : figure (planIn plan-Y) ≡ 3360
-  pub Z : figure (planIn plan-Z) ≡ 4200
+  pub H : figure (planIn plan-H) ≡ 7560
+  pub H4 : figure (planIn (set plan-H 12 4)) ≡ 15120
+  pub full2 : figure (planIn (set plan-full 8 2)) ≡ 2520
+  pub Y : figure (planIn plan-Y) ≡ 10080
+  pub Z : figure (planIn plan-Z) ≡ 12600
 
 pub figures : Figures
-unfolding refusal check1 check2 check3 check4 check5 check6 check7 planRefusal blocksRefusal blockRefusal check8 check9 pairsRefusal pairRefusal check17 alike check10 check11 planIn blockIn formatOf field upper isPaired pairsBack pairsNext minTotal reachable need share limit sum table least allb firstUp plan-H plan-full plan-Y plan-Z
+unfolding refusal check1 check2 check3 check4 check5 check6 check7 planRefusal blocksRefusal blockRefusal check8 check9 pairsRefusal pairRefusal check17 alike check10 check11 planIn blockIn formatOf field upper maxReplicas isPaired pairsBack pairsNext minTotal reachable need share limit sum table least allb firstUp plan-H plan-full plan-Y plan-Z
 figures =
     record {
-      H = figure-of plan-H 2519 refl refl refl;
-      H4 = figure-of (set plan-H 12 4) 5039 refl refl refl;
-      full2 = figure-of (set plan-full 8 2) 839 refl refl refl;
-      Y = figure-of plan-Y 3359 refl refl refl;
-      Z = figure-of plan-Z 4199 refl refl refl;
+      H = figure-of plan-H 7559 refl refl refl;
+      H4 = figure-of (set plan-H 12 4) 15119 refl refl refl;
+      full2 = figure-of (set plan-full 8 2) 2519 refl refl refl;
+      Y = figure-of plan-Y 10079 refl refl refl;
+      Z = figure-of plan-Z 12599 refl refl refl;
     }
 
 pub trials : Trials
-unfolding countsCall firstCall stepCall runCall onPlan unless onPlacement placementRefusal allCounted judge refusal check1 check2 check3 check4 check5 check6 check7 planRefusal blocksRefusal blockRefusal check8 check9 pairsRefusal pairRefusal check17 alike check10 check11 planIn blockIn formatOf field upper isPaired pairsBack pairsNext minTotal check12 chosen largestShare position laidWord firstWord shifted afterMove afterSwap after improves canMove canSwap routes nextMove nextSwap nextStep run bit replicas replicasIn domainsUsed used allWithin allSpread allFit allApart keptApart partner countsFeasible isFeasible shareOf load filled largest need share limit sum table least allb firstUp plan-H plan-full plan-Y plan-Z
+unfolding countsCall firstCall stepCall runCall onPlan unless onPlacement placementRefusal allCounted judge refusal check1 check2 check3 check4 check5 check6 check7 planRefusal blocksRefusal blockRefusal check8 check9 pairsRefusal pairRefusal check17 alike check10 check11 planIn blockIn formatOf field upper maxReplicas isPaired pairsBack pairsNext minTotal check12 chosen largestShare position laidWord firstWord shifted afterMove afterSwap after improves canMove canSwap routes nextMove nextSwap nextStep run bit replicas replicasIn domainsUsed used allWithin allSpread allFit allApart keptApart partner countsFeasible isFeasible shareOf load filled largest need share limit sum table least allb firstUp plan-H plan-full plan-Y plan-Z
 trials =
     record {
       H-accepted = refl;

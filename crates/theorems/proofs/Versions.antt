@@ -1,41 +1,89 @@
 -- A plan answers as the plan with the same fields in another version: the two read as plans that are equal but for the version, and no
 -- definition above the reading looks at it.
 -- Assumes nothing.
-use mathlib.Core.Path.{_≡_, refl, sym, _∙_}
+use mathlib.Core.Path.{_≡_, refl, ap, ap₂, sym, fun-ext, _∙_}
+use mathlib.Core.Bool.{_&&_}
 use mathlib.Core.List.{List}
-use Prim.Native.Nat.{ℕ, zero, suc}
+use Prim.Native.Nat.{ℕ, zero, suc, _*_, _/_, _≤_, min}
 use native.Mathlib.Omega.{arith}
 use borrow.Author.Tests.{le-ltb, eq-eqb}
+use lib.Dec.{ltb, leb, eqb}
 use lib.ListN.{length}
+use Rattle.order.specs.Sum.{sum}
+use Rattle.order.specs.Search.{allb}
+use Rattle.order.proofs.Booleans.{cond-all}
 use Rattle.order.proofs.Tables.{table-cong}
-use Rattle.model.specs.Plan.{Plan, upper, isPaired, pairsBack, pairsNext, partner, minTotal, markIn, versionIn, racksIn, rackSizeIn, capacityIn, blockCountIn, latestVersion, formatOf, recordAt, blockIn, planIn}
+use Rattle.model.specs.Plan.{Plan, machines, blockCount, maxReplicas, upper, isPaired, pairsBack, pairsNext, partner, minTotal, markIn, versionIn, racksIn, rackSizeIn, capacityIn, blockCountIn, latestVersion, formatOf, recordAt, blockIn, planIn}
 use Rattle.model.specs.Refusal.{check1, check2, check4, check5, check6, check7, blockRefusal, blocksRefusal, pairRefusal, pairsRefusal, planRefusal, refusal, Verdict, refused, accepted, verdict, judge}
 use Rattle.model.specs.Replication.{limit, largestShare, need, reachable, figure, chosen}
-use Rattle.model.specs.Placement.{replicas, replicasIn, domainsUsed, used, allWithin, allSpread, allFit, keptApart, allApart, countsFeasible, isFeasible, position, laidWord, firstWord, firstPlacement, shareOf, load, maxLoad, minLoad, totalLoad, maxShare}
+use Rattle.model.specs.Placement.{countOf, replicas, replicasIn, domainsUsed, used, allWithin, allSpread, allFit, keptApart, allApart, countsFeasible, isFeasible, position, laidWord, firstWord, firstPlacement, shareOf, load, maxLoad, minLoad, totalLoad, maxShare}
 use Rattle.model.specs.Steps.{after, improves, canMove, canSwap, routes, nextMove, nextSwap, nextStep, run}
 use Rattle.model.specs.Calls.{Outcome, onPlan, bufferRefusal, allCounted, placementRefusal, onPlacement, reportOf, countsCall, firstCall, checkCall, reportCall, stepCall, runCall}
 use Rattle.model.specs.Listing.{planLine, blockLine, lastLine, listingOf, printedOf, printed}
 use Rattle.model.specs.Conversion.{withVersion}
-use Rattle.theory.proofs.Refusal.{check3-read}
-use Rattle.theorems.specs.Versions.{verdictWith, VersionFree, Described, SameFields, SameAnswers, Versions}
+use Rattle.theory.proofs.Plan.{upper-limit}
+use Rattle.theory.proofs.Refusal.{check3-read, accepted-laws}
+use Rattle.theorems.specs.Versions.{verdictWith, SameLimit, Limits, VersionsFree, Described, SameFields, SameAnswers, Versions}
 
--- ── VersionFree ──────────────────────────────────────────────────────────────────────────────────
-module _ (version : ℕ) (p : Plan) where
+-- ── Limits ───────────────────────────────────────────────────────────────────────────────────────
+-- no version allows fewer than 8
+eight-allowed : (version : ℕ) → 8 ≤ maxReplicas version
+unfolding maxReplicas
+eight-allowed version = cond-all (λ n. 8 ≤ n) (ltb version 3) 8 10 (λ e. omega arith) (omega arith)
+
+pub limits : Limits
+unfolding maxReplicas
+limits =
+    record {
+      early = λ machines. refl;
+      few = λ from to machines l. omega (arith, eight-allowed from, eight-allowed to);
+    }
+
+-- ── VersionsFree ─────────────────────────────────────────────────────────────────────────────────
+module _ (version : ℕ) (p : Plan) (same : SameLimit (p .version) version (machines p)) where
+  upper-free : (i : ℕ) → upper (withVersion version p) i ≡ upper p i
+  upper-free = upper-limit p version same
+
+  blockRefusal-free : (i : ℕ) → blockRefusal (withVersion version p) i ≡ blockRefusal p i
+  unfolding blockRefusal
+  blockRefusal-free i = rw (upper-free i)
+
   planRefusal-free : planRefusal (withVersion version p) ≡ planRefusal p
-  unfolding planRefusal blocksRefusal blockRefusal pairsRefusal pairRefusal minTotal upper isPaired pairsBack pairsNext
-  planRefusal-free = refl
+  unfolding planRefusal blocksRefusal pairsRefusal pairRefusal minTotal
+  planRefusal-free = rw (fun-ext blockRefusal-free)
+
+  need-free : (f i : ℕ) → need (withVersion version p) f i ≡ need p f i
+  unfolding need
+  need-free f i = rw (upper-free i)
+
+  reachable-free : (f : ℕ) → reachable (withVersion version p) f ≡ reachable p f
+  unfolding reachable limit
+  reachable-free f =
+      ap₂ (λ (most needs : ℕ → ℕ). allb (blockCount p) (λ i. leb (needs i) (most i)) && leb (sum (blockCount p) needs) (limit p))
+      (fun-ext upper-free)
+      (fun-ext (need-free f))
+
+  figure-free : figure (withVersion version p) ≡ figure p
+  unfolding figure largestShare
+  figure-free = rw (fun-ext reachable-free)
 
   chosen-free : chosen (withVersion version p) ≡ chosen p
-  unfolding chosen need figure reachable largestShare limit upper isPaired pairsBack pairsNext
-  chosen-free = refl
+  unfolding chosen
+  chosen-free = fun-ext (λ i. ap (λ (f : ℕ). need (withVersion version p) f i) figure-free ∙ need-free (figure p) i)
+
+  firstWord-free : (i : ℕ) → firstWord (withVersion version p) i ≡ firstWord p i
+  unfolding firstWord laidWord position
+  firstWord-free i = ap (λ (count : ℕ → ℕ). laidWord p (sum i count) (count i)) chosen-free
 
   first-free : firstPlacement (withVersion version p) ≡ firstPlacement p
-  unfolding firstPlacement firstWord laidWord position chosen need figure reachable largestShare limit upper isPaired pairsBack pairsNext
-  first-free = refl
+  unfolding firstPlacement
+  first-free = rw (fun-ext firstWord-free)
 
   next-free : (words : List ℕ) → nextStep (withVersion version p) words ≡ nextStep p words
   unfolding nextStep nextMove nextSwap routes canMove canSwap improves isFeasible countsFeasible allWithin allSpread allFit allApart keptApart partner replicas replicasIn domainsUsed used shareOf load limit upper isPaired pairsBack pairsNext
-  next-free words = refl
+  next-free words =
+      let half : min (maxReplicas version) (machines p / 2) ≡ min (maxReplicas (p .version)) (machines p / 2) = omega (arith, same) in
+      rw (same, half)
 
   run-free : (budget : ℕ) (words : List ℕ) → run (withVersion version p) budget words ≡ run p budget words
   unfolding run
@@ -46,8 +94,23 @@ module _ (version : ℕ) (p : Plan) where
   unfolding listingOf planLine blockLine lastLine reportOf maxLoad minLoad totalLoad maxShare shareOf load replicas
   listing-free budget = rw (first-free, run-free budget (firstPlacement p))
 
-  pub version-free : VersionFree version p
-  version-free = record { counts = chosen-free; first = first-free; next = next-free; runs = run-free; listing = listing-free }
+  allCounted-free : (words : List ℕ) → allCounted (withVersion version p) words ≡ allCounted p words
+  unfolding allCounted replicas
+  allCounted-free words = ap (λ (count : ℕ → ℕ). allb (blockCount p) (λ i. eqb (countOf p words i) (count i))) chosen-free
+
+  placementRefusal-free : (words : List ℕ) → placementRefusal words (withVersion version p) ≡ placementRefusal words p
+  unfolding placementRefusal allWithin allSpread allFit allApart keptApart partner replicas replicasIn domainsUsed used isPaired pairsBack pairsNext
+  placementRefusal-free words = rw (allCounted-free words)
+
+pub version-free : VersionsFree
+version-free version p same =
+    record {
+      counts = chosen-free version p same;
+      first = first-free version p same;
+      next = next-free version p same;
+      runs = run-free version p same;
+      listing = listing-free version p same;
+    }
 
 -- ── SameFields ───────────────────────────────────────────────────────────────────────────────────
 -- bytes of a version that is read, as long as it wants, are judged by the rows between
@@ -60,7 +123,8 @@ unfolding refusal check1 check7 formatOf
 rows-between bytes version is described sized =
     rw (le-ltb (length bytes) 15 (omega arith), is, check3-read latestVersion version _ (described .version-pos) (described .version-max), eq-eqb (length bytes) (recordAt (formatOf version) (blockCountIn bytes)) sized)
 
-module _ (from to : ℕ) (read-from : Described from) (read-to : Described to) (old new : List ℕ) (same : SameFields from to old new) where
+module _ (from to : ℕ) (read-from : Described from) (read-to : Described to) (old new : List ℕ) (same : SameFields from to old new)
+    (limit-same : SameLimit from to (racksIn old * rackSizeIn old)) where
   plans : planIn new ≡ withVersion to (planIn old)
   unfolding planIn
   plans =
@@ -76,10 +140,14 @@ module _ (from to : ℕ) (read-from : Described from) (read-to : Described to) (
         records,
       )
 
+  plan-limit : (p : Plan) → p ≡ planIn old → SameLimit (p .version) to (machines p)
+  unfolding planIn
+  plan-limit p e = rw (e, same .old-version) limit-same
+
   refusals : refusal new ≡ refusal old
   refusals =
       rows-between new to (same .new-version) read-to (rw (same .blocks-same) (same .new-length))
-      ∙ (rw (same .mark-same, same .racks-same, same .size-same, same .capacity-same, same .blocks-same, plans, planRefusal-free to (planIn old)))
+      ∙ (rw (same .mark-same, same .racks-same, same .size-same, same .capacity-same, same .blocks-same, plans, planRefusal-free to (planIn old) (plan-limit (planIn old) refl)))
       ∙ sym (rows-between old from (same .old-version) read-from (same .old-length))
 
   verdicts : judge new ≡ verdictWith to (judge old)
@@ -91,41 +159,55 @@ module _ (from to : ℕ) (read-from : Described from) (read-to : Described to) (
       go (suc code) = refl
 
 -- ── Versions ─────────────────────────────────────────────────────────────────────────────────────
--- a call whose own rows and answer do not go by the version
+-- a call whose own rows and answer do not go by the version of the plan that is accepted
 calls-free : {A : Type 0} (version : ℕ) (v : Verdict) (items : List ℕ) (rows : Plan → ℕ) (call : Plan → Outcome A)
-    → ((p : Plan) → rows (withVersion version p) ≡ rows p) → ((p : Plan) → call (withVersion version p) ≡ call p)
+    → ((p : Plan) → v ≡ accepted p → rows (withVersion version p) ≡ rows p)
+    → ((p : Plan) → v ≡ accepted p → call (withVersion version p) ≡ call p)
     → onPlan (verdictWith version v) items rows call ≡ onPlan v items rows call
 unfolding onPlan
 calls-free version (refused code) items rows call r c = refl
-calls-free version (accepted p) items rows call r c = rw (r p, c p)
+calls-free version (accepted p) items rows call r c = rw (r p refl, c p refl)
 
-placementRefusal-free : (version : ℕ) (words : List ℕ) (p : Plan) → placementRefusal words (withVersion version p) ≡ placementRefusal words p
-unfolding placementRefusal allCounted allWithin allSpread allFit allApart keptApart partner replicas replicasIn domainsUsed used chosen need figure reachable largestShare limit upper isPaired pairsBack pairsNext
-placementRefusal-free version words p = refl
+-- where the verdict is the same but for the plan's version, and both versions allow as many copies, all answers are
+module _ (to : ℕ) (old new : List ℕ) (e : judge new ≡ verdictWith to (judge old))
+    (limit-same : (p : Plan) → judge old ≡ accepted p → SameLimit (p .version) to (machines p)) where
+  rows-same : (words : List ℕ) (p : Plan) → judge old ≡ accepted p → placementRefusal words (withVersion to p) ≡ placementRefusal words p
+  rows-same words p a = placementRefusal-free to p (limit-same p a) words
 
-printedOf-free : (version : ℕ) (v : Verdict) (budget : ℕ) → printedOf (verdictWith version v) budget ≡ printedOf v budget
-unfolding printedOf
-printedOf-free version (refused code) budget = refl
-printedOf-free version (accepted p) budget = listing-free version p budget
+  printed-same : (budget : ℕ) → printed new budget ≡ printed old budget
+  unfolding printed printedOf
+  printed-same budget = rw e (go (judge old) limit-same)
+    where
+      go : (v : Verdict) → ((p : Plan) → v ≡ accepted p → SameLimit (p .version) to (machines p))
+          → printedOf (verdictWith to v) budget ≡ printedOf v budget
+      go (refused code) l = refl
+      go (accepted p) l = listing-free to p (l p refl) budget
 
--- where the verdict is the same but for the plan's version, all answers are
-pub same-answers : (to : ℕ) (old new : List ℕ) → judge new ≡ verdictWith to (judge old) → SameAnswers to old new
-unfolding countsCall firstCall checkCall reportCall stepCall runCall onPlacement printed reportOf maxLoad minLoad totalLoad maxShare largestShare firstWord laidWord position shareOf load replicas chosen need figure reachable limit upper isPaired pairsBack pairsNext
-same-answers to old new e =
-    record {
-      verdict = e;
-      counts = λ items. rw e (calls-free to (judge old) items (bufferRefusal items) _ (λ p. refl) (λ p. refl));
-      first = λ words. rw e (calls-free to (judge old) words (bufferRefusal words) _ (λ p. refl) (λ p. refl));
-      check = λ words. rw e (calls-free to (judge old) words (placementRefusal words) _ (placementRefusal-free to words) (λ p. refl));
-      report = λ words. rw e (calls-free to (judge old) words (placementRefusal words) _ (placementRefusal-free to words) (λ p. refl));
-      step = λ words.
-          rw e
-          (calls-free to (judge old) words (placementRefusal words) _ (placementRefusal-free to words) (λ p. rw (next-free to p words)));
-      run = λ words budget.
-          rw e
-          (calls-free to (judge old) words (placementRefusal words) _ (placementRefusal-free to words) (λ p. rw (run-free to p budget words)));
-      listing = λ budget. rw e (printedOf-free to (judge old) budget);
-    }
+  pub same-answers : SameAnswers to old new
+  unfolding countsCall firstCall checkCall reportCall stepCall runCall onPlacement reportOf maxLoad minLoad totalLoad maxShare largestShare shareOf load replicas
+  same-answers =
+      record {
+        verdict = e;
+        counts = λ items.
+            rw e (calls-free to (judge old) items (bufferRefusal items) _ (λ p a. refl) (λ p a. rw (chosen-free to p (limit-same p a))));
+        first = λ words.
+            rw e
+            (calls-free to (judge old) words (bufferRefusal words) _ (λ p a. refl)
+            (λ p a. rw (fun-ext (firstWord-free to p (limit-same p a)))));
+        check = λ words. rw e (calls-free to (judge old) words (placementRefusal words) _ (rows-same words) (λ p a. refl));
+        report = λ words. rw e (calls-free to (judge old) words (placementRefusal words) _ (rows-same words) (λ p a. refl));
+        step = λ words.
+            rw e
+            (calls-free to (judge old) words (placementRefusal words) _ (rows-same words)
+            (λ p a. rw (next-free to p (limit-same p a) words)));
+        run = λ words budget.
+            rw e
+            (calls-free to (judge old) words (placementRefusal words) _ (rows-same words)
+            (λ p a. rw (run-free to p (limit-same p a) budget words)));
+        listing = printed-same;
+      }
 
 pub versions : Versions
-versions from to read-from read-to old new same = same-answers to old new (verdicts from to read-from read-to old new same)
+versions from to read-from read-to old new same limit-same =
+    same-answers to old new (verdicts from to read-from read-to old new same limit-same)
+    (λ p a. plan-limit from to read-from read-to old new same limit-same p (accepted-laws old p a .held))

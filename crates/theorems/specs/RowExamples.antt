@@ -68,7 +68,7 @@ pub record RowExamples : Type 0 where
   pub before-ten : judge (set (pair-with 32 1) 12 2) ≡ refused 17
   pub ten : judge (pair-with 12 2) ≡ refused 10
   -- the plan itself: both blocks of the pair have two copies each, on machines 0 and 2, and 1 and 3
-  pub pair-counts : countsCall plan-pair (0 ∷ 0 ∷ 0 ∷ []) ≡ gives 2520 (2 ∷ 2 ∷ 1 ∷ [])
+  pub pair-counts : countsCall plan-pair (0 ∷ 0 ∷ 0 ∷ []) ≡ gives 7560 (2 ∷ 2 ∷ 1 ∷ [])
   pub pair-first : firstCall plan-pair (0 ∷ 0 ∷ 0 ∷ []) ≡ gives 3 (5 ∷ 10 ∷ 1 ∷ [])
   pub pair-passes : checkCall plan-pair (5 ∷ 10 ∷ 1 ∷ []) ≡ gives 3 (5 ∷ 10 ∷ 1 ∷ [])
   -- 8 comes before 9 within a block, but block 0's 9 before block 1's 8

@@ -50,7 +50,7 @@ pub record Ties : Type 0 where
   pub accepts : judge plan-tied ≡ accepted tied
   pub passes : checkCall plan-tied sixes ≡ gives 12 sixes
   pub six-six-none : table 3 (used tied sixes) ≡ 6 ∷ 6 ∷ 0 ∷ []
-  -- a share is 840 units, so the hottest load is six of them
+  -- a share is 2520 units, so the hottest load is six of them
   pub highest : maxLoad tied sixes ≡ 6 * unit
   -- no lawful step lowers it, though one is left
   pub none-lowers : (s : Step) → Admissible tied sixes s → maxLoad tied sixes ≤ maxLoad tied (after sixes s)

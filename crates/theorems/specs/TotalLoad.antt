@@ -8,7 +8,7 @@ use Rattle.model.specs.Replication.{unit}
 use Rattle.model.specs.Placement.{Feasible, totalLoad}
 use Rattle.theory.specs.Refusal.{Valid}
 
--- It is 840 times the sum of all popularities, whichever lawful counts are used.
+-- It is 2520 times the sum of all popularities, whichever lawful counts are used.
 abbrev pub LoadsTotal : Type 0
 LoadsTotal =
     (p : Plan) → Valid p → (count : ℕ → ℕ) (words : List ℕ) → Feasible p count words

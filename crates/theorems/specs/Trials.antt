@@ -1,4 +1,4 @@
--- Document 01, "Trial plans": those with a star, each on the plan's bytes.
+-- Document 01, "Trial plans": those with a star, each on the plan's bytes; loads in the units of document 02, U5.
 use mathlib.Core.Path.{_≡_}
 use mathlib.Core.Bool.{true, false}
 use mathlib.Core.List.{List, [], _∷_}
@@ -64,10 +64,10 @@ spent steps = record { rested = false; steps = steps }
 
 pub record Trials : Type 0 where
   pub H-accepted : judge plan-H ≡ accepted (planIn plan-H)
-  pub H-counts : countsCall plan-H (0 ∷ 0 ∷ 0 ∷ []) ≡ gives 2520 (4 ∷ 2 ∷ 1 ∷ [])
+  pub H-counts : countsCall plan-H (0 ∷ 0 ∷ 0 ∷ []) ≡ gives 7560 (4 ∷ 2 ∷ 1 ∷ [])
   pub H-first : firstCall plan-H (0 ∷ 0 ∷ 0 ∷ []) ≡ gives 3 (15 ∷ 5 ∷ 2 ∷ [])
   -- H with budget 4, and with budget 3
-  pub H-budget4 : countsCall (set plan-H 12 4) (0 ∷ 0 ∷ 0 ∷ []) ≡ gives 5040 (2 ∷ 1 ∷ 1 ∷ [])
+  pub H-budget4 : countsCall (set plan-H 12 4) (0 ∷ 0 ∷ 0 ∷ []) ≡ gives 15120 (2 ∷ 1 ∷ 1 ∷ [])
   pub H-budget3 : judge (set plan-H 12 3) ≡ refused 10
   -- row 11's example, and with C 2
   pub full : judge plan-full ≡ refused 11
@@ -75,18 +75,18 @@ pub record Trials : Type 0 where
   pub full-C2 : firstCall (set plan-full 8 2) (0 ∷ 0 ∷ []) ≡ gives 2 (1 ∷ 1 ∷ [])
   -- Y from its first placement to rest
   pub Y-first : firstCall plan-Y (0 ∷ 0 ∷ 0 ∷ []) ≡ gives 3 (1 ∷ 2 ∷ 1 ∷ [])
-  pub Y-loads : loads plan-Y (1 ∷ 2 ∷ 1 ∷ []) ≡ 5040 ∷ 840 ∷ []
+  pub Y-loads : loads plan-Y (1 ∷ 2 ∷ 1 ∷ []) ≡ 15120 ∷ 2520 ∷ []
   pub Y-step1 : stepCall plan-Y (1 ∷ 2 ∷ 1 ∷ []) ≡ gives (move false 0 1 0) (2 ∷ 2 ∷ 1 ∷ [])
   pub Y-step2 : stepCall plan-Y (2 ∷ 2 ∷ 1 ∷ []) ≡ gives (move false 1 0 1) (2 ∷ 1 ∷ 1 ∷ [])
   pub Y-rest : stepCall plan-Y (2 ∷ 1 ∷ 1 ∷ []) ≡ gives none (2 ∷ 1 ∷ 1 ∷ [])
-  pub Y-rest-loads : loads plan-Y (2 ∷ 1 ∷ 1 ∷ []) ≡ 2520 ∷ 3360 ∷ []
+  pub Y-rest-loads : loads plan-Y (2 ∷ 1 ∷ 1 ∷ []) ≡ 7560 ∷ 10080 ∷ []
   -- Y with step budget 0, 1 and 2
   pub Y-budget0 : runCall plan-Y (1 ∷ 2 ∷ 1 ∷ []) 0 ≡ gives (spent 0) (1 ∷ 2 ∷ 1 ∷ [])
   pub Y-budget1 : runCall plan-Y (1 ∷ 2 ∷ 1 ∷ []) 1 ≡ gives (spent 1) (2 ∷ 2 ∷ 1 ∷ [])
-  pub Y-budget1-loads : loads plan-Y (2 ∷ 2 ∷ 1 ∷ []) ≡ 1680 ∷ 4200 ∷ []
+  pub Y-budget1-loads : loads plan-Y (2 ∷ 2 ∷ 1 ∷ []) ≡ 5040 ∷ 12600 ∷ []
   pub Y-budget2 : runCall plan-Y (1 ∷ 2 ∷ 1 ∷ []) 2 ≡ gives (rest 2) (2 ∷ 1 ∷ 1 ∷ [])
   -- Z from a placement handed in to rest
   pub Z-step1 : stepCall plan-Z (1 ∷ 1 ∷ 2 ∷ 2 ∷ []) ≡ gives (swap false 0 1 0 2) (2 ∷ 1 ∷ 1 ∷ 2 ∷ [])
   pub Z-step2 : stepCall plan-Z (2 ∷ 1 ∷ 1 ∷ 2 ∷ []) ≡ gives (swap false 1 0 0 1) (1 ∷ 2 ∷ 1 ∷ 2 ∷ [])
   pub Z-run : runCall plan-Z (1 ∷ 1 ∷ 2 ∷ 2 ∷ []) 100_000 ≡ gives (rest 2) (1 ∷ 2 ∷ 1 ∷ 2 ∷ [])
-  pub Z-loads : loads plan-Z (1 ∷ 2 ∷ 1 ∷ 2 ∷ []) ≡ 5040 ∷ 5040 ∷ []
+  pub Z-loads : loads plan-Z (1 ∷ 2 ∷ 1 ∷ 2 ∷ []) ≡ 15120 ∷ 15120 ∷ []

@@ -1,10 +1,10 @@
--- Document 02, U1 and U4: plans of two versions with the same fields are equal but for the version, and no call goes by the version: all
--- answer the same.
+-- Document 02, U1, U4 and U5: plans of two versions with the same fields are equal but for the version, and what a call answers goes by
+-- the version's most copies alone: where both versions allow as many, all calls answer the same.
 use mathlib.Core.Path.{_≡_}
 use mathlib.Core.List.{List}
-use Prim.Native.Nat.{ℕ, _<_, _≤_}
+use Prim.Native.Nat.{ℕ, _*_, _<_, _≤_, min}
 use lib.ListN.{length}
-use Rattle.model.specs.Plan.{Plan, markIn, versionIn, racksIn, rackSizeIn, capacityIn, budgetIn, blockCountIn, latestVersion, formatOf, recordAt, blockIn}
+use Rattle.model.specs.Plan.{Plan, machines, maxReplicas, markIn, versionIn, racksIn, rackSizeIn, capacityIn, budgetIn, blockCountIn, latestVersion, formatOf, recordAt, blockIn}
 use Rattle.model.specs.Refusal.{Verdict, refused, accepted, judge}
 use Rattle.model.specs.Replication.{chosen}
 use Rattle.model.specs.Placement.{firstPlacement}
@@ -18,13 +18,26 @@ abbrev pub verdictWith : ℕ → Verdict → Verdict
 verdictWith version (refused code) = refused code
 verdictWith version (accepted p) = accepted (withVersion version p)
 
--- What a plan says does not go by its version.
+-- Both versions allow as many copies on so many machines.
+abbrev pub SameLimit : ℕ → ℕ → ℕ → Type 0
+SameLimit from to machines = min (maxReplicas to) machines ≡ min (maxReplicas from) machines
+
+-- Versions 1 and 2 do on any number of machines, and all versions on up to 8.
+pub record Limits : Type 0 where
+  pub early : (machines : ℕ) → SameLimit 1 2 machines
+  pub few : (from to machines : ℕ) → machines ≤ 8 → SameLimit from to machines
+
+-- What a plan says is the same in another version.
 pub record VersionFree (version : ℕ) (p : Plan) : Type 0 where
   pub counts : chosen (withVersion version p) ≡ chosen p
   pub first : firstPlacement (withVersion version p) ≡ firstPlacement p
   pub next : (words : List ℕ) → nextStep (withVersion version p) words ≡ nextStep p words
   pub runs : (budget : ℕ) (words : List ℕ) → run (withVersion version p) budget words ≡ run p budget words
   pub listing : (budget : ℕ) → listingOf (withVersion version p) budget ≡ listingOf p budget
+
+-- It is where both versions allow as many copies.
+abbrev pub VersionsFree : Type 0
+VersionsFree = (version : ℕ) (p : Plan) → SameLimit (p .version) version (machines p) → VersionFree version p
 
 -- A version that is read.
 pub record Described (version : ℕ) : Type 0 where
@@ -58,4 +71,7 @@ pub record SameAnswers (to : ℕ) (old new : List ℕ) : Type 0 where
   pub listing : (budget : ℕ) → printed new budget ≡ printed old budget
 
 abbrev pub Versions : Type 0
-Versions = (from to : ℕ) → Described from → Described to → (old new : List ℕ) → SameFields from to old new → SameAnswers to old new
+Versions =
+    (from to : ℕ) → Described from → Described to → (old new : List ℕ) → SameFields from to old new
+    → SameLimit from to (racksIn old * rackSizeIn old)
+    → SameAnswers to old new

@@ -3,6 +3,7 @@
 pub mod Plan
 pub mod Refusal
 pub mod Replication
+pub mod Units
 pub mod Placement
 pub mod PlacementFirst
 pub mod Steps

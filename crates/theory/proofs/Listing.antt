@@ -182,7 +182,7 @@ module _ (p : Plan) (valid : Valid p) (words : List ℕ) (feasible : Feasible p 
   share-narrow : (i : ℕ) → i < blockCount p → shareOf p words i < shareBound
   share-narrow i l = rw (shareOf-feasible p (chosen p) words feasible i l) at (narrow i l)
 
-  blockLine-length : (i : ℕ) → i < blockCount p → length (blockLine p words i) ≤ 52
+  blockLine-length : (i : ℕ) → i < blockCount p → length (blockLine p words i) ≤ 59
   unfolding blockLine replicas
   blockLine-length i l =
       let few = valid .shaped .blocks-max in
@@ -192,7 +192,7 @@ module _ (p : Plan) (valid : Valid p) (words : List ℕ) (feasible : Feasible p 
       let small = share-narrow i l in
       let held-on = holders-length (wordOf words i) (machines p) machines-few in
       let a = numberField-length 3 i (omega arith) in
-      let b = numberField-length 0 (countOf p words i) (omega arith) in
+      let b = numberField-length 1 (countOf p words i) (omega arith) in
       let c = numberField-length 13 (shareOf p words i) (omega arith) in
       rw (line-length, fields-cons, fields-cons, fields-cons) (omega arith)
 
@@ -256,7 +256,7 @@ listingOf-fits p valid narrow budget h =
     let few = valid .shaped .blocks-max in
     let within = run-laws p budget (firstPlacement p) .within in
     let first = planLine-length p valid in
-    let blocks = joined-length-le (blockCount p) 52 (blockLine p (r .words)) (blockLine-length p valid (r .words) feasible narrow) in
+    let blocks = joined-length-le (blockCount p) 59 (blockLine p (r .words)) (blockLine-length p valid (r .words) feasible narrow) in
     let last = lastLine-length p valid (r .words) feasible narrow (r .rested) (r .steps) (omega arith) in
     simp length-append (omega arith)
 

@@ -5,9 +5,10 @@ use mathlib.Core.Path.{_≡_, refl, ap, ap₂, sym, _∙_}
 use mathlib.Core.Bool.{Bool, true, false, cond, _||_}
 use mathlib.Core.List.{List}
 use mathlib.Core.Logic.{_⊎_, inl, inr}
-use Prim.Native.Nat.{ℕ, zero, suc, _+_, _*_, _/_, _%_, _^_, _≤_, _<_}
+use Prim.Native.Nat.{ℕ, zero, suc, _+_, _*_, _/_, _%_, _^_, _≤_, _<_, min}
 use native.Mathlib.Nat.{one-le-mul, div-lt-iff-lt-mul, mod-mod-of-dvd, dvd-mul-right, min-le-left, min-le-right, le-trans, mul-le-mul, pow-suc, pow-le-pow-right}
 use native.Mathlib.Omega.{arith}
+use borrow.Author.Tests.{lt-ltb, le-ltb}
 use lib.Dec.{lit<, ltb}
 use lib.Arith.{digits-div, digits-lt}
 use lib.ListN.{getD, take}
@@ -17,7 +18,8 @@ use Rattle.order.proofs.Booleans.{no-contradiction, cond-all}
 use Rattle.order.proofs.Ranges.{sum-group}
 use Rattle.order.proofs.Tables.{length-table, getD-table}
 use Rattle.model.specs.Plan.{Plan, machines, domains, domain, domainSize, blockCount, noBlock, blockOf, pairsNext, pairsBack, isPaired, partner, maxReplicas, upper, field, latestVersion, formatOf, formatIn, recordAt, blockIn, blockCountIn, planIn}
-use Rattle.theory.specs.Widths.{widestPopularity}
+use Rattle.model.specs.Conversion.{withVersion}
+use Rattle.theory.specs.Widths.{mostReplicas, widestPopularity}
 use Rattle.theory.specs.Refusal.{ValidPair, Shaped}
 
 -- ── machines ─────────────────────────────────────────────────────────────────────────────────────
@@ -161,21 +163,61 @@ module _ (p : Plan) (shaped : Shaped p) where
     pub partner-minRacks : blockOf p (partner p i) .minRacks ≡ blockOf p i .minRacks
     partner-minRacks = partner-same (λ b. blockOf p b .minRacks) (first-pair .racks-same (pair .marked))
 
+-- ── maxReplicas ──────────────────────────────────────────────────────────────────────────────────
+pub maxReplicas-early : (version : ℕ) → version < 3 → 8 ≡ maxReplicas version
+unfolding maxReplicas
+maxReplicas-early version l = rw (lt-ltb version 3 l)
+
+pub maxReplicas-later : (version : ℕ) → 3 ≤ version → 10 ≡ maxReplicas version
+unfolding maxReplicas
+maxReplicas-later version l = rw (le-ltb version 3 l)
+
+-- no version allows more copies
+pub maxReplicas-most : (version : ℕ) → maxReplicas version ≤ mostReplicas
+unfolding maxReplicas
+maxReplicas-most version = cond-all (λ n. n ≤ mostReplicas) (ltb version 3) 8 10 (λ e. omega arith) (omega arith)
+
 -- ── upper ────────────────────────────────────────────────────────────────────────────────────────
-pub upper-max : (p : Plan) (i : ℕ) → upper p i ≤ maxReplicas
+pub upper-version : (p : Plan) (i : ℕ) → upper p i ≤ maxReplicas (p .version)
 unfolding upper
-upper-max p i = min-le-left _ _
+upper-version p i =
+    let most = maxReplicas (p .version) in
+    cond-all (λ n. n ≤ most) (isPaired p i) (min most (machines p / 2)) (min most (machines p)) (λ e. min-le-left _ _) (min-le-left _ _)
+
+pub upper-max : (p : Plan) (i : ℕ) → upper p i ≤ mostReplicas
+upper-max p i = le-trans (upper-version p i) (maxReplicas-most (p .version))
 
 pub upper-machines : (p : Plan) (i : ℕ) → upper p i ≤ machines p
 unfolding upper
 upper-machines p i =
-    le-trans (min-le-right _ _)
-    (cond-all (λ n. n ≤ machines p) (isPaired p i) (machines p / 2) (machines p) (λ e. omega arith) (omega arith))
+    let most = maxReplicas (p .version) in
+    cond-all (λ n. n ≤ machines p) (isPaired p i) (min most (machines p / 2)) (min most (machines p)) (λ e. omega arith) (omega arith)
 
 -- a pair's copies are at most as many as the machines
 pub upper-pair : (p : Plan) (i : ℕ) → isPaired p i ≡ true → upper p i + upper p i ≤ machines p
 unfolding upper
-upper-pair p i e = rw e (let half = min-le-right maxReplicas (machines p / 2) in omega arith)
+upper-pair p i e = rw e (let half = min-le-right (maxReplicas (p .version)) (machines p / 2) in omega arith)
+
+-- in a version that allows as many copies on the plan's machines it is the same
+pub upper-limit : (p : Plan) (version : ℕ) → min (maxReplicas version) (machines p) ≡ min (maxReplicas (p .version)) (machines p)
+    → (i : ℕ) → upper (withVersion version p) i ≡ upper p i
+unfolding upper isPaired pairsBack pairsNext
+upper-limit p version same i =
+    ap₂ (λ (half whole : ℕ). cond (isPaired p i) half whole)
+    (omega (arith, same))
+    same
+
+-- in a version that allows no fewer it is no smaller
+pub upper-grows : (p : Plan) (version : ℕ) → maxReplicas (p .version) ≤ maxReplicas version
+    → (i : ℕ) → upper p i ≤ upper (withVersion version p) i
+unfolding upper isPaired pairsBack pairsNext
+upper-grows p version more i = go (isPaired p i)
+  where
+    go : (paired : Bool)
+        → cond paired (min (maxReplicas (p .version)) (machines p / 2)) (min (maxReplicas (p .version)) (machines p))
+        ≤ cond paired (min (maxReplicas version) (machines p / 2)) (min (maxReplicas version) (machines p))
+    go true = omega (arith, more)
+    go false = omega (arith, more)
 
 -- it goes by whether the block is paired
 pub upper-same : (p : Plan) (i j : ℕ) → isPaired p i ≡ isPaired p j → upper p i ≡ upper p j

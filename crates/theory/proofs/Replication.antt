@@ -16,10 +16,11 @@ use Rattle.order.proofs.Arithmetic.{div-antitone}
 use Rattle.order.proofs.Booleans.{no-contradiction, not-so, and-iff, leb-iff}
 use Rattle.order.proofs.Sums.{sum-cong, sum-mono, sum-mul, sum-same}
 use Rattle.order.proofs.Extremes.{least-le, least-passes, least-first, allb-at, allb-iff, largest-term, largest-le}
-use Rattle.model.specs.Plan.{Plan, maxReplicas, blockCount, blockOf, partner, upper, minTotal}
+use Rattle.model.specs.Plan.{Plan, blockCount, blockOf, partner, upper, minTotal}
 use Rattle.model.specs.Refusal.{maxMachines, maxCapacity}
 use Rattle.model.specs.Replication.{limit, FeasibleCounts, unit, share, largestShare, need, reachable, figure, chosen}
-use Rattle.theory.specs.Widths.{popularityBound, shareBound}
+use Rattle.theory.specs.Widths.{mostReplicas, popularityBound, shareBound}
+use Rattle.theory.specs.Units.{DividedBy, shareBy}
 use Rattle.theory.specs.Refusal.{ValidBlock, Shaped, Valid}
 use Rattle.theory.specs.Replication.{UnitDivides, ShareLaws, EvenPairs, ChosenLaws, ChosenUnique}
 use Rattle.theory.proofs.Plan.{partner-paired, partner-popularity, partner-minReplicas, upper-max, upper-same}
@@ -30,9 +31,9 @@ unfolding limit
 limit-max p s = le-trans (min-le-right _ _) (mul-le-mul (s .machines-max) (s .capacity-max))
 
 -- ── FeasibleCounts ───────────────────────────────────────────────────────────────────────────────
--- lawful counts are from 1 to 8
+-- lawful counts are from 1 to the most copies
 pub feasibleCounts-range : (p : Plan) (count : ℕ → ℕ) → Shaped p → FeasibleCounts p count → (i : ℕ) → i < blockCount p
-    → (1 ≤ count i) × (count i ≤ maxReplicas)
+    → (1 ≤ count i) × (count i ≤ mostReplicas)
 feasibleCounts-range p count s c i l =
     (le-trans (s .block i l .min-pos) (c .at-least i l), le-trans (c .at-most i l) (upper-max p i))
 
@@ -58,10 +59,10 @@ feasibleCounts-least p v =
 
 -- ── share ────────────────────────────────────────────────────────────────────────────────────────
 -- whether all numbers from 1 on divide the units
-allDivide : ℕ → ℕ → Bool
+unfoldable pub allDivide : ℕ → ℕ → Bool
 allDivide most units = allb most (λ j. eqb (units % suc j) 0)
 
-allDivide-at : (most units : ℕ) → allDivide most units ≡ true → (k : ℕ) → 1 ≤ k → k ≤ most → k ∣ units
+pub allDivide-at : (most units : ℕ) → allDivide most units ≡ true → DividedBy most units
 unfolding allDivide
 allDivide-at most units every k pos max =
     let back : suc (k - 1) ≡ k = omega arith in
@@ -72,10 +73,42 @@ pub unit-divides : UnitDivides
 unfolding allDivide allb
 unit-divides = allDivide-at _ _ refl
 
+-- what holds with any units
+module _ (units : ℕ) where
+  -- at a count that divides them a share is whole
+  pub shareBy-exact : (P k : ℕ) → k ∣ units → shareBy units P k * k ≡ P * units
+  unfolding shareBy
+  shareBy-exact P k d = div-mul-cancel k (dvd-mul-left-of-dvd k d P)
+
+  module _ (pos : 1 ≤ units) where
+    -- it is within f exactly if f times the count covers the popularity
+    pub shareBy-within : (P k f : ℕ) → k ∣ units → (shareBy units P k ≤ f) ↔ (P * units ≤ f * k)
+    shareBy-within P k f d =
+        rw (← shareBy-exact P k d) (λ l. mul-le-mul-right k l, λ l. le-of-mul-le-mul-right l (pos-of-dvd-of-pos d pos))
+
+    -- two shares compare as the popularities do, each times the other's count
+    pub shareBy-compares : (P j Q k : ℕ) → j ∣ units → k ∣ units → (shareBy units P j ≤ shareBy units Q k) ↔ (P * k ≤ Q * j)
+    shareBy-compares P j Q k dj dk = (
+      λ l.
+          let whole : shareBy units P j * j * k ≤ shareBy units Q k * j * k = mul-le-mul-right k (mul-le-mul-right j l) in
+          let scaled : P * k * units ≤ Q * j * units = omega (arith, whole-k, whole-j) in
+          le-of-mul-le-mul-right scaled pos,
+      λ l.
+          let scaled : P * k * units ≤ Q * j * units = mul-le-mul-right units l in
+          let covered : P * units * k ≤ shareBy units Q k * j * k = omega (arith, whole-k) in
+          shareBy-within P j (shareBy units Q k) dj .1 (le-of-mul-le-mul-right covered (pos-of-dvd-of-pos dk pos)),
+    )
+      where
+        whole-j : shareBy units P j * j * k ≡ P * units * k
+        whole-j = ap (λ (x : ℕ). x * k) (shareBy-exact P j dj)
+
+        whole-k : shareBy units Q k * k * j ≡ Q * units * j
+        whole-k = ap (λ (x : ℕ). x * j) (shareBy-exact Q k dk)
+
 -- at a count that divides the unit a share is whole,
 pub share-exact : (P k : ℕ) → k ∣ unit → share P k * k ≡ P * unit
-unfolding share
-share-exact P k d = div-mul-cancel k (dvd-mul-left-of-dvd k d P)
+unfolding share shareBy
+share-exact = shareBy-exact unit
 
 -- and it is the popularity times the quotient
 pub share-quotient : (P k : ℕ) → k ∣ unit → P * (unit / k) ≡ share P k
@@ -84,26 +117,13 @@ share-quotient P k d = sym (mul-div-assoc k P d)
 
 -- a share is within f exactly if f times the count covers the popularity
 pub share-within : (P k f : ℕ) → k ∣ unit → (share P k ≤ f) ↔ (P * unit ≤ f * k)
-share-within P k f d =
-    rw (← share-exact P k d) (λ l. mul-le-mul-right k l, λ l. le-of-mul-le-mul-right l (pos-of-dvd-of-pos d (omega arith)))
+unfolding share shareBy
+share-within = shareBy-within unit (omega arith)
 
 -- two shares compare as the popularities do, each times the other's count
 pub share-compares : (P j Q k : ℕ) → j ∣ unit → k ∣ unit → (share P j ≤ share Q k) ↔ (P * k ≤ Q * j)
-share-compares P j Q k dj dk = (
-  λ l.
-      let units : share P j * j * k ≤ share Q k * j * k = mul-le-mul-right k (mul-le-mul-right j l) in
-      omega (arith, whole-k, whole-j),
-  λ l.
-      let units : P * k * unit ≤ Q * j * unit = mul-le-mul-right unit l in
-      let covered : P * unit * k ≤ share Q k * j * k = omega (arith, whole-k) in
-      share-within P j (share Q k) dj .1 (le-of-mul-le-mul-right covered (pos-of-dvd-of-pos dk (omega arith))),
-)
-  where
-    whole-j : share P j * j * k ≡ P * unit * k
-    whole-j = ap (λ (x : ℕ). x * k) (share-exact P j dj)
-
-    whole-k : share Q k * k * j ≡ Q * unit * j
-    whole-k = ap (λ (x : ℕ). x * j) (share-exact Q k dk)
+unfolding share shareBy
+share-compares = shareBy-compares unit (omega arith)
 
 pub share-falls : (P j k : ℕ) → 1 ≤ j → j ≤ k → share P k ≤ share P j
 unfolding share

@@ -3,21 +3,23 @@ use mathlib.Core.Path.{_≡_}
 use mathlib.Core.Bool.{true}
 use Prim.Native.Nat.{ℕ, _*_, _<_, _≤_, _∣_}
 use Rattle.order.specs.Sum.{sum}
-use Rattle.model.specs.Plan.{Plan, maxReplicas, blockCount, blockOf, isPaired, partner, upper}
+use Rattle.model.specs.Plan.{Plan, blockCount, blockOf, isPaired, partner, upper}
 use Rattle.model.specs.Replication.{FeasibleCounts, unit, share, largestShare, figure, chosen}
+use Rattle.theory.specs.Widths.{mostReplicas}
 use Rattle.theory.specs.Refusal.{Valid}
+use Rattle.theory.specs.Units.{DividedBy}
 
--- Every number from 1 to the most copies divides the unit.
+-- Every number from 1 to the most copies of any version divides the unit.
 abbrev pub UnitDivides : Type 0
-UnitDivides = (k : ℕ) → 1 ≤ k → k ≤ maxReplicas → k ∣ unit
+UnitDivides = DividedBy mostReplicas unit
 
 pub record ShareLaws : Type 0 where
-  -- The share of a copy is P × 840 / count, in 840ths of a read: it is whole at a count that divides the unit, and every count does.
+  -- The share of a copy is P × 2520 / count, in 2520ths of a read: it is whole at a count that divides the unit, and every count does.
   pub exact : (P k : ℕ) → k ∣ unit → share P k * k ≡ P * unit
   pub divides : UnitDivides
   -- More copies have smaller shares.
   pub falls : (P j k : ℕ) → 1 ≤ j → j ≤ k → share P k ≤ share P j
-  -- The sum of all loads is 840 times the sum of all popularities, whichever lawful counts are used.
+  -- The sum of all loads is 2520 times the sum of all popularities, whichever lawful counts are used.
   pub conserved : (p : Plan) (count : ℕ → ℕ) → Valid p → FeasibleCounts p count
       → sum (blockCount p) (λ i. count i * share (blockOf p i .popularity) (count i))
       ≡ unit * sum (blockCount p) (λ i. blockOf p i .popularity)

@@ -3,6 +3,10 @@ use Prim.Native.Nat.{ℕ, _*_, _^_}
 use Rattle.model.specs.Refusal.{maxBlocks}
 use Rattle.model.specs.Replication.{unit}
 
+-- The most copies of a block in any version.
+abbrev pub mostReplicas : ℕ
+mostReplicas = 10
+
 -- The bytes of the widest popularity of any version, and what every popularity is below.
 abbrev pub widestPopularity : ℕ
 widestPopularity = 4

@@ -18,19 +18,19 @@ use Rattle.cluster.specs.declared.Cluster.{Cluster}
 use Rattle.cluster.specs.Blocks.{linkOf, demandOf, DemandInRange, Linked, DemandsFit, DemandsOf}
 use Rattle.cluster.proofs.Laws.{cluster-range, cluster-blocks, cluster-block, linked-mate, demandOf-popularity, demandOf-least, demandOf-most, demandOf-link}
 use Rattle.header.specs.Format.{asFormat}
-use Rattle.plan.proofs.Laws.{accepted-header, accepted-of, planIn-machines, planIn-records, demands-of, BlockAt, common-in, block-at}
+use Rattle.plan.proofs.Laws.{accepted-header, accepted-of, planIn-version, planIn-machines, planIn-records, demands-of, BlockAt, common-in, block-at}
 use Rattle.plan.proofs.decode.Statement.{statement}
 use Rattle.plan.proofs.decode.Tie as tie
 
 abbrev Inv-loop : tie.InvT-loop
-Inv-loop bytes demands₀ format cluster i₀ demands i =
+Inv-loop bytes h demands₀ format cluster i₀ demands i =
     (i ≤ cluster .blocks)
     × (demands ≡ filled i (demandOf (planIn bytes)) demands₀)
     × ((k : ℕ) → k < i → blockOf (planIn bytes) k .popularity < popularityBound)
     × (length demands ≡ length demands₀)
 
 abbrev μ-loop : tie.MeasureT-loop
-μ-loop bytes demands₀ format cluster i₀ demands i = cluster .blocks - i
+μ-loop bytes h demands₀ format cluster i₀ demands i = cluster .blocks - i
 
 -- the demands of a plan whose popularities fit are in their ranges
 demands-fit : (p : Plan) (c : Cluster) (demands : List ℕ) → DemandsOf p c demands → c .blocks ≤ length demands
@@ -84,12 +84,13 @@ demand-is c =
     let read = racks .before .before in
     let linked = read .before in
     let start = linked .before .before .before .before .before .before .before .before in
+    let header = accepted-of _ _ (start .pre .accepts) in
     rw (
       here (linked .before) .is,
       ← (read .popularity .ensures .0),
       ← (racks .before .min-replicas .ensures .0),
       ← (racks .min-racks .ensures .0),
-      ← (c .before .upper-count .ensures .0 _ _ (planIn-machines _ _ (accepted-of _ _ (start .pre .accepts))) (link-is linked)),
+      ← (c .before .upper-count .ensures .0 _ _ (planIn-version _ _ header) (planIn-machines _ _ header) (link-is linked)),
       ← (link-is linked),
     ) (c .demand .ensures)
 

@@ -14,19 +14,19 @@ use Rattle.order.proofs.Searches.{first-none, first-at}
 use Rattle.model.specs.Plan.{Block, blockCount, blockOf, upper, minTotal, planIn}
 use Rattle.model.specs.Refusal.{isRefusal, blockRefusal, blocksRefusal}
 use Rattle.header.specs.Format.{asFormat}
-use Rattle.plan.proofs.Laws.{passed-of, planIn-blocks, planIn-racks, planIn-machines, planIn-records, BlockAt, common-in, block-at}
+use Rattle.plan.proofs.Laws.{passed-of, planIn-blocks, planIn-version, planIn-racks, planIn-machines, planIn-records, BlockAt, common-in, block-at}
 use Rattle.plan.proofs.scan_records.Statement.{statement}
 use Rattle.plan.proofs.scan_records.Tie as tie
 
 abbrev Inv-loop : tie.InvT-loop
-Inv-loop bytes format cluster total₀ i₀ total i =
+Inv-loop bytes h format cluster total₀ i₀ total i =
     (i ≤ cluster .blocks)
     × (total ≡ sum i (λ k. blockOf (planIn bytes) k .minReplicas))
     × (total ≤ 255 * i)
     × ((k : ℕ) → k < i → isRefusal (blockRefusal (planIn bytes) k) ≡ false)
 
 abbrev μ-loop : tie.MeasureT-loop
-μ-loop bytes format cluster total₀ i₀ total i = cluster .blocks - i
+μ-loop bytes h format cluster total₀ i₀ total i = cluster .blocks - i
 
 -- the block at hand
 here : (c : tie.Then1 Inv-loop μ-loop)
@@ -44,7 +44,8 @@ most-is : (c : tie.After-upper-count Inv-loop μ-loop)
 most-is c =
     let taken = c .before .before .before .before in
     let read = taken .before .before .before .before in
-    c .upper-count .ensures .0 _ _ (planIn-machines _ _ (passed-of _ _ (read .before .before .pre)))
+    let header = passed-of _ _ (read .before .before .pre) in
+    c .upper-count .ensures .0 _ _ (planIn-version _ _ header) (planIn-machines _ _ header)
     (c .before .link .ensures .0 _ (planIn-records _ _ (read .format-in .ensures .0)) (here taken .below))
 
 code-is : (c : tie.After-block-refusal Inv-loop μ-loop)

@@ -10,10 +10,10 @@ use Rattle.order.specs.Search.{largest}
 use Rattle.order.specs.Sum.{sum}
 use Rattle.order.proofs.Extremes.{largest-step, largest-zero}
 use Rattle.order.proofs.Sums.{sum-zero, sum-step}
-use Rattle.model.specs.Plan.{Plan, maxReplicas, blockCount, blockOf, upper, minTotal}
+use Rattle.model.specs.Plan.{Plan, blockCount, blockOf, upper, minTotal}
 use Rattle.model.specs.Refusal.{maxBlocks}
 use Rattle.model.specs.Replication.{share, largestShare}
-use Rattle.theory.specs.Widths.{popularityBound, shareBound}
+use Rattle.theory.specs.Widths.{mostReplicas, popularityBound, shareBound}
 use Rattle.theory.proofs.Replication.{share-bound}
 use Rattle.cluster.specs.Blocks.{leastIn, mostIn, DemandInRange, DemandsOf}
 use Rattle.cluster.proofs.Laws.{cluster-blocks, demands-popularity, demands-least, demands-most}
@@ -35,7 +35,7 @@ Inv-loop demands cluster low₀ high₀ total₀ copies₀ i₀ low high total c
     × (low < shareBound)
     × (high < shareBound)
     × (total ≤ popularityBound * i)
-    × (copies ≤ maxReplicas * i)
+    × (copies ≤ mostReplicas * i)
     × ((p : Plan) → DemandsOf p cluster demands
     → (low ≡ largest i (mostShare p)) × (high ≡ largest i (leastShare p)) × (copies ≡ sum i (λ k. blockOf p k .minReplicas)))
 

@@ -11,9 +11,9 @@ use Rattle.order.specs.Search.{largest}
 use Rattle.order.specs.Table.{filled}
 use Rattle.order.proofs.Extremes.{largest-step, largest-zero}
 use Rattle.order.proofs.Tables.{filled-none, filled-more, getD-filled}
-use Rattle.model.specs.Plan.{Plan, maxReplicas, blockCount, blockOf}
+use Rattle.model.specs.Plan.{Plan, blockCount, blockOf}
 use Rattle.model.specs.Replication.{share, largestShare, chosen}
-use Rattle.theory.specs.Widths.{popularityBound}
+use Rattle.theory.specs.Widths.{mostReplicas, popularityBound}
 use Rattle.theory.proofs.Replication.{share-bound, share-whole, feasibleCounts-range, chosen-laws}
 use Rattle.cluster.specs.declared.Cluster.{Cluster}
 use Rattle.cluster.specs.Blocks.{popularityIn, spreadAsked, linkIn, profileOf, DemandsFit, DemandsOf, ProfilesFit}
@@ -40,7 +40,7 @@ abbrev μ-loop : tie.MeasureT-loop
 
 -- chosen counts are from 1 to the most copies
 chosen-range : (p : Plan) (c : Cluster) (demands : List ℕ) → DemandsOf p c demands → (i : ℕ) → i < c .blocks
-    → (1 ≤ chosen p i) × (chosen p i ≤ maxReplicas)
+    → (1 ≤ chosen p i) × (chosen p i ≤ mostReplicas)
 chosen-range p c demands of i l =
     let valid = of .cluster .valid in
     feasibleCounts-range p (chosen p) (valid .shaped) (chosen-laws p valid .feasible) i (rw (cluster-blocks p c (of .cluster)) at l)

@@ -7,8 +7,7 @@ use native.Mathlib.Decide.{decLe}
 use native.Mathlib.Omega.{arith}
 use borrow.Author.Tests.{lt-ltb, le-ltb}
 use lib.Dec.{ltb}
-use Rattle.model.specs.Plan.{maxReplicas}
-use Rattle.theory.specs.Widths.{popularityBound}
+use Rattle.theory.specs.Widths.{mostReplicas, popularityBound}
 use Rattle.theory.proofs.Replication.{share-compares}
 use Rattle.replication.specs.declared.Fraction.{Fraction}
 use Rattle.replication.specs.Choice.{FractionFits, shareAt}
@@ -17,7 +16,7 @@ use Rattle.replication.proofs.is_less.Statement.{statement}
 use Rattle.replication.proofs.is_less.Tie as tie
 
 module _ (a b : Fraction) (fits-a : FractionFits a) (fits-b : FractionFits b) where
-  product-max : a .popularity * b .count ≤ popularityBound * maxReplicas
+  product-max : a .popularity * b .count ≤ popularityBound * mostReplicas
   product-max = mul-le-mul (fits-a .popularity-max) (fits-b .count-max)
 
   less-is : ltb (a .popularity * b .count) (b .popularity * a .count) ≡ ltb (shareAt a) (shareAt b)

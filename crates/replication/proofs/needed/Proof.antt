@@ -7,9 +7,8 @@ use native.Mathlib.Nat.{mul-le-mul, mul-le-mul-left, mul-le-mul-right, lt-of-not
 use native.Mathlib.Numerals.{add-one}
 use native.Mathlib.Decide.{decLt, decLe}
 use native.Mathlib.Omega.{arith}
-use Rattle.model.specs.Plan.{maxReplicas}
 use Rattle.model.specs.Replication.{unit, share}
-use Rattle.theory.specs.Widths.{popularityBound}
+use Rattle.theory.specs.Widths.{mostReplicas, popularityBound}
 use Rattle.theory.proofs.Replication.{unit-divides, share-within}
 use Rattle.cluster.specs.Blocks.{popularityIn, leastIn, mostIn}
 use Rattle.replication.specs.Choice.{parts, NeedAsked}
@@ -25,8 +24,8 @@ short-gap P figure scale k Z least covered short =
     let lacking : suc (figure * suc k) * Z ≤ P * unit * Z = mul-le-mul-right Z short in
     omega arith
 
-small-figure : (figure k product : ℕ) → suc figure * parts ≤ k * parts + product → product ≤ popularityBound * figure → k ≤ maxReplicas
-    → figure < maxReplicas
+small-figure : (figure k product : ℕ) → suc figure * parts ≤ k * parts + product → product ≤ popularityBound * figure → k ≤ mostReplicas
+    → figure < mostReplicas
 small-figure figure k product gap narrow max = omega arith
 
 module _ (demand figure scale : ℕ) (asked : NeedAsked demand figure scale) where
@@ -58,16 +57,16 @@ module _ (demand figure scale : ℕ) (asked : NeedAsked demand figure scale) whe
   short-most : (k : ℕ) → figure * k < P * unit → k < mostIn demand
   short-most k l = lt-of-not-le (λ h. let more : figure * mostIn demand ≤ figure * k = mul-le-mul-left figure h in omega (arith, most-enough))
 
-  most-max : figure * mostIn demand ≤ figure * maxReplicas
+  most-max : figure * mostIn demand ≤ figure * mostReplicas
   most-max = mul-le-mul-left figure (asked .in-range .most-max)
 
   -- a product with the scale is at most the most copies in parts
-  product-max : P * scale ≤ maxReplicas * parts
+  product-max : P * scale ≤ mostReplicas * parts
   product-max =
-      elim (decLe (P * scale) (maxReplicas * parts)) [
+      elim (decLe (P * scale) (mostReplicas * parts)) [
         | yes l ↦ l
         | no l ↦ absurd
-            (let more : suc (maxReplicas * parts) * suc figure ≤ P * scale * suc figure = mul-le-mul-right (suc figure) (lt-of-not-le l) in
+            (let more : suc (mostReplicas * parts) * suc figure ≤ P * scale * suc figure = mul-le-mul-right (suc figure) (lt-of-not-le l) in
             let scaled : P * (scale * suc figure) ≤ P * (unit * parts) = mul-le-mul-left P (asked .scale-of .scale-max) in
             omega (arith, most-enough, most-max))
       ]
@@ -99,7 +98,7 @@ module _ (demand figure scale : ℕ) (asked : NeedAsked demand figure scale) whe
         | no l ↦ absurd
             (let gap = short-gap P figure scale k parts (asked .scale-of .scale-next) (omega arith) (lt-of-not-le l) in
             let narrow : P * figure ≤ popularityBound * figure = mul-le-mul-right figure (le-of-lt (asked .in-range .popularity-narrow)) in
-            let few : figure < maxReplicas = small-figure figure k (P * figure) gap narrow (omega (arith, asked .in-range .most-max)) in
+            let few : figure < mostReplicas = small-figure figure k (P * figure) gap narrow (omega (arith, asked .in-range .most-max)) in
             omega (arith, most-enough, most-max))
       ]
 

@@ -3,7 +3,6 @@
 use borrow.Author.Needs.{needs}
 use native.Mathlib.Nat.{mul-le-mul, div-le-self, lt-of-le-of-lt}
 use native.Mathlib.Omega.{arith}
-use Rattle.model.specs.Replication.{unit}
 use Rattle.theory.specs.Widths.{popularityBound}
 use Rattle.theory.proofs.Replication.{share-quotient}
 use Rattle.replication.proofs.Laws.{fraction-divides}
@@ -17,7 +16,7 @@ mul-result : tie.Need-mul-result
 mul-result c =
     let max = c .before .pre .popularity-max in
     record {
-      fits = lt-of-le-of-lt (mul-le-mul {n₂ = popularityBound} {m₂ = unit} (omega arith) (div-le-self _ _)) (omega arith);
+      fits = lt-of-le-of-lt (mul-le-mul {n₂ = popularityBound} (omega arith) (div-le-self _ _)) (omega arith);
     }
 
 returns : tie.Need-returns

@@ -12,10 +12,10 @@ use denote.Ref.{now}
 use lib.ListN.{getD}
 use Rattle.order.specs.Sum.{sum}
 use Rattle.order.proofs.Sums.{sum-zero, sum-step, sum-cong}
-use Rattle.model.specs.Plan.{Plan, maxReplicas, blockCount, blockOf, upper}
+use Rattle.model.specs.Plan.{Plan, blockCount, blockOf, upper}
 use Rattle.model.specs.Refusal.{maxBlocks}
 use Rattle.model.specs.Replication.{share, need}
-use Rattle.theory.specs.Widths.{popularityBound}
+use Rattle.theory.specs.Widths.{mostReplicas, popularityBound}
 use Rattle.theory.specs.Refusal.{ValidBlock}
 use Rattle.theory.proofs.Replication.{share-one, need-same, need-less, need-less-above}
 use Rattle.cluster.specs.Blocks.{DemandInRange, DemandsOf}
@@ -111,7 +111,7 @@ none-fits = record { popularity-max = le-refl _; count-pos = omega arith; count-
 abbrev Inv-loop : tie.InvT-loop
 Inv-loop demands cluster wanted scale total₀ next₀ i₀ total next i =
     (i ≤ cluster .blocks)
-    × (total ≤ maxReplicas * i)
+    × (total ≤ mostReplicas * i)
     × (next .blocks ≤ i)
     × (next .blocks ≤ total)
     × FractionFits (next .share)
@@ -163,7 +163,7 @@ module _ (c : tie.After-needed Inv-loop μ-loop) where
   demand-here : DemandInRange demand
   demand-here = At .before .before .before .pre .fit .each _ (omega arith)
 
-  count-range : (1 ≤ c .needed .result) × (c .needed .result ≤ maxReplicas)
+  count-range : (1 ≤ c .needed .result) × (c .needed .result ≤ mostReplicas)
   count-range =
       let d = demand-here in
       let found = c .needed .ensures in

@@ -1,0 +1,106 @@
+-- Document 02, U5: a share in 2520ths is three times that in 840ths, and the chosen counts do not go by the unit: two shares compare as
+-- the popularities do, each times the other's count, in any unit that both counts divide.
+-- Assumes nothing.
+use mathlib.Core.Path.{_≡_, refl, ap}
+use mathlib.Core.Logic.{_↔_}
+use Prim.Native.Nat.{ℕ, _*_, _<_, _≤_, _∣_}
+use native.Mathlib.Nat.{eq-of-mul-eq-mul-right, le-antisymm, le-trans, le-of-eq}
+use native.Mathlib.Omega.{arith}
+use lib.Dec.{ltb}
+use borrow.Author.Tests.{lt-ltb}
+use Rattle.order.specs.Search.{largest, allb}
+use Rattle.order.proofs.Extremes.{largest-term, largest-le, largest-at}
+use Rattle.model.specs.Plan.{Plan, maxReplicas, blockCount, blockOf, upper}
+use Rattle.model.specs.Replication.{FeasibleCounts, unit, share, largestShare, figure, chosen}
+use Rattle.theory.specs.Refusal.{Valid}
+use Rattle.theory.specs.Units.{earlierUnit, shareBy, largestBy, Tripled, ChosenBy, UnitFree, DividedBy, Units}
+use Rattle.theory.proofs.Plan.{upper-version, upper-max}
+use Rattle.theory.proofs.Replication.{allDivide, allDivide-at, unit-divides, shareBy-exact, shareBy-compares, share-exact, share-compares, largestShare-term, chosen-laws}
+
+earlier-divides : DividedBy 8 earlierUnit
+unfolding allDivide allb
+earlier-divides = allDivide-at 8 earlierUnit refl
+
+pub tripled : Tripled
+tripled P k pos few =
+    let whole = share-exact P k (unit-divides k pos (omega arith)) in
+    let before = shareBy-exact earlierUnit P k (earlier-divides k pos few) in
+    eq-of-mul-eq-mul-right k pos _ _ (omega (arith, whole, before))
+
+-- what is within a largest term passes from the one list of terms to the other
+largest-passes : (n : ℕ) (f g : ℕ → ℕ) (a b : ℕ) → 0 < n → ((j : ℕ) → j < n → a ≤ f j → b ≤ g j) → a ≤ largest n f → b ≤ largest n g
+largest-passes n f g a b some passes within =
+    let top = largest-at n f some in
+    le-trans (passes (top .0) (top .1) (rw (top .2) at within)) (largest-term n g (top .0) (top .1))
+
+module _ (units : ℕ) (pos : 1 ≤ units) (p : Plan) (v : Valid p) (divided : DividedBy (maxReplicas (p .version)) units) where
+  -- shares at lawful counts compare alike
+  alike : (i j a b : ℕ) → 1 ≤ a → a ≤ upper p i → 1 ≤ b → b ≤ upper p j
+      → (share (blockOf p i .popularity) a ≤ share (blockOf p j .popularity) b)
+      ↔ (shareBy units (blockOf p i .popularity) a ≤ shareBy units (blockOf p j .popularity) b)
+  alike i j a b a1 a2 b1 b2 =
+      let both = share-compares _ a _ b (unit-divides a a1 (le-trans a2 (upper-max p i))) (unit-divides b b1 (le-trans b2 (upper-max p j))) in
+      let same = shareBy-compares units pos (blockOf p i .popularity) a (blockOf p j .popularity) b
+      (divided a a1 (le-trans a2 (upper-version p i))) (divided b b1 (le-trans b2 (upper-version p j))) in
+      (λ l. same .1 (both .0 l), λ l. both .1 (same .0 l))
+
+  module _ (count : ℕ → ℕ) (c : FeasibleCounts p count) where
+    -- a share is within the largest one in the one unit as in the other
+    within-alike : (i k : ℕ) → i < blockCount p → 1 ≤ k → k ≤ upper p i
+        → (share (blockOf p i .popularity) k ≤ largestShare p count)
+        ↔ (shareBy units (blockOf p i .popularity) k ≤ largestBy units p count)
+    unfolding largestShare largestBy
+    within-alike i k l k1 k2 = (
+      largest-passes (blockCount p) _ _ _ _ (omega arith) (λ j m. at-block j m .0),
+      largest-passes (blockCount p) _ _ _ _ (omega arith) (λ j m. at-block j m .1),
+    )
+      where
+        at-block : (j : ℕ) → j < blockCount p
+            → (share (blockOf p i .popularity) k ≤ share (blockOf p j .popularity) (count j))
+            ↔ (shareBy units (blockOf p i .popularity) k ≤ shareBy units (blockOf p j .popularity) (count j))
+        at-block j m =
+            alike i j k (count j) k1 k2 (le-trans (v .shaped .block j m .min-pos) (c .at-least j m)) (c .at-most j m)
+
+  chosen-chosen : ChosenBy units p (chosen p)
+  unfolding largestBy
+  chosen-chosen =
+      let laws = chosen-laws p v in
+      record {
+        feasible = laws .feasible;
+        optimal = λ other c.
+            largest-le (blockCount p) _ (largestBy units p other)
+            (λ i l.
+            within-alike other c i (chosen p i) l (le-trans (v .shaped .block i l .min-pos) (laws .feasible .at-least i l))
+            (laws .feasible .at-most i l) .0
+            (le-trans (largestShare-term p (chosen p) i l) (laws .optimal other c)));
+        smallest-count = λ i k l low high w.
+            laws .smallest-count i k l low high
+            (rw (laws .figure-is) at
+            (within-alike (chosen p) (laws .feasible) i k l (le-trans (v .shaped .block i l .min-pos) low) high .1 w));
+      }
+
+  -- either largest share is at most the other, so that each count is within both
+  unit-free : UnitFree units p
+  unfolding largestBy
+  unit-free =
+      record {
+        chosen-by = chosen-chosen;
+        no-others = λ count by i l.
+            let own = chosen-chosen in
+            let same : largestBy units p count ≡ largestBy units p (chosen p) =
+            le-antisymm (by .optimal (chosen p) (own .feasible)) (own .optimal count (by .feasible))
+            in
+            le-antisymm
+            (by .smallest-count i (chosen p i) l (own .feasible .at-least i l) (own .feasible .at-most i l)
+            (rw same (largest-term (blockCount p) (λ j. shareBy units (blockOf p j .popularity) (chosen p j)) i l)))
+            (own .smallest-count i (count i) l (by .feasible .at-least i l) (by .feasible .at-most i l)
+            (rw (← same) (largest-term (blockCount p) (λ j. shareBy units (blockOf p j .popularity) (count j)) i l)));
+      }
+
+pub units : (p : Plan) → Valid p → Units p
+unfolding maxReplicas
+units p v =
+    record {
+      any = λ units pos divided. unit-free units pos p v divided;
+      earlier = λ old. unit-free earlierUnit (omega arith) p v (rw (lt-ltb (p .version) 3 (omega arith)) earlier-divides);
+    }
