@@ -10,7 +10,7 @@ use Rattle.model.specs.Replication.{limit, share, largestShare, need, reachable
 use Rattle.model.specs.Placement.{bit, replicas, replicasIn, domainsUsed, used, allWithin, allSpread, allFit, allApart, keptApart, firstWord, laidWord, position}
 use Rattle.model.specs.Calls.{onPlan, unless, allCounted, placementRefusal, onPlacement, checkCall, countsCall, firstCall}
 use Rattle.theorems.specs.Trials.{plan-H, plan-full}
-use Rattle.theorems.specs.RowExamples.{H-with, plan-pair, RowExamples}
+use Rattle.theorems.specs.RowExamples.{H-with, plan-pair, plan-ten, RowExamples}
 use Rattle.theorems.proofs.Trials.{figure-of, figures}
 
 -- H with C 2 has as many places as its budget, and the same figure.
@@ -24,7 +24,7 @@ unfolding refusal check1 check2 check3 check4 check5 check6 check7 planRefusal b
 pair-figure = figure-of plan-pair 7559 refl refl refl
 
 pub row-examples : RowExamples
-unfolding judge refusal check1 check2 check3 check4 check5 check6 check7 planRefusal blocksRefusal blockRefusal check8 check9 pairsRefusal pairRefusal check17 alike check10 check11 check12 planIn blockIn formatOf field upper maxReplicas isPaired pairsBack pairsNext minTotal limit share need chosen bit replicas replicasIn domainsUsed used allWithin allSpread allFit allApart keptApart partner onPlan unless allCounted placementRefusal onPlacement checkCall countsCall firstCall filled firstWord laidWord position largestShare largest sum table firstUp least allb plan-H plan-full plan-pair
+unfolding judge refusal check1 check2 check3 check4 check5 check6 check7 planRefusal blocksRefusal blockRefusal check8 check9 pairsRefusal pairRefusal check17 alike check10 check11 check12 planIn blockIn formatOf field upper maxReplicas isPaired pairsBack pairsNext minTotal limit share need chosen bit replicas replicasIn domainsUsed used allWithin allSpread allFit allApart keptApart partner onPlan unless allCounted placementRefusal onPlacement checkCall countsCall firstCall filled firstWord laidWord position largestShare largest sum table firstUp least allb plan-H plan-full plan-pair plan-ten
 row-examples =
     record {
       row1 = refl;
@@ -55,6 +55,12 @@ row-examples =
       row8-first = refl;
       row8-second = refl;
       row8-byte = refl;
+      row8-eight = refl;
+      row8-nine = refl;
+      row8-ten = refl;
+      row8-eleven = refl;
+      row8-eleven-paired = refl;
+      row8-half = refl;
       after-nine = refl;
       before-ten = refl;
       ten = refl;

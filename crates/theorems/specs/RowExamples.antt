@@ -1,9 +1,10 @@
 -- Document 01, "Why a plan or placement is turned back": the small examples of its table, each on the plan's bytes; and those of rows
--- 17 and 18, of document 02, U1.
+-- 17 and 18, of document 02, U1, and of the most copies by version, U5.
 use mathlib.Core.Path.{_≡_}
 use mathlib.Core.List.{List, [], _∷_}
 use Prim.Native.Nat.{ℕ}
 use lib.ListN.{set, take}
+use Rattle.model.specs.Plan.{planIn}
 use Rattle.model.specs.Refusal.{judge, refused, accepted}
 use Rattle.model.specs.Calls.{refuse, countsCall, firstCall, checkCall}
 use Rattle.theorems.specs.Trials.{plan-H, plan-full, gives}
@@ -24,6 +25,16 @@ plan-pair =
 
 abbrev pub pair-with : ℕ → ℕ → List ℕ
 pair-with at byte = set plan-pair at byte
+
+-- A pair and a block more with ten copies each, version 3: R 1, S 24, C 2, budget 30; P 1, least copies 10, spread 1. The least copies
+-- are at 19, 26 and 33.
+unfoldable pub plan-ten : List ℕ
+plan-ten =
+    0x42 ∷ 0x50 ∷ 0x4C ∷ 0 ∷ 3 ∷ 1 ∷ 24 ∷ 0 ∷ 2 ∷ 0 ∷ 0 ∷ 0 ∷ 30 ∷ 0 ∷ 3
+    ∷ 0 ∷ 0 ∷ 0 ∷ 1 ∷ 10 ∷ 1 ∷ 1
+    ∷ 0 ∷ 0 ∷ 0 ∷ 1 ∷ 10 ∷ 1 ∷ 0
+    ∷ 0 ∷ 0 ∷ 0 ∷ 1 ∷ 10 ∷ 1 ∷ 0
+    ∷ []
 
 -- A placement handed in is turned back with the code.
 abbrev pub TurnsBack : List ℕ → List ℕ → ℕ → Type 0
@@ -63,6 +74,14 @@ pub record RowExamples : Type 0 where
   pub row8-first : judge (pair-with 18 3) ≡ refused 8
   pub row8-second : judge (pair-with 24 3) ≡ refused 8
   pub row8-byte : judge (set (pair-with 20 2) 18 3) ≡ refused 17
+  -- version 1 on nine machines: eight copies pass, nine do not
+  pub row8-eight : judge (set (set plan-full 6 9) 18 8) ≡ refused 10
+  pub row8-nine : judge (set (set plan-full 6 9) 18 9) ≡ refused 8
+  -- version 3 on 24 machines: ten copies pass, of a pair too, and eleven do not; on 18 a pair has at most nine
+  pub row8-ten : judge plan-ten ≡ accepted (planIn plan-ten)
+  pub row8-eleven : judge (set plan-ten 33 11) ≡ refused 8
+  pub row8-eleven-paired : judge (set plan-ten 19 11) ≡ refused 8
+  pub row8-half : judge (set plan-ten 6 18) ≡ refused 8
   -- 17 comes after 9 of a later block, and before 10
   pub after-nine : judge (set (pair-with 20 2) 31 0) ≡ refused 9
   pub before-ten : judge (set (pair-with 32 1) 12 2) ≡ refused 17

@@ -2,6 +2,7 @@
 -- A law's name begins with the definition that it is about.
 pub mod Plan
 pub mod Refusal
+pub mod Widths
 pub mod Replication
 pub mod Units
 pub mod Placement

@@ -1,6 +1,6 @@
 -- How large the numbers of an accepted plan get. Another width, unit or limit changes these values and nothing that cites the names.
-use Prim.Native.Nat.{ℕ, _*_, _^_}
-use Rattle.model.specs.Refusal.{maxBlocks}
+use Prim.Native.Nat.{ℕ, _*_, _^_, _≤_}
+use Rattle.model.specs.Refusal.{maxMachines, maxBlocks}
 use Rattle.model.specs.Replication.{unit}
 
 -- The most copies of a block in any version.
@@ -21,3 +21,9 @@ shareBound = popularityBound * unit
 -- What every load is below: a share of every block.
 abbrev pub loadBound : ℕ
 loadBound = shareBound * maxBlocks
+
+-- A share has at most 44 bits, a load 54, and the sum of all loads 60.
+pub record WidthLaws : Type 0 where
+  pub share-width : shareBound ≤ 2 ^ 44
+  pub load-width : loadBound ≤ 2 ^ 54
+  pub total-width : loadBound * maxMachines ≤ 2 ^ 60
