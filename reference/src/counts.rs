@@ -2,9 +2,12 @@
 
 use crate::plan::Plan;
 
-/// The share of a copy: P × 840 / count, in 840ths of a read.
+/// A read in units of a share: every count from 1 to 10 divides it.
+pub const UNIT: u64 = 2520;
+
+/// The share of a copy: P × 2520 / count, in 2520ths of a read.
 pub fn share(popularity: u64, count: usize) -> u64 {
-    popularity * 840 / count as u64
+    popularity * UNIT / count as u64
 }
 
 /// The smallest count of block i, from its least copies to its upper count, whose share is within `figure`.
@@ -24,7 +27,7 @@ fn all_within(plan: &Plan, figure: u64) -> Option<Vec<usize>> {
 fn fitting(plan: &Plan, figure: u64) -> Option<Vec<usize>> {
     let counts = all_within(plan, figure)?;
     let sum: u64 = counts.iter().map(|c| *c as u64).sum();
-    (sum <= plan.most_copies()).then_some(counts)
+    (sum <= plan.limit()).then_some(counts)
 }
 
 /// All shares that any block can have, and 0, rising.

@@ -2,7 +2,7 @@
 
 use crate::gen::{draft, filled, placement, Draft, Record, Rng, Size};
 use crate::placement::{broken_rows, copies_of, held_by, holds};
-use crate::plan::Plan;
+use crate::plan::{most_copies, Plan};
 
 /// The rows for a plan of version 2 or 3, in the order of the checks. Row 17 refuses none of version 1.
 pub const PLAN_ROWS: [u8; 12] = [1, 2, 3, 4, 5, 6, 7, 8, 9, 17, 10, 11];
@@ -17,6 +17,7 @@ pub fn any_row(rng: &mut Rng, version: u16) -> u8 {
 /// The plan file with one more flaw, that of the given row (1 to 11, and 17 from version 2 on). Rows that need a record
 /// are left out of a file that has none.
 pub fn flawed(rng: &mut Rng, mut bytes: Vec<u8>, row: u8) -> Vec<u8> {
+    let above = above_most(&bytes);
     match row {
         1 => bytes.truncate(rng.below(15) as usize),
         2 => bytes[rng.below(3) as usize] ^= rng.from_to(1, 255) as u8,
@@ -29,8 +30,8 @@ pub fn flawed(rng: &mut Rng, mut bytes: Vec<u8>, row: u8) -> Vec<u8> {
         ),
         6 => set(&mut bytes, 13, &rng.one_of(&[[4, 1], [255, 255], [5, 0]])),
         7 => lengthened(rng, &mut bytes),
-        8 => flaw_record(rng, &mut bytes, 0, &[0, 9, 255]),
-        9 => flaw_record(rng, &mut bytes, 1, &[0, 9, 65, 255]),
+        8 => flaw_record(rng, &mut bytes, 0, &[0, above, 255]),
+        9 => flaw_record(rng, &mut bytes, 1, &[0, above, 65, 255]),
         10 => set(&mut bytes, 9, &rng.one_of(&[[0; 4], [0, 0, 0, 1]])),
         17 => flaw_record(rng, &mut bytes, 2, &[2, 3, 128, 255]),
         _ => set(&mut bytes, 5, &[1, 1, 0, 1]),
@@ -70,6 +71,15 @@ fn machines_refused(rng: &mut Rng) -> [u8; 2] {
         [255, 255],
         [43, 6],
     ])
+}
+
+/// One more than the most copies of a block in this file's version.
+fn above_most(bytes: &[u8]) -> u8 {
+    let version = match bytes.get(3..5) {
+        Some([0, version]) => *version,
+        _ => 1,
+    };
+    most_copies(version.into()) as u8 + 1
 }
 
 /// The bytes of a popularity in this file, and those of a record.
@@ -133,7 +143,7 @@ pub fn two_records(rng: &mut Rng, size: Size, least_first: bool) -> Option<Draft
     } else {
         (late, early)
     };
-    draft.records[eight as usize].least = 9;
+    draft.records[eight as usize].least = draft.most_copies() + 1;
     draft.records[nine as usize].spread = rng.one_of(&[0, 100]);
     Some(draft)
 }
@@ -141,7 +151,9 @@ pub fn two_records(rng: &mut Rng, size: Size, least_first: bool) -> Option<Draft
 /// An accepted plan with a spread above R that is not above the block's least copies: row 9.
 pub fn over_racks(rng: &mut Rng, size: Size) -> Option<Draft> {
     let mut draft = draft(rng, size);
-    if draft.records.is_empty() || draft.machines().min(8) <= u64::from(draft.racks) {
+    if draft.records.is_empty()
+        || draft.machines().min(draft.most_copies().into()) <= u64::from(draft.racks)
+    {
         return None;
     }
     let i = rng.below(draft.records.len() as u64) as usize;
@@ -178,7 +190,7 @@ pub const MISPAIRINGS: [Mispairing; 6] = [
 /// Makes so many blocks from i on alike and gives all but the last of them the byte 1, so that two are a pair; no pair
 /// ends at i. Least copies and spread are within the limits of a paired block.
 fn couple(draft: &mut Draft, i: usize, number: usize) {
-    let half = (draft.machines() / 2).min(8) as u8;
+    let half = (draft.machines() / 2).min(draft.most_copies().into()) as u8;
     let mut record = draft.records[i];
     record.least = record.least.min(half);
     record.spread = record.spread.min(record.least);
@@ -193,7 +205,7 @@ fn couple(draft: &mut Draft, i: usize, number: usize) {
 
 /// Makes the pair at i differ in its popularity, least copies or spread. False where the machines are too few.
 fn differ(rng: &mut Rng, draft: &mut Draft, i: usize, how: Mispairing) -> bool {
-    let half = (draft.machines() / 2).min(8);
+    let half = (draft.machines() / 2).min(draft.most_copies().into());
     let (racks, other) = (draft.racks, i + rng.below(2) as usize);
     if how == Mispairing::Popularity {
         let bits = if draft.version == 3 { 32 } else { 24 };

@@ -1,7 +1,7 @@
 //! Plans and placements made from a seed, always the same from the same seed.
 
 use crate::placement::{feasible, first, holds};
-use crate::plan::{read, Plan};
+use crate::plan::{most_copies, read, Plan};
 
 /// A small generator of numbers (splitmix).
 pub struct Rng(u64);
@@ -72,13 +72,19 @@ impl Draft {
         self.records.iter().map(|r| u64::from(r.least)).sum()
     }
 
-    /// The upper count of block i: the smaller of 8 and M, for a paired block of 8 and half of M.
+    /// The most copies of a block in this version.
+    pub fn most_copies(&self) -> u8 {
+        most_copies(self.version.into()) as u8
+    }
+
+    /// The upper count of block i: the smaller of the most copies and M, for a paired block of the most copies and half
+    /// of M.
     pub fn upper(&self, i: usize) -> u8 {
         let paired = self.records[i.saturating_sub(1)..=i]
             .iter()
             .any(|r| r.pair == 1);
         let most = self.machines() / if paired { 2 } else { 1 };
-        most.min(8) as u8
+        most.min(self.most_copies().into()) as u8
     }
 
     /// The plan file.
@@ -287,7 +293,7 @@ fn records(rng: &mut Rng, draft: &Draft, size: Size, number: u64, mut left: u64)
     let manner = manner(rng, size);
     let mixed = rng.once_in(2);
     let machines = draft.machines();
-    let most = rng.from_to(1, machines.min(8));
+    let most = rng.from_to(1, machines.min(draft.most_copies().into()));
     let pairing = Pairing::of(rng, size.version, machines);
     let mut records = Vec::new();
     while (records.len() as u64) < number && left > 0 {
@@ -338,7 +344,7 @@ fn budget(rng: &mut Rng, draft: &Draft) -> u32 {
         1 => least + 1,
         2 => places,
         3 => places + 1,
-        4 => number * draft.machines().min(8),
+        4 => number * draft.machines().min(draft.most_copies().into()),
         5 => u64::from(u32::MAX),
         _ => least + rng.below(2 * number + 2),
     };

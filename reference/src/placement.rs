@@ -50,7 +50,7 @@ fn counts_feasible(plan: &Plan, words: &[u64]) -> bool {
         b.least <= copies_of(words[i]) && copies_of(words[i]) <= plan.upper(i)
     };
     let sum: u64 = words.iter().map(|w| copies_of(*w) as u64).sum();
-    plan.blocks.iter().enumerate().all(each) && sum <= plan.most_copies()
+    plan.blocks.iter().enumerate().all(each) && sum <= plan.limit()
 }
 
 /// No machine holds both blocks of a pair.

@@ -15,6 +15,7 @@ pub struct Block {
 /// An accepted plan file.
 #[derive(Clone, Debug, PartialEq, Eq)]
 pub struct Plan {
+    pub version: u64,
     pub racks: usize,
     pub per_rack: usize,
     pub capacity: usize,
@@ -63,7 +64,8 @@ impl Plan {
         first.map(|i| (i, i + 1))
     }
 
-    /// The upper count of a block: the smaller of 8 and M, for a paired one of 8 and half of M rounded down.
+    /// The upper count of a block: the smaller of the most copies and M, for a paired one of the most copies and half of
+    /// M rounded down.
     pub fn upper(&self, i: usize) -> usize {
         let machines = self.machines();
         let most = if self.paired(i) {
@@ -71,11 +73,11 @@ impl Plan {
         } else {
             machines
         };
-        most.min(8)
+        most.min(most_copies(self.version))
     }
 
-    /// The most copies in all: the smaller of budget and M × C.
-    pub fn most_copies(&self) -> u64 {
+    /// The most copies of all blocks together: the smaller of budget and M × C.
+    pub fn limit(&self) -> u64 {
         self.budget
             .min(self.machines() as u64 * self.capacity as u64)
     }
@@ -99,6 +101,14 @@ fn record_length(version: u64) -> usize {
         1 => 5,
         2 => 6,
         _ => 7,
+    }
+}
+
+/// The most copies of a block, where there are machines enough: 8, in version 3 10.
+pub fn most_copies(version: u64) -> usize {
+    match version {
+        1 | 2 => 8,
+        _ => 10,
     }
 }
 
@@ -138,6 +148,7 @@ fn read_header(bytes: &[u8], versions: &[u64]) -> Result<Plan, Refusal> {
     refuse_if(number > 1024, 6)?;
     refuse_if(bytes.len() != 15 + record_length(version) * number, 7)?;
     Ok(Plan {
+        version,
         racks,
         per_rack,
         capacity,

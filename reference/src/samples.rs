@@ -28,10 +28,10 @@ pub const H: [u8; 30] = [
 
 /// What the program prints for plan H.
 pub const H_LISTING: &str = "plan 2 2 3\n\
-    block 0 4 2520 0 1 2 3\n\
-    block 1 2 2520 0 2\n\
-    block 2 1 1680 1\n\
-    rest 0 5040 2520 16800 2520\n";
+    block 0 4 7560 0 1 2 3\n\
+    block 1 2 7560 0 2\n\
+    block 2 1 5040 1\n\
+    rest 0 15120 7560 50400 7560\n";
 
 /// Plan H as fields, to be varied.
 pub fn h() -> Draft {
@@ -162,11 +162,11 @@ pub const K: [u8; 39] = [
 
 /// What the program prints for plan K.
 pub const K_LISTING: &str = "plan 2 2 4\n\
-    block 0 2 5040 0 2\n\
-    block 1 2 5040 1 3\n\
-    block 2 1 5040 0\n\
-    block 3 1 1680 2\n\
-    rest 0 10080 5040 26880 5040\n";
+    block 0 2 15120 0 2\n\
+    block 1 2 15120 1 3\n\
+    block 2 1 15120 0\n\
+    block 3 1 5040 2\n\
+    rest 0 30240 15120 80640 15120\n";
 
 /// A pair and two blocks more on two machines, in one rack or in two, with a capacity to choose.
 fn pair_and(shape: (u8, u8), capacity: u16, popularities: [u32; 3]) -> Draft {
@@ -227,7 +227,18 @@ pub fn video() -> Draft {
     wide_plan((2, 2), 3, 9, &records)
 }
 
-/// The largest plan of version 3: eight copies of each of 1,024 blocks of the largest popularity.
+/// The largest plan of version 3: ten copies of each of 1,024 blocks of the largest popularity.
 pub fn largest_wide() -> Draft {
-    plan_of((8, 8), 1024, 8192, &[(u32::MAX, 8, 8); 1024]).wide()
+    plan_of((8, 8), 1024, 10_240, &[(u32::MAX, 10, 8); 1024]).wide()
+}
+
+/// The same with least copies and spread of one: the budget lets every block have ten copies.
+pub fn largest_grown() -> Draft {
+    plan_of((8, 8), 1024, 10_240, &[(u32::MAX, 1, 1); 1024]).wide()
+}
+
+/// A calibration run that is read everywhere: nine machines with a place each, and budget for all of them. It gets eight
+/// copies, and in version 3 nine.
+pub fn calibration() -> Draft {
+    plan_of((3, 3), 1, 9, &[(7, 1, 1)])
 }

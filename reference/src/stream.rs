@@ -270,15 +270,15 @@ impl Memory {
 }
 
 /// One record of a stream.
-struct Record<'a> {
-    op: u8,
-    length: usize,
-    number: u32,
-    payload: &'a [u8],
+pub struct Record<'a> {
+    pub op: u8,
+    pub length: usize,
+    pub number: u32,
+    pub payload: &'a [u8],
 }
 
 /// Takes the next record off the stream.
-fn next_record<'a>(stream: &mut &'a [u8]) -> Record<'a> {
+pub fn next_record<'a>(stream: &mut &'a [u8]) -> Record<'a> {
     let (head, behind) = stream.split_at(8);
     let length = usize::from(u16::from_be_bytes([head[2], head[3]]));
     let size = match head[0] {

@@ -1,7 +1,8 @@
 //! The stored trials: the specification's plans and examples first, generated ones after them; then the same for
-//! version 2, for reads, for version 3, and for the converter.
+//! version 2, for reads, for version 3, for the converter, and for the most copies of a block.
 
 mod conversions;
+mod copies;
 mod pairs;
 mod reads;
 mod wide;
@@ -463,6 +464,7 @@ pub fn stream() -> Vec<u8> {
     reads::all(&mut w, &mut Rng::new(3));
     wide::all(&mut w, &mut Rng::new(4));
     conversions::all(&mut w, &mut Rng::new(5));
+    copies::all(&mut w, &mut Rng::new(6));
     w.calls("E");
     w.bytes
 }

@@ -58,20 +58,20 @@ fn bound(bytes: &[u8], words: &[u64], other: &[u64]) -> (Plan, Bound) {
 }
 
 /// "No machine full" is needed. Every machine is full, so that only exchanges could be steps, and none is: three machines
-/// with 15,120 each rest beside three with 10,080, though 12,600 on each is lawful. Three shares are not enough.
+/// with 45,360 each rest beside three with 30,240, though 37,800 on each is lawful. Three shares are not enough.
 #[test]
 fn full_machines_break_three_shares() {
     let (draft, rest, even) = full_machines();
     let (plan, bound) = bound(&draft.bytes(), &rest, &even);
     assert_eq!(full(&plan, &rest), 6);
-    let [hot, cool] = [15_120, 10_080];
+    let [hot, cool] = [45_360, 30_240];
     assert_eq!(loads(&plan, &rest), [hot, hot, hot, cool, cool, cool]);
-    assert_eq!(loads(&plan, &even), [12_600; 6]);
+    assert_eq!(loads(&plan, &even), [37_800; 6]);
     let expected = Bound {
         machines: 6,
-        at_rest: 15_120,
-        other: 12_600,
-        share: 840,
+        at_rest: 45_360,
+        other: 37_800,
+        share: 2520,
     };
     assert_eq!(bound, expected);
     assert!(!bound.holds_with(3));
@@ -86,19 +86,19 @@ fn one_share_is_too_few() {
     let even = first(&draft.plan().expect("an accepted plan"));
     let (plan, bound) = bound(&draft.bytes(), &rest, &even);
     assert_eq!(full(&plan, &rest), 0);
-    assert_eq!(loads(&plan, &even), [2520; 4]);
+    assert_eq!(loads(&plan, &even), [7560; 4]);
     let expected = Bound {
         machines: 4,
-        at_rest: 3360,
-        other: 2520,
-        share: 840,
+        at_rest: 10_080,
+        other: 7560,
+        share: 2520,
     };
     assert_eq!(bound, expected);
     assert!(!bound.holds_with(1));
     assert!(bound.holds_with(3));
 }
 
-/// Nor are two shares: 15 × 6720 = 100,800 is above 15 × 5040 + 2 × 14 × 840 = 99,120.
+/// Nor are two shares: 15 × 20,160 = 302,400 is above 15 × 15,120 + 2 × 14 × 2520 = 297,360.
 #[test]
 fn two_shares_are_too_few() {
     let records = [[(5, 5, 5); 12].as_slice(), &[(6, 6, 1); 5]].concat();
@@ -114,9 +114,9 @@ fn two_shares_are_too_few() {
     assert_eq!(full(&plan, &rest), 0);
     let expected = Bound {
         machines: 15,
-        at_rest: 6720,
-        other: 5040,
-        share: 840,
+        at_rest: 20_160,
+        other: 15_120,
+        share: 2520,
     };
     assert_eq!(bound, expected);
     assert!(!bound.holds_with(2));

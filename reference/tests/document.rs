@@ -5,12 +5,18 @@ use placement_reference::convert::{converted, enter_convert, LARGEST_PLAN};
 use placement_reference::counts::chosen;
 use placement_reference::gen::Draft;
 use placement_reference::listing::text;
-use placement_reference::placement::{first, loads};
+use placement_reference::placement::{copies_of, first, loads};
+use placement_reference::plan::Plan;
 use placement_reference::samples::*;
 use placement_reference::steps::{step_literal, step_plain, End, Kind, Step};
 
 fn plan_row(draft: &Draft) -> Option<u8> {
     enter_plan(&draft.bytes()).err()
+}
+
+/// The same fields in another version.
+fn in_version(version: u64, verdict: Result<Plan, u8>) -> Result<Plan, u8> {
+    verdict.map(|plan| Plan { version, ..plan })
 }
 
 fn check_row(draft: &Draft, words: &[u64]) -> Option<u8> {
@@ -168,10 +174,8 @@ fn row_eighteen() {
 #[test]
 fn all_pair_bytes_zero() {
     for draft in [h(), h_budget(3), row_eleven(1), y(), z(), empty(), ties()] {
-        assert_eq!(
-            enter_plan(&draft.bytes()),
-            enter_plan(&draft.unpaired().bytes())
-        );
+        let unpaired = enter_plan(&draft.unpaired().bytes());
+        assert_eq!(in_version(2, enter_plan(&draft.bytes())), unpaired);
         assert_eq!(text(&draft.bytes(), 9), text(&draft.unpaired().bytes(), 9));
     }
 }
@@ -208,7 +212,8 @@ fn steps_that_a_pair_forbids() {
 fn version_three() {
     for (draft, bytes, listing) in [(h(), &H_3[..], H_LISTING), (k(), &K_3, K_LISTING)] {
         assert_eq!(draft.wide().bytes(), bytes);
-        assert_eq!(enter_plan(bytes), enter_plan(&draft.bytes()));
+        let old = enter_plan(&draft.bytes());
+        assert_eq!(enter_plan(bytes), in_version(3, old));
         assert_eq!(text(bytes, 100_000), listing);
         assert_eq!(enter_plan(&bytes[..bytes.len() - 1]).err(), Some(7));
         assert_eq!(enter_plan(&[bytes, &[0]].concat()).err(), Some(7));
@@ -239,9 +244,87 @@ fn wider_popularity() {
     let mut words = [0; 1024];
     enter_first(&bytes, &mut words).unwrap();
     let report = enter_report(&bytes, &words).unwrap();
-    assert_eq!(report.largest_share, 4_294_967_295 * 105);
-    assert_eq!(report.maximum, 128 * report.largest_share);
-    assert_eq!(report.sum, 840 * 1024 * 4_294_967_295);
+    assert_eq!(report.largest_share, 4_294_967_295 * 252);
+    assert_eq!(report.maximum, 160 * report.largest_share);
+    assert_eq!(report.sum, 2520 * 1024 * 4_294_967_295);
+}
+
+/// Least copies up to 8, in version 3 up to 10, where there are as many machines.
+#[test]
+fn row_eight_of_each_version() {
+    for machines in [7, 8, 9, 10, 11, 64] {
+        for least in 7..=12 {
+            let draft = plan_of((1, machines), 1, 99, &[(1, least, 1)]);
+            let row = |most: u8| (least > most.min(machines)).then_some(8);
+            assert_eq!(plan_row(&draft), row(8));
+            assert_eq!(plan_row(&draft.unpaired()), row(8));
+            assert_eq!(plan_row(&draft.wide()), row(10));
+        }
+    }
+    for machines in [15, 16, 17, 18, 19, 20, 21, 64] {
+        for least in 7..=12 {
+            let records = [(1, least, 1, 1), (1, least, 1, 0)];
+            let draft = paired_plan((1, machines), 1, 99, &records);
+            let row = |most: u8| (least > most.min(machines / 2)).then_some(8);
+            assert_eq!(plan_row(&draft), row(8));
+            assert_eq!(plan_row(&draft.wide()), row(10));
+        }
+    }
+}
+
+/// The counts of a plan.
+fn counts(draft: &Draft) -> Vec<usize> {
+    chosen(&draft.plan().unwrap())
+}
+
+/// Counts above eight, held by the budget, by M, by places and by half of M; before version 3 they stay at eight.
+#[test]
+fn ten_copies() {
+    let (hot, cold) = ((7, 1, 1), (0, 1, 1));
+    for (draft, before, now) in [
+        (plan_of((3, 4), 9, 10, &[hot, cold]), [8, 1], [9, 1]),
+        (plan_of((3, 4), 9, 99, &[hot, cold]), [8, 1], [10, 1]),
+        (plan_of((3, 3), 9, 99, &[hot, cold]), [8, 1], [9, 1]),
+        (plan_of((2, 5), 1, 99, &[hot, cold]), [8, 1], [9, 1]),
+        (plan_of((1, 8), 9, 99, &[hot, cold]), [8, 1], [8, 1]),
+    ] {
+        assert_eq!(counts(&draft), before);
+        assert_eq!(counts(&draft.unpaired()), before);
+        assert_eq!(counts(&draft.wide()), now);
+    }
+    let pair = [(7, 1, 1, 1), (7, 1, 1, 0)];
+    for (machines, before, now) in [(16, 8, 8), (17, 8, 8), (18, 8, 9), (19, 8, 9), (20, 8, 10)] {
+        let draft = paired_plan((1, machines), 9, 99, &pair);
+        assert_eq!(counts(&draft), [before; 2]);
+        assert_eq!(counts(&draft.wide()), [now; 2]);
+    }
+    let rising: Vec<_> = (1..=10).map(|p| (p, 1, 1)).collect();
+    let draft = plan_of((2, 6), 10, 55, &rising).wide();
+    assert_eq!(counts(&draft), [1, 2, 3, 4, 5, 6, 7, 8, 9, 10]);
+    let grown = largest_grown();
+    assert_eq!(counts(&grown), [10; 1024]);
+    assert_eq!(counts(&grown.coupled(1024)), [10; 1024]);
+}
+
+/// Above 8 machines a converted plan has the same fields, and may have other counts, placement and listing.
+#[test]
+fn a_conversion_with_more_copies() {
+    let old = calibration().bytes();
+    let new = converted(&old).unwrap();
+    assert_eq!(enter_plan(&new), in_version(3, enter_plan(&old)));
+    assert_eq!(counts(&calibration()), [8]);
+    assert_eq!(counts(&calibration().wide()), [9]);
+    let mut words = [[0], [0]];
+    enter_first(&old, &mut words[0]).unwrap();
+    enter_first(&new, &mut words[1]).unwrap();
+    assert_eq!(words.map(|w| copies_of(w[0])), [8, 9]);
+    assert_eq!(enter_check(&new, &words[0]).err(), Some(14));
+    assert_eq!(enter_check(&old, &words[1]).err(), Some(14));
+    let listings = [
+        "plan 3 3 1\nblock 0 8 2205 0 1 2 3 4 5 6 7\nrest 0 2205 0 17640 2205\n",
+        "plan 3 3 1\nblock 0 9 1960 0 1 2 3 4 5 6 7 8\nrest 0 1960 1960 17640 1960\n",
+    ];
+    assert_eq!([text(&old, 9), text(&new, 9)], listings);
 }
 
 /// Row 17 looks at every byte of the popularity.
@@ -326,14 +409,14 @@ fn plan_y() {
     let bytes = y().bytes();
     let begin = first(&plan);
     assert_eq!(begin, [1, 2, 1]);
-    assert_eq!(loads(&plan, &begin), [5040, 840]);
+    assert_eq!(loads(&plan, &begin), [15_120, 2520]);
     let mut words = begin.clone();
     let taken = enter_step(&bytes, &mut words).unwrap();
     assert_eq!(taken, Some(step(Kind::Move, 0, 1, 0, None)));
-    assert_eq!(loads(&plan, &words), [1680, 4200]);
+    assert_eq!(loads(&plan, &words), [5040, 12_600]);
     let taken = enter_step(&bytes, &mut words).unwrap();
     assert_eq!(taken, Some(step(Kind::Move, 1, 0, 1, None)));
-    assert_eq!(loads(&plan, &words), [2520, 3360]);
+    assert_eq!(loads(&plan, &words), [7560, 10_080]);
     assert_eq!(enter_step(&bytes, &mut words), Ok(None));
     for (budget, said) in [
         (0, (End::Spent, 0)),
@@ -355,7 +438,7 @@ fn plan_z() {
     let taken = enter_step(&bytes, &mut words).unwrap();
     assert_eq!(taken, Some(step(Kind::Swap, 1, 0, 0, Some(1))));
     assert_eq!(words, [1, 2, 1, 2]);
-    assert_eq!(loads(&plan, &words), [5040, 5040]);
+    assert_eq!(loads(&plan, &words), [15_120, 15_120]);
     assert_eq!(enter_step(&bytes, &mut words), Ok(None));
 }
 
@@ -385,7 +468,7 @@ fn ties_come_to_four_each() {
     let plan = ties().plan().unwrap();
     let mut words = TIES_WORDS;
     enter_run(&ties().bytes(), &mut words, u32::MAX).unwrap();
-    assert_eq!(loads(&plan, &words), [3360; 3]);
+    assert_eq!(loads(&plan, &words), [10_080; 3]);
 }
 
 #[test]

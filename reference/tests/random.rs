@@ -24,6 +24,14 @@ const PAIRED_QUARTER: Size = Size {
     ..QUARTER
 };
 
+/// Few blocks on machines enough for ten copies, of pairs too.
+const ROOMY: Size = Size {
+    machines: 24,
+    blocks: 4,
+    coarse: false,
+    version: 1,
+};
+
 fn plans(seed: u64, number: u64, size: Size) -> Vec<Plan> {
     let mut rng = Rng::new(seed);
     (0..number)
@@ -37,6 +45,23 @@ fn plans_of_all(seed: u64, number: u64, size: Size) -> Vec<Plan> {
         .into_iter()
         .flat_map(|size| plans(seed, number, size))
         .collect()
+}
+
+/// The generators draw least copies up to the limit of each version, for pairs too.
+#[test]
+fn least_copies_reach_the_limit() {
+    for (size, most) in [(ROOMY, 8), (ROOMY.paired(), 8), (ROOMY.wide(), 10)] {
+        let plans = plans(30, 2000, size);
+        let least = |of_pairs: bool| {
+            let blocks = |p: &Plan| -> Vec<usize> {
+                let some = (0..p.blocks.len()).filter(|i| p.paired(*i) == of_pairs);
+                some.map(|i| p.blocks[i].least).collect()
+            };
+            plans.iter().flat_map(blocks).max().unwrap_or(0)
+        };
+        assert_eq!(least(false), most);
+        assert_eq!(least(true), if size.version == 1 { 0 } else { most });
+    }
 }
 
 #[test]
@@ -87,7 +112,7 @@ fn loads_sum_up_and_steps_lower_the_squares() {
             let after = step.taken(&words);
             assert!(feasible(&plan, &after));
             assert!(squares(&plan, &after) + 2 <= squares(&plan, &words));
-            assert_eq!(loads(&plan, &after).iter().sum::<u64>(), 840 * popularity);
+            assert_eq!(loads(&plan, &after).iter().sum::<u64>(), 2520 * popularity);
             words = after;
         }
     }
@@ -120,13 +145,15 @@ fn all_counts(plan: &Plan) -> Vec<Vec<usize>> {
         };
         lists = lists.iter().flat_map(longer).collect();
     }
-    lists.retain(|l| l.iter().sum::<usize>() as u64 <= plan.most_copies());
+    lists.retain(|l| l.iter().sum::<usize>() as u64 <= plan.limit());
     lists
 }
 
 #[test]
 fn chosen_counts_by_brute_force() {
-    for plan in plans_of_all(5, 400, TINY)
+    let mut largest = [0; 3];
+    for plan in [plans_of_all(5, 400, TINY), plans_of_all(5, 60, ROOMY)]
+        .concat()
         .into_iter()
         .filter(|p| p.blocks.len() < 6)
     {
@@ -139,7 +166,10 @@ fn chosen_counts_by_brute_force() {
         let expected: Vec<usize> = (0..plan.blocks.len()).map(least).collect();
         assert_eq!(chosen(&plan), expected);
         assert!(plan.pairs().all(|(i, k)| expected[i] == expected[k]));
+        let largest = &mut largest[plan.version as usize - 1];
+        *largest = expected.into_iter().fold(*largest, usize::max);
     }
+    assert_eq!(largest, [8, 8, 10]);
 }
 
 /// Every lawful placement, at any lawful counts.
@@ -214,26 +244,29 @@ fn ten_and_eleven_are_exact() {
 /// Random bytes, budgets and capacities over tiny plans of versions 2 and 3: the definition's own words, row by row.
 #[test]
 fn rows_8_to_11_and_17_of_any_bytes() {
-    rows_of_any_bytes(19, PAIRED_QUARTER);
-    rows_of_any_bytes(21, PAIRED_QUARTER.wide());
+    rows_of_any_bytes(19, PAIRED_QUARTER, 3, 14);
+    rows_of_any_bytes(21, PAIRED_QUARTER.wide(), 3, 14);
+    rows_of_any_bytes(28, ROOMY.paired(), 12, 50);
+    rows_of_any_bytes(29, ROOMY.wide(), 12, 50);
 }
 
-fn rows_of_any_bytes(seed: u64, size: Size) {
+/// Least copies up to `most` and budgets below `budget`.
+fn rows_of_any_bytes(seed: u64, size: Size, most: u64, budget: u64) {
     let mut rng = Rng::new(seed);
     let mut seen = [0; 18];
     for _ in 0..20_000 {
         let mut draft = draft(&mut rng, size);
         draft.capacity = rng.from_to(1, 3) as u16;
-        draft.budget = rng.below(14) as u32;
+        draft.budget = rng.below(budget) as u32;
         for record in &mut draft.records {
             if rng.once_in(4) {
                 record.pair = rng.one_of(&[0, 1, 1, 1, 2]);
             }
             if rng.once_in(6) {
-                record.least = rng.below(4) as u8;
+                record.least = rng.from_to(0, most) as u8;
             }
             if rng.once_in(12) {
-                record.popularity += 1;
+                record.popularity ^= 1;
             }
         }
         let row = read(&draft.bytes()).err().unwrap_or(0);
@@ -241,17 +274,18 @@ fn rows_of_any_bytes(seed: u64, size: Size) {
         seen[usize::from(row)] += 1;
     }
     for row in [0, 8, 9, 17, 10, 11] {
-        assert!(seen[row] > 100, "{seen:?}");
+        assert!(seen[row] > 30, "{seen:?}");
     }
 }
 
 /// The row of a plan whose header is in order, from its fields.
 fn row_by_words(draft: &Draft) -> u8 {
     let (records, machines) = (&draft.records, draft.machines());
+    let most = if draft.version == 3 { 10 } else { 8 };
     for (i, r) in records.iter().enumerate() {
         let paired = r.pair == 1 || i > 0 && records[i - 1].pair == 1;
         let upper = if paired { machines / 2 } else { machines };
-        if r.least == 0 || u64::from(r.least) > upper.min(8) {
+        if r.least == 0 || u64::from(r.least) > upper.min(most) {
             return 8;
         }
         if r.spread == 0 || r.spread > r.least || r.spread > draft.racks {
@@ -274,10 +308,10 @@ fn row_by_words(draft: &Draft) -> u8 {
 
 #[test]
 fn a_share_is_whole_and_as_in_the_table() {
-    let table = [840, 420, 280, 210, 168, 140, 120, 105];
+    let table = [2520, 1260, 840, 630, 504, 420, 360, 315, 280, 252];
     for p in [0, 1, 7, 1000, 0xFF_FFFF, 0xFFFF_FFFF] {
-        for count in 1..=8 {
-            assert_eq!(share(p, count) * count as u64, p * 840);
+        for count in 1..=10 {
+            assert_eq!(share(p, count) * count as u64, p * 2520);
             assert_eq!(share(p, count), p * table[count - 1]);
         }
     }
@@ -397,10 +431,12 @@ fn written(plan: &Plan, version: u16) -> Vec<u8> {
     draft.bytes()
 }
 
-/// An accepted plan of version 1 or 2 and its conversion: fields, counts, placement, runs and listing are the same.
+/// An accepted plan of version 1 or 2 and its conversion: the fields are the same; counts, placement, runs and listing
+/// are, too, unless some count of the conversion is above 8, and so on at most 8 machines.
 #[test]
 fn a_conversion_reads_as_the_same_plan() {
     let mut rng = Rng::new(22);
+    let mut others = 0;
     for (size, number) in [(TINY, 150), (SMALL, 150), (MEDIUM, 20)] {
         for k in 0..2 * number {
             let version = 1 + k % 2;
@@ -408,13 +444,25 @@ fn a_conversion_reads_as_the_same_plan() {
             let old = draft.bytes();
             let new = converted(&old).expect("accepted");
             let plan = read(&old).expect("accepted");
-            assert_eq!(read(&new).as_ref(), Ok(&plan));
+            let wide = read(&new).expect("accepted");
+            let version_3 = Plan {
+                version: 3,
+                ..plan.clone()
+            };
+            assert_eq!(wide, version_3);
             assert_eq!(new, draft.wide().bytes());
             assert_eq!(new, written(&plan, 3));
             assert_eq!(old, written(&plan, version));
-            same_answers(&mut rng, &plan, &old, &new);
+            if chosen(&wide).iter().all(|c| *c <= 8) {
+                same_answers(&mut rng, &plan, &old, &new);
+            } else {
+                assert!(plan.machines() > 8);
+                assert_ne!(chosen(&wide), chosen(&plan));
+                others += 1;
+            }
         }
     }
+    assert!(others > 10, "{others}");
 }
 
 /// Counts, first placement, a run from any placement and the listing are the same for both.

@@ -1,13 +1,14 @@
 //! Compares two programs with the reference: fuzz PLACE CONVERT [COUNT] [SEED]. Each plan is given to both on standard
 //! input. What the first prints is compared with the reference's listing, what the second writes with the plan as
-//! version 3; and the first has to print the same listing for that. The largest plans and inputs longer than any plan
-//! come first, then COUNT random plans.
+//! version 3; and the first has to print the same listing for that, where there are more than 8 machines the reference's
+//! listing of it. The largest plans and inputs longer than any plan come first, then COUNT random plans.
 
 use placement_reference::convert::converted;
 use placement_reference::damage::*;
 use placement_reference::gen::*;
-use placement_reference::listing::{listed, Verdict, STEP_BUDGET};
-use placement_reference::samples::{largest_wide, long_listing, video, H, H_3, K, K_3};
+use placement_reference::listing::{listed, text, Verdict, STEP_BUDGET};
+use placement_reference::plan::{most_copies, read};
+use placement_reference::samples::*;
 use placement_reference::steps::End;
 use std::io::{Result, Write};
 use std::process::{exit, Command, Stdio};
@@ -66,12 +67,13 @@ fn relabelled(version: &[u8], plan: &[u8]) -> Vec<u8> {
     [&version[..5], &plan[5..]].concat()
 }
 
-/// Small plans of version 3, and each version in the length of another.
+/// Small plans of version 3, one that gets more copies there, and each version in the length of another.
 fn versions() -> Vec<Named> {
     vec![
         ("h-in-version-3", H_3.to_vec()),
         ("k-in-version-3", K_3.to_vec()),
         ("video", video().bytes()),
+        ("calibration", calibration().bytes()),
         ("version-2-in-the-length-of-1", relabelled(&K, &H)),
         ("version-3-in-the-length-of-1", relabelled(&K_3, &H)),
         ("version-3-in-the-length-of-2", relabelled(&K_3, &K)),
@@ -99,10 +101,12 @@ fn named() -> Vec<Named> {
     let garbage: Vec<u8> = (0..8000).map(|_| rng.below(256) as u8).collect();
     let refused = relabelled(&[0x42, 0x50, 0x4C, 0, 5], &H);
     let pairs_listed = long_listing().coupled(1024);
+    let ten_of_pairs = largest_grown().coupled(1024);
     let mut inputs = vec![
         ("long-listing", long_listing().bytes()),
         ("long-listing-of-pairs", pairs_listed.bytes()),
         ("largest-popularities", largest_wide().bytes()),
+        ("ten-copies-of-pairs", ten_of_pairs.bytes()),
         ("largest", draft.bytes()),
         ("largest-of-pairs", paired.bytes()),
         ("garbage-behind-a-plan", [&H[..], &garbage].concat()),
@@ -231,6 +235,16 @@ fn demand(program: &str, name: &str, bytes: &[u8], wanted: &Said) -> Result<()> 
     exit(1)
 }
 
+/// The listing of a plan's conversion: that of the plan, unless there are machines for more copies than its version has.
+fn listing_of_converted(plan: &[u8], result: &[u8], listing: Said) -> Said {
+    let machines = read(plan).map_or(0, |plan| plan.machines());
+    if machines <= most_copies(2) {
+        listing
+    } else {
+        Said::output(text(result, STEP_BUDGET).into_bytes())
+    }
+}
+
 /// The two programs.
 struct Programs {
     place: String,
@@ -238,7 +252,7 @@ struct Programs {
 }
 
 impl Programs {
-    /// Compares both with the reference on one input; a plan and its conversion have the same listing.
+    /// Compares both with the reference on one input.
     fn compare(&self, tally: &mut Tally, name: &str, bytes: &[u8]) -> Result<()> {
         let (verdict, text) = listed(bytes, STEP_BUDGET);
         let listing = Said::output(text.into_bytes());
@@ -249,6 +263,7 @@ impl Programs {
             Err(row) => demand(&self.convert, name, bytes, &Said::refused(row)),
             Ok(result) => {
                 demand(&self.convert, name, bytes, &Said::output(result.clone()))?;
+                let listing = listing_of_converted(bytes, &result, listing);
                 demand(&self.place, &format!("{name}-converted"), &result, &listing)
             }
         }

@@ -1,7 +1,7 @@
 //! Plays a stream of trials and compares what it prints with what is stored: replay STDIN STDOUT. At the first line that
-//! differs it says so and ends with status 1.
+//! differs it says so and ends with status 1. Without STDOUT it writes what it prints.
 
-use placement_reference::stream::play;
+use placement_reference::stream::{play, replay};
 use std::fs::{read, read_to_string};
 use std::io::Result;
 use std::process::exit;
@@ -14,11 +14,17 @@ fn differ(line: usize, printed: &str, stored: &str) {
 
 fn main() -> Result<()> {
     let paths: Vec<String> = std::env::args().skip(1).collect();
-    let [stream, stored] = &paths[..] else {
-        eprintln!("usage: replay STDIN STDOUT");
-        exit(2);
+    let (stream, stored) = match &paths[..] {
+        [stream, stored] => (stream, read_to_string(stored)?),
+        [stream] => {
+            print!("{}", replay(&read(stream)?));
+            return Ok(());
+        }
+        _ => {
+            eprintln!("usage: replay STDIN [STDOUT]");
+            exit(2);
+        }
     };
-    let stored = read_to_string(stored)?;
     let mut lines = stored.lines();
     let mut count = 0;
     // A record prints one line or none.

@@ -165,7 +165,7 @@ fn over_limits(w: &mut Writer, rng: &mut Rng) {
 
 /// Every call on a plan, with the same words and list at first: its judgement, counts, first placement, steps to rest,
 /// a read and popularities.
-fn every_call(w: &mut Writer, draft: &Draft) {
+pub(super) fn every_call(w: &mut Writer, draft: &Draft) {
     w.words(&vec![0; draft.records.len()]);
     to_rest(w, draft);
     let list = [(0, 7), (1, 7), (1, 8), (2, 9)];
@@ -176,7 +176,7 @@ fn every_call(w: &mut Writer, draft: &Draft) {
     w.popularity(1);
 }
 
-/// Plans of versions 1 and 2 and what the converter writes for them: the answers are the same.
+/// Plans of versions 1 and 2 and what the converter writes for them: the answers are the same where M is at most 8.
 fn beside_converted(w: &mut Writer, rng: &mut Rng) {
     w.title("plans of versions 1 and 2, each before its conversion");
     let mut drafts = vec![h(), y(), z(), empty(), k()];

@@ -3,6 +3,7 @@
 use super::*;
 use crate::counts::chosen;
 use crate::damage::{mispaired, with_block_flaw, with_sum_flaw, MISPAIRINGS, PLAN_ROWS};
+use crate::plan::most_copies;
 use crate::steps::{step_plain, Step};
 
 /// All trials of version 2.
@@ -35,7 +36,7 @@ fn beside_version_1(w: &mut Writer, rng: &mut Rng) {
 
 /// Pairs that fill the circle of positions: least copies of half of M, and a block between and behind them.
 fn circle(shape: (u8, u8)) -> Draft {
-    let half = (shape.0 * shape.1 / 2).min(8);
+    let half = (shape.0 * shape.1 / 2).min(most_copies(2) as u8);
     let spread = half.min(shape.0);
     let pair = [(9, half, spread, 1), (9, half, spread, 0)];
     let records = [&pair[..], &[(5, 1, 1, 0)], &pair, &pair, &[(7, 1, 1, 0)]].concat();
@@ -72,12 +73,14 @@ fn named_pairs(w: &mut Writer) {
     }
 }
 
-/// Least copies of a pair at half of M, rounded down and up, and at 8; budgets that let counts grow to the limit.
+/// Least copies of a pair at half of M, rounded down and up, and at the most copies; budgets that let counts grow to the
+/// limit.
 fn limits_of_pairs(w: &mut Writer) {
     w.title("least copies of a pair at half of M and one above");
+    let most = most_copies(2) as u8;
     for per_rack in [1, 2, 3, 4, 5, 7, 8, 14, 15, 16, 17, 64] {
         let half = per_rack / 2;
-        for least in [half, half + 1, half + 2, 8, 9] {
+        for least in [half, half + 1, half + 2, most, most + 1] {
             let pair = [(9, least, 1, 1), (9, least, 1, 0), (3, 1, 1, 0)];
             let draft = paired_plan((1, per_rack), 9, 99, &pair);
             w.plan(&draft.bytes());

@@ -20,7 +20,8 @@ pub fn all(w: &mut Writer, rng: &mut Rng) {
     reads(w, rng);
 }
 
-/// The plans of the specification and those with pairs, in version 3: the answers are those of versions 1 and 2.
+/// The plans of the specification and those with pairs, in version 3: the answers are those of versions 1 and 2, since
+/// they have at most 8 machines.
 fn named(w: &mut Writer) {
     w.title("plans of the specification in version 3");
     for draft in [h(), h_budget(4), row_eleven(2), y(), z(), empty(), ties()] {
@@ -86,9 +87,10 @@ fn edges_of_popularity(w: &mut Writer) {
 fn largest_plans(w: &mut Writer, rng: &mut Rng) {
     w.title("1024 blocks of popularity 4294967295 in version 3");
     let mut uneven = largest_wide();
-    uneven.budget = 5000;
+    let most = uneven.most_copies().into();
+    uneven.budget = 6100;
     for record in &mut uneven.records {
-        record.least = rng.from_to(1, 8) as u8;
+        record.least = rng.from_to(1, most) as u8;
         record.spread = 1;
     }
     let mut single = largest_wide();
