@@ -19,11 +19,11 @@
  *    6  B is above 1,024                            15  a block lies in fewer racks than its spread
  *    7  its length is not that of its version:      16  a machine holds more than C copies
  *       15 + 5 * B, 15 + 6 * B or 15 + 7 * B        17  a pair byte is neither 0 nor 1, or the last block has
- *    8  least copies 0 or above min(8, M), of a         1, or two successive blocks have, or a pair differs
- *       paired block above min(8, M / 2)                in popularity, least copies or spread
- *    9  a spread is 0, above the least copies, or   18  a machine holds both blocks of a pair
- *       above R                                     19  the block is not in the plan: its number is B or above
- *                                                   20  the last entry's tick has an age of 2^31 or more
+ *    8  least copies 0 or above min(L, M), of a         1, or two successive blocks have, or a pair differs
+ *       paired block above min(L, M / 2), where L       in popularity, least copies or spread
+ *       is 8, and in version 3 it is 10             18  a machine holds both blocks of a pair
+ *    9  a spread is 0, above the least copies, or   19  the block is not in the plan: its number is B or above
+ *       above R                                     20  the last entry's tick has an age of 2^31 or more
  *                                                   21  the list is full after the dropping
  *
  *   The checks go in numerical order, but 8 and 9 are made block by block, 8 first, and 17 directly after them. 13 to
@@ -119,7 +119,10 @@ extern "C" {
 /* Judges a plan: refusals 1 to 11 and 17. Writes nothing. */
 uint32_t bpl_plan(const uint8_t *plan, size_t plan_len);
 
-/* The chosen counts: refusals 1 to 12 and 17. Writes the B counts to the first B items of `counts`; the others stay. */
+/*
+ * The chosen counts: refusals 1 to 12 and 17. Writes the B counts to the first B items of `counts`; the others stay.
+ * Each is from the block's least copies to its limit by check 8, so at most 8, and in version 3 at most 10.
+ */
 uint32_t bpl_counts(const uint8_t *plan, size_t plan_len, uint8_t *counts, size_t counts_len);
 
 /* The first placement: refusals 1 to 12 and 17. Writes the first B words. */
@@ -131,7 +134,7 @@ uint32_t bpl_check(const uint8_t *plan, size_t plan_len, const uint64_t *words, 
 /*
  * Reports on a placement: refusals 1 to 18, and 255 where out_len is below 4.
  * Writes out[0] the largest load of a machine, out[1] the smallest, out[2] the sum of all loads, out[3] the largest
- * share of a copy (0 if B is 0), in 840ths of a read.
+ * share of a copy (0 if B is 0). All are in 2520ths of a read, so that the shares of 1 to 10 copies are whole.
  */
 uint32_t bpl_report(const uint8_t *plan, size_t plan_len, const uint64_t *words, size_t words_len,
                     uint64_t *out, size_t out_len);
@@ -224,7 +227,8 @@ uint32_t bpl_popularity(const uint8_t *plan, size_t plan_len, uint32_t block,
  * Converts a plan of version 1 or 2 to version 3: refusals 1 to 12 and 17, 3 also for version 3, and 255 where out_len
  * is below 1. 12, after all other checks, where buffer_len is below 15 + 7 * B: BPL_MAX_PLAN_BYTES are always enough.
  * Writes the plan in version 3 to the start of `buffer` and its length, 15 + 7 * B, to out[0]; the bytes behind it
- * stay. It has the same fields, with pair bytes of 0 for version 1, and so the same counts, placements and listing.
+ * stay. It has the same fields, with pair bytes of 0 for version 1. Its counts, placements and listing are sure to be
+ * the same only where M is at most 8: above, version 3 may give a block 9 or 10 copies.
  */
 uint32_t bpl_convert(const uint8_t *plan, size_t plan_len, uint8_t *buffer, size_t buffer_len,
                      uint64_t *out, size_t out_len);

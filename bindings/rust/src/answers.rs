@@ -25,7 +25,7 @@ impl Refusal {
             6 => "more than 1,024 blocks",
             7 => "the plan's length does not fit its version and number of blocks",
             8 => {
-                "least copies 0 or above the smaller of 8 and the machines, of a pair half of them"
+                "least copies 0, above 8 (in version 3 above 10), or above the machines, of a pair half of them"
             }
             9 => "a spread of 0, above the least copies, or above the racks",
             10 => "the sum of least copies is above the budget",
@@ -61,7 +61,7 @@ pub(crate) fn settled(code: u32) -> Result<(), Refusal> {
     }
 }
 
-/// Loads of the machines, and the largest share of a copy (0 without blocks), in 840ths of a read.
+/// Loads of the machines, and the largest share of a copy (0 without blocks), in 2520ths of a read.
 #[derive(Clone, Copy, Debug, PartialEq, Eq, Hash)]
 pub struct Report {
     pub max_load: u64,

@@ -13,7 +13,7 @@
 //! bpl::first(&plan, &mut words)?;
 //! assert_eq!(words, [1, 2, 1]);
 //! assert_eq!(bpl::run(&plan, &mut words, 100)?, bpl::RunEnd::Rest(2));
-//! assert_eq!(bpl::report(&plan, &words)?.max_load, 3360);
+//! assert_eq!(bpl::report(&plan, &words)?.max_load, 10_080);
 //! assert_eq!(bpl::check(&plan, &words[..2]).unwrap_err().number(), 12);
 //!
 //! // In version 2 a sixth byte of 1 pairs a block with the next one: no machine ever holds both.
@@ -24,13 +24,13 @@
 //! assert_eq!(bpl::run(&plan, &mut words, 100)?, bpl::RunEnd::Rest(0));
 //! assert_eq!(bpl::check(&plan, &[1, 1, 2]).unwrap_err().number(), 18);
 //!
-//! // Version 3 has four bytes for the popularity, so that it may be above 16,777,215.
+//! // Version 3 has four bytes for the popularity, so that it may be above 16,777,215, and allows ten copies of a block.
 //! let mut wide = [0; 15 + 7 * 3];
 //! let length = bpl::convert(&plan, &mut wide)?;
 //! assert_eq!(wide[15..22], [0, 0, 0, 4, 1, 1, 1]);
 //! assert_eq!(bpl::listing(&wide[..length], 100)?, bpl::listing(&plan, 100)?);
 //! wide[29] = 1;
-//! assert_eq!(bpl::report(&wide, &words)?.max_share, 840 * (9 + (1 << 24)));
+//! assert_eq!(bpl::report(&wide, &words)?.max_share, 2520 * (9 + (1 << 24)));
 //! # Ok::<(), bpl::Refusal>(())
 //! ```
 #![deny(unsafe_op_in_unsafe_fn)]
@@ -52,7 +52,8 @@ pub fn plan(plan: &[u8]) -> Result<(), Refusal> {
     settled(unsafe { raw::bpl_plan(plan.as_ptr(), plan.len()) })
 }
 
-/// Writes the plan's B chosen counts into the first B items of `counts`: refusals 1 to 12, and 17.
+/// Writes the plan's B chosen counts into the first B items of `counts`: refusals 1 to 12, and 17. Each is at most 8,
+/// in version 3 at most 10.
 pub fn counts(plan: &[u8], counts: &mut [u8]) -> Result<(), Refusal> {
     // SAFETY: each pointer and length are those of a slice that is borrowed for the whole call; `counts` is borrowed
     // alone, so it overlaps no other buffer.
@@ -148,8 +149,8 @@ pub fn listing(plan: &[u8], budget: u32) -> Result<String, Refusal> {
 /// Writes a plan of version 1 or 2 as version 3 to the start of `buffer`, and answers its length, 15 + 7 × B: refusals 1
 /// to 12, 3 also for version 3, and 17. The bytes behind it stay.
 ///
-/// The plan written has the same fields, with pair bytes of 0 for version 1, and so the same counts, placements and
-/// listing.
+/// The plan written has the same fields, with pair bytes of 0 for version 1. Its counts, placements and listing are
+/// sure to be the same only where there are at most 8 machines: above, version 3 may give a block 9 or 10 copies.
 pub fn convert(plan: &[u8], buffer: &mut [u8]) -> Result<usize, Refusal> {
     let mut out = [0; raw::CONVERT_NUMBERS];
     // SAFETY: as in `counts`, for `buffer`; `out` is a local of its own with the length that is passed.

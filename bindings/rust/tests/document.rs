@@ -1,6 +1,7 @@
 //! The specification's own examples, and the repository's stored ones.
 
 use bpl::{Call, Entry, Reply, Report, Request, RunEnd, Step};
+use placement_reference::gen::Draft;
 use placement_reference::samples;
 use std::fs;
 use std::path::PathBuf;
@@ -17,14 +18,14 @@ fn plan_h() {
     assert_eq!(words, [15, 5, 2]);
     assert_eq!(bpl::check(&bytes, &words), Ok(()));
     let report = Report {
-        max_load: 5040,
-        min_load: 2520,
-        total_load: 16800,
-        max_share: 2520,
+        max_load: 15_120,
+        min_load: 7560,
+        total_load: 50_400,
+        max_share: 7560,
     };
     assert_eq!(bpl::report(&bytes, &words), Ok(report));
     assert_eq!(bpl::step(&bytes, &mut words), Ok(None));
-    let listing = "plan 2 2 3\nblock 0 4 2520 0 1 2 3\nblock 1 2 2520 0 2\nblock 2 1 1680 1\nrest 0 5040 2520 16800 2520\n";
+    let listing = "plan 2 2 3\nblock 0 4 7560 0 1 2 3\nblock 1 2 7560 0 2\nblock 2 1 5040 1\nrest 0 15120 7560 50400 7560\n";
     assert_eq!(bpl::listing(&bytes, 100_000).as_deref(), Ok(listing));
 }
 
@@ -111,12 +112,12 @@ fn conversions_refused() {
     assert_eq!(buffer, [0xEE; 36]);
 }
 
-/// The largest popularity of version 3, of one block on one machine: its share has 42 bits.
+/// The largest popularity of version 3, of one block on one machine: its share has 44 bits.
 #[test]
 fn widest_popularity() {
     let mut bytes = vec![0x42, 0x50, 0x4C, 0, 3, 1, 1, 0, 1, 0, 0, 0, 1, 0, 1];
     bytes.extend([0xFF, 0xFF, 0xFF, 0xFF, 1, 1, 0]);
-    let share = 840 * u64::from(u32::MAX);
+    let share = 2520 * u64::from(u32::MAX);
     let listing =
         format!("plan 1 1 1\nblock 0 1 {share} 0\nrest 0 {share} {share} {share} {share}\n");
     assert_eq!(bpl::listing(&bytes, 9), Ok(listing));
@@ -124,6 +125,93 @@ fn widest_popularity() {
         bpl::report(&bytes, &[1]).map(|report| report.max_load),
         Ok(share)
     );
+}
+
+/// The plan's bytes in this version.
+fn in_version(version: u16, draft: &Draft) -> Vec<u8> {
+    let draft = Draft {
+        version,
+        ..draft.clone()
+    };
+    draft.bytes()
+}
+
+/// What is said of the plan in this version: nothing, or the number of the refusal.
+fn judged(version: u16, draft: &Draft) -> Result<(), u8> {
+    bpl::plan(&in_version(version, draft)).map_err(bpl::Refusal::number)
+}
+
+/// Row 8 by version: eight least copies at most, in version 3 ten.
+#[test]
+fn least_copies_by_version() {
+    for (least, rows) in [
+        (8, [Ok(()), Ok(()), Ok(())]),
+        (9, [Err(8), Err(8), Ok(())]),
+        (10, [Err(8), Err(8), Ok(())]),
+        (11, [Err(8), Err(8), Err(8)]),
+    ] {
+        let draft = samples::plan_of((4, 3), 1, 12, &[(1, least, 1)]);
+        let said = [1, 2, 3].map(|version| judged(version, &draft));
+        assert_eq!(said, rows, "{least} least copies");
+    }
+}
+
+/// Row 8 of a pair by version, on so many machines in one rack: the smaller of that limit and half of them.
+#[test]
+fn least_copies_of_a_pair() {
+    for (machines, least, rows) in [
+        (20, 8, [Ok(()), Ok(())]),
+        (20, 9, [Err(8), Ok(())]),
+        (20, 10, [Err(8), Ok(())]),
+        (22, 11, [Err(8), Err(8)]),
+        (19, 9, [Err(8), Ok(())]),
+        (19, 10, [Err(8), Err(8)]),
+        (8, 4, [Ok(()), Ok(())]),
+        (8, 5, [Err(8), Err(8)]),
+    ] {
+        let pair = [(1, least, 1, 1), (1, least, 1, 0)];
+        let draft = samples::paired_plan((1, machines), 2, 22, &pair);
+        let said = [2, 3].map(|version| judged(version, &draft));
+        assert_eq!(said, rows, "{least} least copies of a pair, M {machines}");
+    }
+}
+
+/// A block read once, on twelve machines with room for it: eight copies, in version 3 ten, and whole shares.
+#[test]
+fn ten_copies() {
+    let draft = samples::plan_of((3, 4), 1, 12, &[(1, 1, 1)]);
+    for (version, expected) in [
+        (1, "block 0 8 315 0 1 2 4 5 6 8 9\nrest 0 315 0 2520 315\n"),
+        (2, "block 0 8 315 0 1 2 4 5 6 8 9\nrest 0 315 0 2520 315\n"),
+        (
+            3,
+            "block 0 10 252 0 1 2 3 4 5 6 8 9 10\nrest 0 252 0 2520 252\n",
+        ),
+    ] {
+        let listing = bpl::listing(&in_version(version, &draft), 9);
+        assert_eq!(listing, Ok(format!("plan 3 4 1\n{expected}")));
+    }
+}
+
+/// A block on nine machines that hold one copy each has eight copies, and nine where the plan is converted.
+#[test]
+fn one_copy_more_when_converted() {
+    let old = samples::plan_of((3, 3), 1, 9, &[(5, 1, 1)]).bytes();
+    let mut new = [0; 22];
+    assert_eq!(bpl::convert(&old, &mut new), Ok(22));
+    assert_eq!(new[5..15], old[5..15]);
+    assert_eq!(new[15..], [0, 0, 0, 5, 1, 1, 0]);
+    for (bytes, count, word, max_share) in [
+        (&old[..], 8, 0b011_111_111, 1575),
+        (&new[..], 9, 0b111_111_111, 1400),
+    ] {
+        let (mut counts, mut words) = ([0], [0]);
+        assert_eq!(bpl::counts(bytes, &mut counts), Ok(()));
+        assert_eq!(bpl::first(bytes, &mut words), Ok(()));
+        assert_eq!((counts, words), ([count], [word]));
+        let report = bpl::report(bytes, &words);
+        assert_eq!(report.map(|report| report.max_share), Ok(max_share));
+    }
 }
 
 /// A step that would bring a pair together is none; without the pair it is the next one.
