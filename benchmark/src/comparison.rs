@@ -309,6 +309,52 @@ pub fn versions() {
     table.print();
 }
 
+/// A row of the table of ten copies.
+fn copies_row(table: &mut Table, call: &str, size: Size, times: [f64; 3]) {
+    let (version, most) = (size.version().to_string(), size.most_copies().to_string());
+    row(table, &[call, &version, &most].map(str::to_string), times);
+}
+
+/// The calls on one plan with many copies, of which some blocks have the most that are allowed.
+fn copies_rows(table: &mut Table, size: Size, steps: u32) {
+    let bytes = size.fine();
+    let blocks = usize::from(size.blocks);
+    let plan = compared("plan", |side| timed(|| (side.plan)(&bytes)));
+    copies_row(table, "plan", size, plan.0);
+    let (times, counts) = compared("counts", |side| counts_timed(side, &bytes, blocks));
+    assert_eq!(counts.iter().max(), Some(&size.most_copies()));
+    copies_row(table, "counts", size, times);
+    let (times, words) = compared("first", |side| first_timed(side, &bytes, blocks));
+    copies_row(table, "first", size, times);
+    let check = compared("check", |side| timed(|| (side.check)(&bytes, &words)));
+    copies_row(table, "check", size, check.0);
+    let (times, (_, taken, _)) = compared("run", |side| run_timed(side, &bytes, &words, steps));
+    let per_step = times.map(|time| time / f64::from(taken.max(1)));
+    copies_row(table, "step of a run", size, per_step);
+    let listing = compared("listing", |side| timed(|| (side.listing)(&bytes, 0)));
+    copies_row(table, "listing", size, listing.0);
+}
+
+/// The same plan in version 2, with at most eight copies of a block, and in version 3, with at most ten.
+pub fn copies(steps: u32) {
+    println!("## Ten copies\n");
+    println!("64 machines, 1,024 blocks, spreads mixed, popularities random in 24 bits, and a budget of 8,000 copies, so that many");
+    println!("blocks have as many as their version allows. Time per step of a run of {steps} steps from the first placement; the");
+    println!("listing is that of the first placement.\n");
+    let mut table = table(&["call", "version", "most copies"]);
+    for wide in [false, true] {
+        let size = Size {
+            mixed: true,
+            pairs: Pairs::None,
+            wide,
+            doubled: true,
+            ..LARGEST
+        };
+        copies_rows(&mut table, size, steps);
+    }
+    table.print();
+}
+
 /// Every call on one small plan.
 fn small_calls(table: &mut Table, name: &str, draft: &Draft) {
     let bytes = draft.bytes();

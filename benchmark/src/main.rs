@@ -55,6 +55,7 @@ fn all(mode: &Mode) {
     comparison::reads();
     comparison::counts();
     comparison::versions();
+    comparison::copies(mode.steps.min(1000));
     growth::growth();
     comparison::smallest();
     memory::memory(mode.program);

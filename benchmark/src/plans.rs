@@ -14,6 +14,8 @@ pub struct Size {
     pub pairs: Pairs,
     /// The plan is in version 3.
     pub wide: bool,
+    /// Twice as many copies, in the budget and on the machines: many blocks have as many as their version allows.
+    pub doubled: bool,
 }
 
 /// The pairs of a plan. The last two are the same plan in version 2, of which the first half of the blocks are alike by
@@ -36,6 +38,7 @@ pub const LARGEST: Size = Size {
     mixed: false,
     pairs: Pairs::Version1,
     wide: false,
+    doubled: false,
 };
 
 impl Size {
@@ -58,6 +61,15 @@ impl Size {
             (true, _) => 3,
             (_, Pairs::Version1) => 1,
             _ => 2,
+        }
+    }
+
+    /// The most copies of a block that the version allows.
+    pub fn most_copies(&self) -> u8 {
+        if self.wide {
+            10
+        } else {
+            8
         }
     }
 
@@ -91,11 +103,12 @@ impl Size {
         }
     }
 
-    /// A plan with a budget of 4,000 copies for 1,024 blocks, and machines that can hold 5,120; in proportion for
-    /// fewer blocks.
+    /// A plan with a budget of 4,000 copies for 1,024 blocks, and machines that can hold 5,120, or with twice as many; in
+    /// proportion for fewer blocks.
     fn draft(&self, seed: u64, popularity: impl Fn(&mut Rng) -> u32) -> Draft {
         let mut rng = Rng::new(seed);
         let blocks = u32::from(self.blocks);
+        let times = if self.doubled { 2 } else { 1 };
         let records = (0..blocks).map(|_| {
             let popularity = popularity(&mut rng);
             self.record(&mut rng, popularity)
@@ -104,9 +117,9 @@ impl Size {
             version: 1,
             racks: self.racks,
             per_rack: self.per_rack,
-            capacity: (5 * blocks).div_ceil(self.machines() as u32) as u16,
+            capacity: (5 * times * blocks).div_ceil(self.machines() as u32) as u16,
             records: records.collect(),
-            budget: blocks * 4000 / 1024,
+            budget: times * blocks * 4000 / 1024,
         }
     }
 

@@ -6,6 +6,7 @@ use placement_benchmark::optimised::{
 };
 use placement_reference::calls;
 use placement_reference::convert;
+use placement_reference::counts::chosen;
 use placement_reference::damage::{any_row, broken, flawed, mispaired, MISPAIRINGS};
 use placement_reference::gen::*;
 use placement_reference::histories::{history, manner, Caller, Event};
@@ -99,6 +100,23 @@ fn steps_of_the_largest_plans() {
         same_steps(&plan, &first(&plan), 12);
         let words = leaning(&mut rng, &plan);
         same_steps(&plan, &words, 12);
+    }
+}
+
+/// The largest plans with room for ten copies of every block: in version 2 it has at most eight, in version 3 ten.
+#[test]
+fn steps_of_ten_copies() {
+    let mut rng = Rng::new(8);
+    for (size, most) in all_versions(LARGE)[1..].iter().zip([8, 10]) {
+        let draft = Draft {
+            capacity: 1024,
+            budget: 10_240,
+            ..sized(&mut rng, *size, 8, 8, 1024)
+        };
+        let plan = draft.plan().expect("accepted");
+        assert_eq!(chosen(&plan).into_iter().max(), Some(most));
+        let words = leaning(&mut rng, &plan);
+        assert!(same_steps(&plan, &words, 12) > 0);
     }
 }
 
