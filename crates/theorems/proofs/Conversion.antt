@@ -20,7 +20,7 @@ use Rattle.model.specs.Writing.{bytesOf, headerBytes, recordBytes, planBytes}
 use Rattle.model.specs.Conversion.{convertedVersion, writtenVersion, withVersion, converted, convertRefusal, convertVerdict, convertCall}
 use Rattle.theory.specs.Refusal.{Valid}
 use Rattle.theory.specs.Writing.{AreBytes, BlockFits, PlanFits}
-use Rattle.theory.proofs.Plan.{maxReplicas-most, upper-grows, field-narrow, formatOf-longest}
+use Rattle.theory.proofs.Plan.{maxReplicas-later, maxReplicas-most, upper-grows, field-narrow, formatOf-longest}
 use Rattle.theory.proofs.Refusal.{refuseIf-zero, check3-read, verdict-accepted, accepted-laws, accepted-mark, judge-accepted}
 use Rattle.theory.proofs.WritingPlan.{reads-written, accepted-fits}
 use Rattle.theory.proofs.Conversion.{converted-length, convertVerdict-judged, convertCall-short, convertCall-refused}
@@ -63,8 +63,7 @@ module _ (bytes : List ℕ) (p : Plan) where
 -- ── Converts ─────────────────────────────────────────────────────────────────────────────────────
 -- a valid plan is valid in the version that is written, which allows no fewer copies
 written-limit : (version : ℕ) → maxReplicas version ≤ maxReplicas writtenVersion
-unfolding maxReplicas
-written-limit = maxReplicas-most
+written-limit version = rw (← (maxReplicas-later writtenVersion (omega arith))) (maxReplicas-most version)
 
 written-valid : (p : Plan) → Valid p → Valid (withVersion writtenVersion p)
 unfolding isPaired pairsBack pairsNext minTotal

@@ -1,7 +1,7 @@
 -- A plan with M above 8 that the converter gives a copy more, by computing the definitions in either version.
 -- Assumes nothing.
 use mathlib.Core.Path.{_≡_, refl}
-use mathlib.Core.List.{List, [], _∷_}
+use mathlib.Core.List.{[], _∷_}
 use Rattle.order.specs.Sum.{sum}
 use Rattle.order.specs.Table.{table, filled, joined}
 use Rattle.order.specs.Search.{firstUp, least, allb, largest, smallest}

@@ -7,11 +7,10 @@ use mathlib.Core.List.{List}
 use Prim.Native.Nat.{ℕ, zero, suc, _*_, _/_, _≤_, min}
 use native.Mathlib.Omega.{arith}
 use borrow.Author.Tests.{le-ltb, eq-eqb}
-use lib.Dec.{ltb, leb, eqb}
+use lib.Dec.{leb, eqb}
 use lib.ListN.{length}
 use Rattle.order.specs.Sum.{sum}
 use Rattle.order.specs.Search.{allb}
-use Rattle.order.proofs.Booleans.{cond-all}
 use Rattle.order.proofs.Tables.{table-cong}
 use Rattle.model.specs.Plan.{Plan, machines, blockCount, maxReplicas, upper, isPaired, pairsBack, pairsNext, partner, minTotal, markIn, versionIn, racksIn, rackSizeIn, capacityIn, blockCountIn, latestVersion, formatOf, recordAt, blockIn, planIn}
 use Rattle.model.specs.Refusal.{check1, check2, check4, check5, check6, check7, blockRefusal, blocksRefusal, pairRefusal, pairsRefusal, planRefusal, refusal, Verdict, refused, accepted, verdict, judge}
@@ -21,22 +20,17 @@ use Rattle.model.specs.Steps.{after, improves, canMove, canSwap, routes, nextMo
 use Rattle.model.specs.Calls.{Outcome, onPlan, bufferRefusal, allCounted, placementRefusal, onPlacement, reportOf, countsCall, firstCall, checkCall, reportCall, stepCall, runCall}
 use Rattle.model.specs.Listing.{planLine, blockLine, lastLine, listingOf, printedOf, printed}
 use Rattle.model.specs.Conversion.{withVersion}
-use Rattle.theory.proofs.Plan.{upper-limit}
+use Rattle.theory.proofs.Plan.{maxReplicas-least, upper-limit}
 use Rattle.theory.proofs.Refusal.{check3-read, accepted-laws}
 use Rattle.theorems.specs.Versions.{verdictWith, SameLimit, Limits, VersionsFree, Described, SameFields, SameAnswers, Versions}
 
 -- ── Limits ───────────────────────────────────────────────────────────────────────────────────────
--- no version allows fewer than 8
-eight-allowed : (version : ℕ) → 8 ≤ maxReplicas version
-unfolding maxReplicas
-eight-allowed version = cond-all (λ n. 8 ≤ n) (ltb version 3) 8 10 (λ e. omega arith) (omega arith)
-
 pub limits : Limits
 unfolding maxReplicas
 limits =
     record {
       early = λ machines. refl;
-      few = λ from to machines l. omega (arith, eight-allowed from, eight-allowed to);
+      few = λ from to machines l. omega (arith, maxReplicas-least from, maxReplicas-least to);
     }
 
 -- ── VersionsFree ─────────────────────────────────────────────────────────────────────────────────

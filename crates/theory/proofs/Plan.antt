@@ -172,7 +172,11 @@ pub maxReplicas-later : (version : ℕ) → 3 ≤ version → 10 ≡ maxReplicas
 unfolding maxReplicas
 maxReplicas-later version l = rw (le-ltb version 3 l)
 
--- no version allows more copies
+-- no version allows fewer than the first, or more than the latest
+pub maxReplicas-least : (version : ℕ) → 8 ≤ maxReplicas version
+unfolding maxReplicas
+maxReplicas-least version = cond-all (λ n. 8 ≤ n) (ltb version 3) 8 10 (λ e. omega arith) (omega arith)
+
 pub maxReplicas-most : (version : ℕ) → maxReplicas version ≤ mostReplicas
 unfolding maxReplicas
 maxReplicas-most version = cond-all (λ n. n ≤ mostReplicas) (ltb version 3) 8 10 (λ e. omega arith) (omega arith)

@@ -1,20 +1,18 @@
 -- Document 02, U5: a share in 2520ths is three times that in 840ths, and the chosen counts do not go by the unit: two shares compare as
 -- the popularities do, each times the other's count, in any unit that both counts divide.
 -- Assumes nothing.
-use mathlib.Core.Path.{_≡_, refl, ap}
+use mathlib.Core.Path.{_≡_, refl}
 use mathlib.Core.Logic.{_↔_}
-use Prim.Native.Nat.{ℕ, _*_, _<_, _≤_, _∣_}
-use native.Mathlib.Nat.{eq-of-mul-eq-mul-right, le-antisymm, le-trans, le-of-eq}
+use Prim.Native.Nat.{ℕ, _<_, _≤_}
+use native.Mathlib.Nat.{eq-of-mul-eq-mul-right, le-antisymm, le-trans}
 use native.Mathlib.Omega.{arith}
-use lib.Dec.{ltb}
-use borrow.Author.Tests.{lt-ltb}
 use Rattle.order.specs.Search.{largest, allb}
 use Rattle.order.proofs.Extremes.{largest-term, largest-le, largest-at}
 use Rattle.model.specs.Plan.{Plan, maxReplicas, blockCount, blockOf, upper}
-use Rattle.model.specs.Replication.{FeasibleCounts, unit, share, largestShare, figure, chosen}
+use Rattle.model.specs.Replication.{FeasibleCounts, share, largestShare, chosen}
 use Rattle.theory.specs.Refusal.{Valid}
 use Rattle.theory.specs.Units.{earlierUnit, shareBy, largestBy, Tripled, ChosenBy, UnitFree, DividedBy, Units}
-use Rattle.theory.proofs.Plan.{upper-version, upper-max}
+use Rattle.theory.proofs.Plan.{maxReplicas-early, upper-version, upper-max}
 use Rattle.theory.proofs.Replication.{allDivide, allDivide-at, unit-divides, shareBy-exact, shareBy-compares, share-exact, share-compares, largestShare-term, chosen-laws}
 
 earlier-divides : DividedBy 8 earlierUnit
@@ -61,9 +59,10 @@ module _ (units : ℕ) (pos : 1 ≤ units) (p : Plan) (v : Valid p) (divided : D
         at-block j m =
             alike i j k (count j) k1 k2 (le-trans (v .shaped .block j m .min-pos) (c .at-least j m)) (c .at-most j m)
 
-  chosen-chosen : ChosenBy units p (chosen p)
+  -- so the chosen counts are the choice in either
+  chosen-by-units : ChosenBy units p (chosen p)
   unfolding largestBy
-  chosen-chosen =
+  chosen-by-units =
       let laws = chosen-laws p v in
       record {
         feasible = laws .feasible;
@@ -84,9 +83,9 @@ module _ (units : ℕ) (pos : 1 ≤ units) (p : Plan) (v : Valid p) (divided : D
   unfolding largestBy
   unit-free =
       record {
-        chosen-by = chosen-chosen;
+        chosen-by = chosen-by-units;
         no-others = λ count by i l.
-            let own = chosen-chosen in
+            let own = chosen-by-units in
             let same : largestBy units p count ≡ largestBy units p (chosen p) =
             le-antisymm (by .optimal (chosen p) (own .feasible)) (own .optimal count (by .feasible))
             in
@@ -98,9 +97,8 @@ module _ (units : ℕ) (pos : 1 ≤ units) (p : Plan) (v : Valid p) (divided : D
       }
 
 pub units : (p : Plan) → Valid p → Units p
-unfolding maxReplicas
 units p v =
     record {
       any = λ units pos divided. unit-free units pos p v divided;
-      earlier = λ old. unit-free earlierUnit (omega arith) p v (rw (lt-ltb (p .version) 3 (omega arith)) earlier-divides);
+      earlier = λ old. unit-free earlierUnit (omega arith) p v (rw (← (maxReplicas-early (p .version) (omega arith))) earlier-divides);
     }
