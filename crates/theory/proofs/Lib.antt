@@ -4,12 +4,12 @@ pub mod Plan
 pub mod Refusal
 pub mod Widths
 pub mod Replication
-pub mod Units
 pub mod Placement
 pub mod PlacementFirst
 pub mod Steps
 pub mod StepsLocal
 pub mod StepsNext
+pub mod Units
 pub mod Calls
 pub mod ReadLog
 pub mod Listing

@@ -1,19 +1,30 @@
--- Document 02, U5: a share in 2520ths is three times that in 840ths, and the chosen counts do not go by the unit: two shares compare as
--- the popularities do, each times the other's count, in any unit that both counts divide.
+-- Document 02, U5: a share in 2520ths is three times that in 840ths, and neither the chosen counts nor the steps go by the unit: in any
+-- unit that all counts divide, two shares compare as the popularities do, each times the other's count, and the loads of lawful placements
+-- are in the ratio of the units.
 -- Assumes nothing.
-use mathlib.Core.Path.{_≡_, refl}
-use mathlib.Core.Logic.{_↔_}
-use Prim.Native.Nat.{ℕ, _<_, _≤_}
-use native.Mathlib.Nat.{eq-of-mul-eq-mul-right, le-antisymm, le-trans}
+use mathlib.Core.Path.{_≡_, refl, ap, ap₂, sym, _∙_}
+use mathlib.Core.Bool.{_&&_}
+use mathlib.Core.List.{List}
+use mathlib.Core.Logic.{inl, inr, _↔_}
+use Prim.Native.Nat.{ℕ, suc, _*_, _<_, _≤_}
+use native.Mathlib.Nat.{eq-of-mul-eq-mul-right, mul-le-mul-left, le-antisymm, le-trans}
+use native.Mathlib.Decide.{decLt}
 use native.Mathlib.Omega.{arith}
+use borrow.Author.Tests.{lt-ltb, le-ltb}
+use lib.Dec.{ltb}
 use Rattle.order.specs.Search.{largest, allb}
+use Rattle.order.proofs.Booleans.{bool-cases}
+use Rattle.order.proofs.Sums.{sum-cong, sum-mul}
 use Rattle.order.proofs.Extremes.{largest-term, largest-le, largest-at}
 use Rattle.model.specs.Plan.{Plan, maxReplicas, blockCount, blockOf, upper}
-use Rattle.model.specs.Replication.{FeasibleCounts, share, largestShare, chosen}
+use Rattle.model.specs.Replication.{FeasibleCounts, unit, share, largestShare, chosen}
+use Rattle.model.specs.Placement.{held, countOf, Feasible, isFeasible, shareOf, load}
+use Rattle.model.specs.Steps.{improves}
 use Rattle.theory.specs.Refusal.{Valid}
-use Rattle.theory.specs.Units.{earlierUnit, shareBy, largestBy, Tripled, ChosenBy, UnitFree, DividedBy, Units}
+use Rattle.theory.specs.Units.{earlierUnit, shareBy, largestBy, loadBy, improvesBy, Tripled, ChosenBy, UnitFree, DividedBy, Units}
 use Rattle.theory.proofs.Plan.{maxReplicas-early, upper-version, upper-max}
 use Rattle.theory.proofs.Replication.{allDivide, allDivide-at, unit-divides, shareBy-exact, shareBy-compares, share-exact, share-compares, largestShare-term, chosen-laws}
+use Rattle.theory.proofs.Placement.{isFeasible-iff}
 
 earlier-divides : DividedBy 8 earlierUnit
 unfolding allDivide allb
@@ -78,6 +89,50 @@ module _ (units : ℕ) (pos : 1 ≤ units) (p : Plan) (v : Valid p) (divided : D
             (within-alike (chosen p) (laws .feasible) i k l (le-trans (v .shaped .block i l .min-pos) low) high .1 w));
       }
 
+  -- Loads of a lawful placement are in the ratio of the units, as every share is,
+  module _ (count : ℕ → ℕ) (words : List ℕ) (feasible : Feasible p count words) where
+    share-ratio : (i : ℕ) → i < blockCount p
+        → unit * shareBy units (blockOf p i .popularity) (countOf p words i) ≡ units * shareOf p words i
+    unfolding shareOf
+    share-ratio i l =
+        let counts = feasible .counts in
+        let k = countOf p words i in
+        let few : k ≤ upper p i = rw (feasible .counted i l) (counts .at-most i l) in
+        let some : 1 ≤ k = rw (feasible .counted i l) (le-trans (v .shaped .block i l .min-pos) (counts .at-least i l)) in
+        let here = share-exact (blockOf p i .popularity) k (unit-divides k some (le-trans few (upper-max p i))) in
+        let there = shareBy-exact units (blockOf p i .popularity) k (divided k some (le-trans few (upper-version p i))) in
+        eq-of-mul-eq-mul-right k some _ _ (omega (arith, ap (λ (x : ℕ). x * units) here, there))
+
+    pub load-ratio : (m : ℕ) → unit * loadBy units p words m ≡ units * load p words m
+    unfolding loadBy load
+    load-ratio m =
+        sym (sum-mul (blockCount p) unit _)
+        ∙ sum-cong (blockCount p) _ _
+        (λ i l. omega (arith, ap (λ (x : ℕ). held words m i * x) (share-ratio i l)))
+        ∙ sum-mul (blockCount p) units _
+
+  -- so that they compare alike
+  less-alike : (a b x y : ℕ) → unit * a ≡ units * x → unit * b ≡ units * y → ltb a b ≡ ltb x y
+  less-alike a b x y ea eb = elim (decLt x y) [
+    | yes l ↦
+        let scaled : units * suc x ≤ units * y = mul-le-mul-left units l in
+        lt-ltb a b (omega (arith, ea, eb)) ∙ sym (lt-ltb x y l)
+    | no l ↦
+        let scaled : units * y ≤ units * x = mul-le-mul-left units (omega arith) in
+        le-ltb a b (omega (arith, ea, eb)) ∙ sym (le-ltb x y (omega arith))
+  ]
+
+  steps-alike : (count : ℕ → ℕ) (words : List ℕ) → Feasible p count words
+      → (later : List ℕ) (m n : ℕ) → improvesBy units p words later m n ≡ improves p words later m n
+  unfolding improvesBy improves
+  steps-alike count words feasible later m n = elim (bool-cases (isFeasible p later)) [
+    | inl e ↦
+        let ratio = load-ratio (countOf p later) later (isFeasible-iff p later .0 e) in
+        let source = load-ratio count words feasible m in
+        rw e (ap₂ _&&_ (less-alike _ _ _ _ (ratio m) source) (less-alike _ _ _ _ (ratio n) source))
+    | inr e ↦ rw e
+  ]
+
   -- either largest share is at most the other, so that each count is within both
   unit-free : UnitFree units p
   unfolding largestBy
@@ -94,11 +149,17 @@ module _ (units : ℕ) (pos : 1 ≤ units) (p : Plan) (v : Valid p) (divided : D
             (rw same (largest-term (blockCount p) (λ j. shareBy units (blockOf p j .popularity) (chosen p j)) i l)))
             (own .smallest-count i (count i) l (by .feasible .at-least i l) (by .feasible .at-most i l)
             (rw (← same) (largest-term (blockCount p) (λ j. shareBy units (blockOf p j .popularity) (count j)) i l)));
+        steps = steps-alike;
       }
 
 pub units : (p : Plan) → Valid p → Units p
 units p v =
     record {
       any = λ units pos divided. unit-free units pos p v divided;
-      earlier = λ old. unit-free earlierUnit (omega arith) p v (rw (← (maxReplicas-early (p .version) (omega arith))) earlier-divides);
+      earlier = λ old. unit-free earlierUnit (omega arith) p v (divides-early old);
+      loads = λ old count words feasible m.
+          omega (arith, load-ratio earlierUnit (omega arith) p v (divides-early old) count words feasible m);
     }
+  where
+    divides-early : p .version ≤ 2 → DividedBy (maxReplicas (p .version)) earlierUnit
+    divides-early old = rw (← (maxReplicas-early (p .version) (omega arith))) earlier-divides
