@@ -254,7 +254,7 @@ fn rows_8_to_11_and_17_of_any_bytes() {
 fn rows_of_any_bytes(seed: u64, size: Size, most: u64, budget: u64) {
     let mut rng = Rng::new(seed);
     let mut seen = [0; 18];
-    for _ in 0..20_000 {
+    for _ in 0..60_000 {
         let mut draft = draft(&mut rng, size);
         draft.capacity = rng.from_to(1, 3) as u16;
         draft.budget = rng.below(budget) as u32;
@@ -274,7 +274,7 @@ fn rows_of_any_bytes(seed: u64, size: Size, most: u64, budget: u64) {
         seen[usize::from(row)] += 1;
     }
     for row in [0, 8, 9, 17, 10, 11] {
-        assert!(seen[row] > 30, "{seen:?}");
+        assert!(seen[row] > 100, "{seen:?}");
     }
 }
 
