@@ -1,24 +1,32 @@
--- Laws of the bits of a word that the functions on words need: shifts, `&` and `!`, and bits counted or searched lowest first.
+-- Laws of the bits of a word that the functions on words need: shifts, `&`, `|` and `!`, bits counted or searched lowest first,
+-- and the domains that a word lies in.
 -- Assumes nothing.
 use mathlib.Core.Path.{_≡_, refl, ap, ap₂, sym, _∙_}
 use mathlib.Core.Bool.{true}
 use mathlib.Core.Logic.{_⊎_, inl, inr, _↔_}
-use Prim.Native.Nat.{ℕ, zero, suc, _+_, _*_, _-_, _/_, _%_, _^_, _<_, _≤_, min}
-use native.Mathlib.Nat.{not-suc-le-zero, one-mul, zero-mul, mod-one, mod-eq-of-lt, mul-add-mod-self-right, two-pow-succ}
+use Prim.Native.Nat.{ℕ, zero, suc, _+_, _*_, _-_, _/_, _%_, _^_, _<_, _≤_, min, max}
+use native.Mathlib.Nat.{not-suc-le-zero, mul-assoc, one-mul, zero-mul, mod-one, mod-eq-of-lt, mul-add-mod-self-right, two-pow-succ}
 use native.Mathlib.Numerals.{one-add}
 use native.Mathlib.Decide.{decLt}
 use native.Mathlib.Omega.{arith}
 use borrow.Author.Tests.{eqb-true, eq-eqb}
 use lib.Dec.{eqb, lit<}
-use lib.Arith.{lt-one}
+use lib.Arith.{lt-one, digits-lt}
 use lib.Pow.{pow-pos, shl-exact, shr-shr, mod-pow-add}
-use lib.Bits.{bitAnd, bitXor, and-step, and-shr, and-lt, xor-step, xor-shr, differ}
+use lib.Bits.{bitAnd, bitOr, bitXor, and-step, and-shr, and-lt, or-step, or-shr, xor-step, xor-shr, differ}
 use lib.Count.{ones, ones-step, trailingZeros, under}
 use Rattle.order.specs.Sum.{sum}
-use Rattle.order.proofs.Sums.{sum-zero, sum-suc, sum-cong}
+use Rattle.order.proofs.Sums.{sum-zero, sum-suc, sum-cong, sum-any}
 use Rattle.order.proofs.Ranges.{sum-append}
-use Rattle.model.specs.Placement.{bit}
-use Rattle.theory.proofs.Placement.{bit-low, bit-high, bit-le, bit-cases, bit-zero, bit-above-from}
+use Rattle.model.specs.Plan.{Plan, machines, domains}
+use Rattle.model.specs.Placement.{bit, replicasIn, domainsUsed}
+use Rattle.theory.specs.Refusal.{Shaped}
+use Rattle.theory.proofs.Plan.{turns, domains-turns}
+use Rattle.theory.proofs.Placement.{bit-low, bit-high, bit-le, bit-cases, bit-zero, bit-above-from, replicasIn-turns}
+use Rattle.cluster.specs.declared.Cluster.{Cluster}
+use Rattle.cluster.specs.Cluster.{machinesIn, ClusterOf}
+use Rattle.cluster.proofs.Laws.{cluster-racks, cluster-size, cluster-feeds}
+use Rattle.bits.specs.Words.{FoldedTo}
 
 -- `1u64 << m`
 pub one-shl : (m : ℕ) → m < 64 → 1 * 2 ^ m % 2 ^ 64 ≡ 2 ^ m
@@ -112,6 +120,16 @@ and-disjoint n a b ha hb = (there, back)
       | no none ↦ eq-eqb (bitAnd a b) 0 (omega arith)
     ]
 
+-- `a | b`
+pub bit-or : (a b k : ℕ) → bit (bitOr a b) k ≡ max (bit a k) (bit b k)
+unfolding bit
+bit-or a b k =
+    let u = a / 2 ^ k in
+    let v = b / 2 ^ k in
+    ap (λ (x : ℕ). x % 2) (or-shr a b k ∙ or-step u v)
+    ∙ mul-add-mod-self-right (bitOr (u / 2) (v / 2)) 2 (max (u % 2) (v % 2))
+    ∙ mod-eq-of-lt (omega arith)
+
 -- `!b`
 pub bit-not : (n b k : ℕ) → b < 2 ^ n → k < n → bit (2 ^ n - 1 - b) k ≡ 1 - bit b k
 bit-not zero b k h l = absurd (not-suc-le-zero l)
@@ -146,3 +164,30 @@ bit-xor a b k =
     ap (λ (x : ℕ). x % 2) (xor-shr a b k ∙ xor-step u v)
     ∙ mul-add-mod-self-right (bitXor (u / 2) (v / 2)) 2 (differ (u % 2) (v % 2))
     ∙ differ-parity (u % 2) (v % 2)
+
+-- the domains that a word lies in, where its turns of the domains are laid over one another
+module _ (p : Plan) (shaped : Shaped p) (w r : ℕ) (folded : FoldedTo w (domains p * p .rackSize) (machines p) r) where
+  folded-plan : sum (domains p) (λ d. min 1 (sum (p .rackSize) (λ x. bit r (d * p .rackSize + x)))) ≡ domainsUsed p w
+  unfolding domainsUsed
+  folded-plan = sum-cong (domains p) _ _ (λ d l. ap (min 1) (sum-cong (p .rackSize) _ _ (λ x k. one d x l k)) ∙ sym (lies d l))
+    where
+      size : ℕ
+      size = p .rackSize
+
+      held : ℕ → ℕ → ℕ
+      held d x = sum (turns p) (λ q. bit w (q * (domains p * size) + (d * size + x)))
+
+      whole : machines p ≡ turns p * (domains p * size)
+      whole = ap (λ (n : ℕ). n * size) (sym (domains-turns p shaped)) ∙ mul-assoc (turns p) (domains p) size
+
+      one : (d x : ℕ) → d < domains p → x < size → bit r (d * size + x) ≡ min 1 (held d x)
+      one d x l k = folded (turns p) (d * size + x) whole (digits-lt l k)
+
+      lies : (d : ℕ) → d < domains p → min 1 (replicasIn p w d) ≡ min 1 (sum size (λ x. min 1 (held d x)))
+      lies d l = ap (min 1) (replicasIn-turns p shaped w d l) ∙ sum-any size (held d)
+
+pub folded-used : (p : Plan) (c : Cluster) → ClusterOf p c → (w r : ℕ) → FoldedTo w (c .feeds * c .«rack_size») (machinesIn c) r
+    → sum (c .feeds) (λ d. min 1 (sum (c .«rack_size») (λ x. bit r (d * c .«rack_size» + x)))) ≡ domainsUsed p w
+folded-used p c of w r folded =
+    rw (cluster-feeds p c of, cluster-size p c of)
+    (folded-plan p (of .valid .shaped) w r (rw (cluster-feeds p c of, cluster-size p c of, cluster-racks p c of) at folded))

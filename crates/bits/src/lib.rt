@@ -1,13 +1,16 @@
 // Bits of a 64-bit word. Bit m of a placement's word says whether machine m holds the block.
+use cluster::Cluster;
 ghost use mathlib.Core.Path.{_≡_};
 ghost use mathlib.Core.Bool.{Bool};
 ghost use mathlib.Core.Logic.{_↔_};
 ghost use Prim.Native.Nat.{ℕ, _+_, _*_, _-_, _%_, _<_, _≤_, _^_, min};
 ghost use lib.Dec.{ltb};
 ghost use Rattle.order.specs.Sum.{sum};
-ghost use Rattle.model.specs.Placement.{bit};
+ghost use Rattle.model.specs.Plan.{Plan};
+ghost use Rattle.model.specs.Placement.{bit, domainsUsed};
 ghost use Rattle.model.specs.Steps.{shifted};
-ghost use Rattle.bits.specs.Words.{Lowest};
+ghost use Rattle.cluster.specs.Cluster.{InRange, ClusterOf};
+ghost use Rattle.bits.specs.Words.{Lowest, FoldedTo};
 
 // Bit m of the word, 0 or 1.
 pub fn bit_at(word: u64, m: usize) -> u64
@@ -117,4 +120,28 @@ pub fn groups_used(word: u64, groups: usize, size: usize) -> usize
         d += 1;
     }
     used
+}
+
+// The pieces of `size` bits that the first `total` bits are made of, laid over one another.
+fn fold(word: u64, size: usize, total: usize) -> u64
+    requires { ⌜ (1 ≤ size) × (size ≤ total) × (total ≤ 64) ⌝ }
+    ensures { λ r. ⌜ FoldedTo word size total r ⌝ }
+{
+    let mut folded = word;
+    let mut at = size;
+    while at < total {
+        folded = folded | (word >> at);
+        at += size;
+    }
+    folded
+}
+
+// How many failure domains a word lies in. Racks on one feed are a turn of F racks apart.
+pub fn domains_used(word: u64, cluster: Cluster) -> usize
+    requires { ⌜ InRange cluster ⌝ }
+    ensures { λ r. ⌜ ((p : Plan) → ClusterOf p cluster → r ≡ domainsUsed p word) ⌝ }
+{
+    let size = cluster.rack_size;
+    let folded = fold(word, cluster.feeds * size, cluster.racks * size);
+    groups_used(folded, cluster.feeds, size)
 }

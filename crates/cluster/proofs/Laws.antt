@@ -4,12 +4,13 @@ use mathlib.Core.Path.{_≡_, refl, ap, _∙_}
 use mathlib.Core.Bool.{Bool, true, false, cond, _||_}
 use mathlib.Core.List.{List}
 use mathlib.Core.Logic.{inl, inr}
-use Prim.Native.Nat.{ℕ, zero, suc, _+_, _-_, _≤_, _<_}
-use native.Mathlib.Nat.{le-trans}
+use Prim.Native.Nat.{ℕ, zero, suc, _+_, _*_, _-_, _≤_, _<_}
+use native.Mathlib.Nat.{le-trans, one-le-mul, mul-le-mul-right}
 use native.Mathlib.Omega.{arith}
 use lib.ListN.{getD}
+use Rattle.order.proofs.Arithmetic.{divisor-le}
 use Rattle.order.proofs.Booleans.{bool-cases}
-use Rattle.model.specs.Plan.{Plan, machines, blockCount, blockOf, pairsNext, pairsBack, isPaired, partner, upper}
+use Rattle.model.specs.Plan.{Plan, machines, domain, blockCount, blockOf, pairsNext, pairsBack, isPaired, partner, upper}
 use Rattle.model.specs.Replication.{FeasibleCounts, share}
 use Rattle.model.specs.Placement.{shareOf}
 use Rattle.theory.specs.Widths.{mostReplicas}
@@ -18,8 +19,17 @@ use Rattle.theory.proofs.Plan.{partner-below, upper-max}
 use Rattle.theory.proofs.Replication.{feasibleCounts-range}
 use Rattle.theory.proofs.Placement.{shareOf-feasible}
 use Rattle.cluster.specs.declared.Cluster.{Cluster}
-use Rattle.cluster.specs.Cluster.{machinesIn, InRange, clusterOf, ClusterOf}
+use Rattle.cluster.specs.Cluster.{machinesIn, domainIn, InRange, clusterOf, ClusterOf}
 use Rattle.cluster.specs.Blocks.{linkOf, linkIn, linkedTo, mate, Linked, popularityIn, leastIn, spreadAsked, mostIn, shareIn, countIn, spreadIn, demandOf, DemandsOf, profileOf, ProfilesOf, PlacementOf}
+
+-- ── InRange ────────────────────────────────────────────────────────────────────────────────────────────────────────────
+
+-- one turn of the domains is not above the machines
+pub range-turn : (c : Cluster) → InRange c → c .feeds * c .«rack_size» ≤ machinesIn c
+range-turn c range = mul-le-mul-right (c .«rack_size») (divisor-le (c .racks) (c .feeds) (range .racks-pos) (range .feeds-divide))
+
+pub range-turn-pos : (c : Cluster) → InRange c → 1 ≤ c .feeds * c .«rack_size»
+range-turn-pos c range = one-le-mul (range .feeds-pos) (range .size-pos)
 
 -- ── ClusterOf ──────────────────────────────────────────────────────────────────────────────────────────────────────────
 
@@ -29,6 +39,8 @@ clusterOf-range p valid =
     record {
       racks-pos = s .racks-pos;
       size-pos = s .size-pos;
+      feeds-pos = s .feeds-pos;
+      feeds-divide = s .feeds-divide;
       machines-max = s .machines-max;
       capacity-max = s .capacity-max;
       blocks-max = s .blocks-max;
@@ -43,6 +55,12 @@ module _ (p : Plan) (c : Cluster) (of : ClusterOf p c) where
 
   pub cluster-size : c .«rack_size» ≡ p .rackSize
   cluster-size = ap (λ (k : Cluster). k .«rack_size») (of .is)
+
+  pub cluster-feeds : c .feeds ≡ p .feeds
+  cluster-feeds = ap (λ (k : Cluster). k .feeds) (of .is)
+
+  pub cluster-domain : (m : ℕ) → domainIn c m ≡ domain p m
+  cluster-domain m = ap (λ (k : Cluster). domainIn k m) (of .is)
 
   pub cluster-capacity : c .capacity ≡ p .capacity
   cluster-capacity = ap (λ (k : Cluster). k .capacity) (of .is)

@@ -11,10 +11,11 @@ pub const MAX_MACHINES: usize = 64;
 
 pub const MAX_BLOCKS: usize = 1024;
 
-// The racks R, the machines in each S, the copies that a machine can hold C, and the blocks B.
+// The racks R, the machines in each S, the mains feeds F, the copies that a machine can hold C, and the blocks B.
 pub struct Cluster {
     pub racks: usize,
     pub rack_size: usize,
+    pub feeds: usize,
     pub capacity: usize,
     pub blocks: usize,
 }

@@ -1,6 +1,6 @@
 -- The format of a version's file, in the code's struct and in its ranges.
 use Prim.Native.Nat.{_≤_}
-use Rattle.model.specs.Plan.{commonLength, Format as ModelFormat}
+use Rattle.model.specs.Plan.{Format as ModelFormat}
 use Rattle.theory.specs.Widths.{widestPopularity}
 use Rattle.header.specs.declared.Format.{Format}
 
@@ -8,17 +8,16 @@ use Rattle.header.specs.declared.Format.{Format}
 abbrev pub asFormat : Format → ModelFormat
 asFormat f =
     record {
-      headerLength = f .«header_length»;
+      feedsWidth = f .«feeds_width»;
       popularityWidth = f .«popularity_width»;
       minReplicasWidth = f .«min_replicas_width»;
       minRacksWidth = f .«min_racks_width»;
       pairByteWidth = f .«pair_byte_width»;
     }
 
--- Every version's header has the common bytes, and no version's header or field is wider.
+-- No version's field is wider.
 pub record FormatFits (f : ModelFormat) : Type 0 where
-  pub header-min : commonLength ≤ f .headerLength
-  pub header-max : f .headerLength ≤ 64
+  pub feeds-max : f .feedsWidth ≤ 1
   pub popularity-max : f .popularityWidth ≤ widestPopularity
   pub replicas-max : f .minReplicasWidth ≤ 1
   pub racks-max : f .minRacksWidth ≤ 1

@@ -1,34 +1,34 @@
-// The fixed header of a plan file: its fields, and the checks 1 to 7; the format that its version gives.
+// The header of a plan file: its fields, and the checks 1 to 7 and 22; the format that its version gives.
 use cluster::Cluster;
 use cluster::MAX_BLOCKS;
 use cluster::MAX_MACHINES;
 ghost use mathlib.Core.Path.{_≡_};
 ghost use Prim.Native.Nat.{ℕ, _+_, _<_, _≤_, _^_};
 ghost use lib.ListN.{length};
-ghost use Rattle.model.specs.Plan.{field, commonLength, formatOf, formatIn, recordAt};
-ghost use Rattle.model.specs.Refusal.{orElse, maxBlocks, check4, check5, check6, check7};
+ghost use Rattle.model.specs.Plan.{field, commonLength, formatOf, formatIn, feedsIn, recordAt};
+ghost use Rattle.model.specs.Refusal.{orElse, maxBlocks};
 ghost use Rattle.header.specs.Format.{asFormat, FormatFits};
-ghost use Rattle.header.specs.Header.{headerIn, Narrow, MarkChecked, HeaderChecked};
+ghost use Rattle.header.specs.Header.{countIn, headerWith, HallRows, SizeRows, Narrow, FieldsAsked, SizesAsked, MarkChecked, HeaderChecked};
 
 // The bytes that every version's header has, the mark, the latest version, and the most copies that a machine can be said to hold.
 const COMMON_LENGTH: usize = 15;
 
 const MARK: usize = 0x42504C;
 
-const LATEST_VERSION: usize = 3;
+const LATEST_VERSION: usize = 4;
 
 const MAX_CAPACITY: usize = 1024;
 
-// The header's fields: the version, R, S, C and B, and the budget.
+// The header's fields: the version, R, S, F, C and B, and the budget.
 pub struct Header {
     pub version: usize,
     pub cluster: Cluster,
     pub budget: usize,
 }
 
-// The header's length and the widths of a record's fields, which stand one after the other.
+// The widths of the fields in which versions differ. A record's fields stand one after the other.
 pub struct Format {
-    pub header_length: usize,
+    pub feeds_width: usize,
     pub popularity_width: usize,
     pub min_replicas_width: usize,
     pub min_racks_width: usize,
@@ -49,7 +49,7 @@ pub fn record_at(format: Format, i: usize) -> usize
         + format.min_replicas_width
         + format.min_racks_width
         + format.pair_byte_width;
-    format.header_length + record * i
+    COMMON_LENGTH + format.feeds_width + record * i
 }
 
 fn wide(x: u8) -> usize
@@ -83,6 +83,16 @@ pub fn byte_at(bytes: &[u8], at: usize, width: usize) -> usize
     wide(bytes[at])
 }
 
+// The width of F: none before version 4.
+fn feeds_width(version: usize) -> usize
+    ensures { λ r. ⌜ r ≡ formatOf version .feedsWidth ⌝ }
+{
+    if version < 4 {
+        return 0;
+    }
+    1
+}
+
 // The width of a popularity: three bytes before version 3.
 fn popularity_width(version: usize) -> usize
     ensures { λ r. ⌜ r ≡ formatOf version .popularityWidth ⌝ }
@@ -108,7 +118,7 @@ pub fn format_of(version: usize) -> Format
     ensures { λ r. ⌜ (asFormat r ≡ formatOf version) × FormatFits (asFormat r) ⌝ }
 {
     Format {
-        header_length: COMMON_LENGTH,
+        feeds_width: feeds_width(version),
         popularity_width: popularity_width(version),
         min_replicas_width: 1,
         min_racks_width: 1,
@@ -144,10 +154,10 @@ pub fn mark_refusal(bytes: &[u8], latest: usize) -> u8
     0
 }
 
-// Check 4; 0 where it passes.
-fn rack_refusal(racks: usize, rack_size: usize) -> u8
+// Checks 4, 22 and 5; 0 where all pass.
+fn hall_refusal(racks: usize, rack_size: usize, feeds: usize, capacity: usize) -> u8
     requires { ⌜ (racks < 256) × («rack_size» < 256) ⌝ }
-    ensures { λ r. ⌜ ((later : ℕ) → check4 racks «rack_size» later ≡ orElse r later) ⌝ }
+    ensures { λ r. ⌜ HallRows racks «rack_size» feeds capacity r ⌝ }
 {
     if racks == 0 {
         return 4;
@@ -158,20 +168,26 @@ fn rack_refusal(racks: usize, rack_size: usize) -> u8
     if racks * rack_size > MAX_MACHINES {
         return 4;
     }
-    0
-}
-
-// Checks 5 to 7; 0 where all pass.
-fn size_refusal(format: Format, capacity: usize, blocks: usize, size: usize) -> u8
-    requires { ⌜ FormatFits (asFormat format) ⌝ }
-    ensures { λ r. ⌜ ((later : ℕ) → check5 capacity (check6 blocks (check7 (asFormat format) size blocks later)) ≡ orElse r later) ⌝ }
-{
+    if feeds == 0 {
+        return 22;
+    }
+    if racks % feeds != 0 {
+        return 22;
+    }
     if capacity == 0 {
         return 5;
     }
     if capacity > MAX_CAPACITY {
         return 5;
     }
+    0
+}
+
+// Checks 6 and 7; 0 where both pass.
+fn size_refusal(format: Format, blocks: usize, size: usize) -> u8
+    requires { ⌜ SizesAsked (asFormat format) blocks size ⌝ }
+    ensures { λ r. ⌜ SizeRows (asFormat format) blocks size r ⌝ }
+{
     if blocks > MAX_BLOCKS {
         return 6;
     }
@@ -181,24 +197,48 @@ fn size_refusal(format: Format, capacity: usize, blocks: usize, size: usize) -> 
     0
 }
 
-fn fields(bytes: &[u8]) -> Header
-    requires { ⌜ commonLength ≤ length (now bytes) ⌝ }
-    ensures { λ r. ⌜ (r ≡ headerIn (now (bytes .entry))) × Narrow r ⌝ }
+// F, which is R where the file does not have it.
+fn feeds_in(bytes: &[u8], format: Format) -> usize
+    requires { ⌜ FieldsAsked (now bytes) format ⌝ }
+    ensures { λ r. ⌜ r ≡ feedsIn (now (bytes .entry)) ⌝ }
 {
+    if format.feeds_width == 0 {
+        return field_at(bytes, 5, 1);
+    }
+    field_at(bytes, 7, format.feeds_width)
+}
+
+// B, which is 0 where one of its bytes is missing: row 6 is not judged on the other one.
+fn count_in(bytes: &[u8], format: Format) -> usize
+    requires { ⌜ FieldsAsked (now bytes) format ⌝ }
+    ensures { λ r. ⌜ r ≡ countIn (now (bytes .entry)) ⌝ }
+{
+    if bytes.len() < COMMON_LENGTH + format.feeds_width {
+        return 0;
+    }
+    field_at(bytes, 13 + format.feeds_width, 2)
+}
+
+fn fields(bytes: &[u8], format: Format) -> Header
+    requires { ⌜ FieldsAsked (now bytes) format ⌝ }
+    ensures { λ r. ⌜ (r ≡ headerWith (countIn (now (bytes .entry))) (now (bytes .entry))) × Narrow r ⌝ }
+{
+    let shift = format.feeds_width;
     let cluster = Cluster {
         racks: field_at(bytes, 5, 1),
         rack_size: field_at(bytes, 6, 1),
-        capacity: field_at(bytes, 7, 2),
-        blocks: field_at(bytes, 13, 2),
+        feeds: feeds_in(bytes, format),
+        capacity: field_at(bytes, 7 + shift, 2),
+        blocks: count_in(bytes, format),
     };
     Header {
         version: field_at(bytes, 3, 2),
         cluster,
-        budget: field_at(bytes, 9, 4),
+        budget: field_at(bytes, 9 + shift, 4),
     }
 }
 
-// Checks 1 to 7 in order, or the header.
+// Checks 1 to 4, 22 and 5 to 7, in this order, or the header.
 pub fn read(bytes: &[u8]) -> HeaderAnswer
     ensures { λ r. ⌜ HeaderChecked (now (bytes .entry)) r ⌝ }
 {
@@ -206,18 +246,14 @@ pub fn read(bytes: &[u8]) -> HeaderAnswer
     if marked != 0 {
         return HeaderAnswer::Refused(marked);
     }
-    let h = fields(bytes);
-    let cluster = h.cluster;
-    let racked = rack_refusal(cluster.racks, cluster.rack_size);
-    if racked != 0 {
-        return HeaderAnswer::Refused(racked);
+    let format = format_in(bytes);
+    let h = fields(bytes, format);
+    let c = h.cluster;
+    let hall = hall_refusal(c.racks, c.rack_size, c.feeds, c.capacity);
+    if hall != 0 {
+        return HeaderAnswer::Refused(hall);
     }
-    let sized = size_refusal(
-        format_in(bytes),
-        cluster.capacity,
-        cluster.blocks,
-        bytes.len(),
-    );
+    let sized = size_refusal(format, c.blocks, bytes.len());
     if sized != 0 {
         return HeaderAnswer::Refused(sized);
     }

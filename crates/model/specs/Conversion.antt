@@ -22,6 +22,7 @@ withVersion version p =
       version = version;
       racks = p .racks;
       rackSize = p .rackSize;
+      feeds = p .feeds;
       capacity = p .capacity;
       budget = p .budget;
       blocks = p .blocks;

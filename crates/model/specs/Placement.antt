@@ -1,4 +1,5 @@
--- Document 01, "First placement", and what a placement's words say: replicas, racks, loads, lawfulness, with document 02's pairs (U1).
+-- Document 01, "First placement", and what a placement's words say: replicas, failure domains, loads, lawfulness, with document
+-- 02's pairs (U1).
 use mathlib.Core.Path.{_≡_}
 use mathlib.Core.Bool.{Bool, true, cond, _&&_}
 use mathlib.Core.List.{List}

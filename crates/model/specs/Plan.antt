@@ -1,7 +1,7 @@
--- Document 01, "The plan file", and document 02, U1, U4 and U5: what the bytes of a plan say.
+-- Document 01, "The plan file", and document 02, U1, U4, U5 and U6: what the bytes of a plan say.
 use mathlib.Core.Bool.{Bool, false, cond, _||_}
 use mathlib.Core.List.{List}
-use Prim.Native.Nat.{ℕ, zero, suc, _+_, _*_, _-_, _/_, min}
+use Prim.Native.Nat.{ℕ, zero, suc, _+_, _*_, _-_, _/_, _%_, min}
 use lib.Dec.{ltb, eqb}
 use lib.ListN.{length, getD}
 use Rattle.order.specs.Sum.{sum}
@@ -15,11 +15,13 @@ pub record Block : Type 0 where
   pub minRacks : ℕ
   pub pairByte : ℕ
 
--- A plan. `version` is its file's, `racks` is R, `rackSize` the machines per rack S, `capacity` C; `blocks` are in file order.
+-- A plan. `version` is its file's, `racks` is R, `rackSize` the machines per rack S, `feeds` the mains feeds F, `capacity` C; `blocks`
+-- are in file order.
 pub record Plan : Type 0 where
   pub version : ℕ
   pub racks : ℕ
   pub rackSize : ℕ
+  pub feeds : ℕ
   pub capacity : ℕ
   pub budget : ℕ
   pub blocks : List Block
@@ -32,15 +34,16 @@ machines p = p .racks * p .rackSize
 abbrev pub rackOf : Plan → ℕ → ℕ
 rackOf p m = m / p .rackSize
 
--- The failure domains that a spread counts, that of machine m, and the machines in each: the racks.
+-- Rack r hangs on feed r mod F. The failure domains that a spread counts are the feeds, F of them; that of machine m, and the machines in
+-- each. Before version 4, F is R, and a domain is a rack.
 abbrev pub domains : Plan → ℕ
-domains p = p .racks
+domains p = p .feeds
 
 abbrev pub domain : Plan → ℕ → ℕ
-domain p m = rackOf p m
+domain p m = rackOf p m % p .feeds
 
 abbrev pub domainSize : Plan → ℕ
-domainSize p = p .rackSize
+domainSize p = p .racks / p .feeds * p .rackSize
 
 -- B, and block i.
 abbrev pub blockCount : Plan → ℕ
@@ -92,7 +95,31 @@ unfoldable pub field : List ℕ → ℕ → ℕ → ℕ
 field bytes at zero = 0
 field bytes at (suc width) = field bytes at width * 256 + getD bytes (at + width) 0
 
--- The header's table: each field by its first byte and its width. Every version's header has these bytes.
+-- The format of a version's file: the widths of the fields in which versions differ. A record's fields stand one after the other.
+pub record Format : Type 0 where
+  pub feedsWidth : ℕ
+  pub popularityWidth : ℕ
+  pub minReplicasWidth : ℕ
+  pub minRacksWidth : ℕ
+  pub pairByteWidth : ℕ
+
+-- The versions are 1 to 4. From version 4 on the header has the byte F. Records have a popularity of 3 bytes, from version 3 on of 4, least
+-- copies of 1 and a spread of 1; from version 2 on also the pair byte. Where it is not in the file it is 0.
+abbrev pub latestVersion : ℕ
+latestVersion = 4
+
+unfoldable pub formatOf : ℕ → Format
+formatOf version =
+    record {
+      feedsWidth = cond (ltb version 4) 0 1;
+      popularityWidth = cond (ltb version 3) 3 4;
+      minReplicasWidth = 1;
+      minRacksWidth = 1;
+      pairByteWidth = cond (ltb version 2) 0 1;
+    }
+
+-- The header's table: each field by its first byte and its width. Every version's header has `commonLength` bytes; F stands after machines
+-- per rack and shifts the later fields. Where it is not in the file it is R.
 abbrev pub commonLength : ℕ
 commonLength = 15
 
@@ -102,46 +129,31 @@ markIn bytes = field bytes 0 3
 abbrev pub versionIn : List ℕ → ℕ
 versionIn bytes = field bytes 3 2
 
+abbrev pub formatIn : List ℕ → Format
+formatIn bytes = formatOf (versionIn bytes)
+
 abbrev pub racksIn : List ℕ → ℕ
 racksIn bytes = field bytes 5 1
 
 abbrev pub rackSizeIn : List ℕ → ℕ
 rackSizeIn bytes = field bytes 6 1
 
+abbrev pub feedsIn : List ℕ → ℕ
+feedsIn bytes =
+    let width = formatIn bytes .feedsWidth in
+    cond (eqb width 0) (racksIn bytes) (field bytes 7 width)
+
 abbrev pub capacityIn : List ℕ → ℕ
-capacityIn bytes = field bytes 7 2
+capacityIn bytes = field bytes (7 + formatIn bytes .feedsWidth) 2
 
 abbrev pub budgetIn : List ℕ → ℕ
-budgetIn bytes = field bytes 9 4
+budgetIn bytes = field bytes (9 + formatIn bytes .feedsWidth) 4
 
 abbrev pub blockCountIn : List ℕ → ℕ
-blockCountIn bytes = field bytes 13 2
+blockCountIn bytes = field bytes (13 + formatIn bytes .feedsWidth) 2
 
--- The format of a version's file: the header's length and the widths of a record's fields, which stand one after the other.
-pub record Format : Type 0 where
-  pub headerLength : ℕ
-  pub popularityWidth : ℕ
-  pub minReplicasWidth : ℕ
-  pub minRacksWidth : ℕ
-  pub pairByteWidth : ℕ
-
--- The versions are 1, 2 and 3. A header of 15 bytes, records of a popularity of 3, from version 3 on of 4, least copies of 1 and a spread
--- of 1; from version 2 on also the pair byte. Where it is not in the file it is 0.
-abbrev pub latestVersion : ℕ
-latestVersion = 3
-
-unfoldable pub formatOf : ℕ → Format
-formatOf version =
-    record {
-      headerLength = commonLength;
-      popularityWidth = cond (ltb version 3) 3 4;
-      minReplicasWidth = 1;
-      minRacksWidth = 1;
-      pairByteWidth = cond (ltb version 2) 0 1;
-    }
-
-abbrev pub formatIn : List ℕ → Format
-formatIn bytes = formatOf (versionIn bytes)
+abbrev pub headerLength : Format → ℕ
+headerLength f = commonLength + f .feedsWidth
 
 -- Where a record's fields stand in it, and its length. Record i stands at `recordAt f i`.
 abbrev pub minReplicasAt : Format → ℕ
@@ -157,7 +169,7 @@ abbrev pub recordLength : Format → ℕ
 recordLength f = pairByteAt f + f .pairByteWidth
 
 abbrev pub recordAt : Format → ℕ → ℕ
-recordAt f i = f .headerLength + recordLength f * i
+recordAt f i = headerLength f + recordLength f * i
 
 -- The block whose record begins at `at`, and block i.
 abbrev pub blockAt : Format → List ℕ → ℕ → Block
@@ -179,6 +191,7 @@ planIn bytes =
       version = versionIn bytes;
       racks = racksIn bytes;
       rackSize = rackSizeIn bytes;
+      feeds = feedsIn bytes;
       capacity = capacityIn bytes;
       budget = budgetIn bytes;
       blocks = table (blockCountIn bytes) (blockIn (formatIn bytes) bytes);

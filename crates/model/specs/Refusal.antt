@@ -1,12 +1,12 @@
--- Document 01, "Why a plan or placement is turned back": rows 1 to 12 of its table, and row 17 of document 02, U1.
+-- Document 01, "Why a plan or placement is turned back": rows 1 to 12 of its table, and rows 17 and 22 of document 02.
 -- A refusal code is the row's number, and 0 where nothing is wrong. Each check is handed the code that the later rows give.
 use mathlib.Core.Bool.{Bool, true, false, not, _&&_, _||_}
 use mathlib.Core.List.{List}
-use Prim.Native.Nat.{ℕ, zero, suc, _*_}
-use lib.Dec.{ltb, eqb}
+use Prim.Native.Nat.{ℕ, zero, suc, _*_, _%_}
+use lib.Dec.{leb, ltb, eqb}
 use lib.ListN.{length}
 use Rattle.order.specs.Search.{firstUp}
-use Rattle.model.specs.Plan.{Block, Plan, marksPair, machines, domains, blockCount, blockOf, upper, minTotal, commonLength, latestVersion, markIn, versionIn, racksIn, rackSizeIn, capacityIn, blockCountIn, Format, formatIn, recordAt, planIn}
+use Rattle.model.specs.Plan.{Block, Plan, marksPair, machines, domains, blockCount, blockOf, upper, minTotal, commonLength, latestVersion, markIn, versionIn, racksIn, rackSizeIn, feedsIn, capacityIn, blockCountIn, Format, formatIn, headerLength, recordAt, planIn}
 
 -- The row's code where its condition holds, else the later rows' code.
 abbrev pub refuseIf : Bool → ℕ → ℕ → ℕ
@@ -50,15 +50,20 @@ check3 latest version = refuseIf (eqb version 0 || ltb latest version) 3
 unfoldable pub check4 : ℕ → ℕ → ℕ → ℕ
 check4 racks rackSize = refuseIf (eqb racks 0 || eqb rackSize 0 || ltb maxMachines (racks * rackSize)) 4
 
+-- 22: F is 0 or does not divide R.
+unfoldable pub check22 : ℕ → ℕ → ℕ → ℕ
+check22 racks feeds = refuseIf (eqb feeds 0 || not (eqb (racks % feeds) 0)) 22
+
 -- 5: C is 0 or above 1,024.
 unfoldable pub check5 : ℕ → ℕ → ℕ
 check5 capacity = refuseIf (eqb capacity 0 || ltb maxCapacity capacity) 5
 
--- 6: B above 1,024.
-unfoldable pub check6 : ℕ → ℕ → ℕ
-check6 count = refuseIf (ltb maxBlocks count) 6
+-- 6: B above 1,024. Not judged on a missing byte: a version 4 file of 15 bytes passes.
+unfoldable pub check6 : Format → ℕ → ℕ → ℕ → ℕ
+check6 f size count = refuseIf (leb (headerLength f) size && ltb maxBlocks count) 6
 
--- 7: length not 15 + 5 × B, in version 2 15 + 6 × B, in version 3 15 + 7 × B: that of the version's header and B records.
+-- 7: length not 15 + 5 × B, in version 2 15 + 6 × B, in version 3 15 + 7 × B, in version 4 16 + 7 × B: that of the version's header and
+-- B records.
 unfoldable pub check7 : Format → ℕ → ℕ → ℕ → ℕ
 check7 f size count = refuseIf (not (eqb size (recordAt f count))) 7
 
@@ -66,9 +71,9 @@ check7 f size count = refuseIf (not (eqb size (recordAt f count))) 7
 unfoldable pub check8 : ℕ → ℕ → ℕ → ℕ
 check8 most least = refuseIf (eqb least 0 || ltb most least) 8
 
--- 9: spread 0, or above least copies, or above R.
+-- 9: spread 0, or above least copies, or above R, in version 4 above F: above the failure domains.
 unfoldable pub check9 : ℕ → ℕ → ℕ → ℕ → ℕ
-check9 racks least spread = refuseIf (eqb spread 0 || ltb least spread || ltb racks spread) 9
+check9 all least spread = refuseIf (eqb spread 0 || ltb least spread || ltb all spread) 9
 
 -- 17: a byte is neither 0 nor 1; the last block has 1; two successive blocks have 1; or a pair differs in popularity, least copies or
 -- spread. Said of one block and the next, and whether it is the last.
@@ -113,7 +118,7 @@ pairRefusal p i = check17 (blockOf p i) (blockOf p (suc i)) (eqb (suc i) (blockC
 unfoldable pub pairsRefusal : Plan → ℕ
 pairsRefusal p = firstUp isRefusal 0 (pairRefusal p) (blockCount p)
 
--- The checks go in numerical order, but for 17: 1 to 7 on the header, 8, 9, 17, 10 and 11 on the plan.
+-- The checks go in numerical order, but for 17 and 22: 1 to 4, 22 and 5 to 7 on the header, 8, 9, 17, 10 and 11 on the plan.
 unfoldable pub planRefusal : Plan → ℕ
 planRefusal p =
     orElse (blocksRefusal p)
@@ -128,10 +133,11 @@ refusal bytes =
     (check2 (markIn bytes)
     (check3 latestVersion (versionIn bytes)
     (check4 (racksIn bytes) (rackSizeIn bytes)
+    (check22 (racksIn bytes) (feedsIn bytes)
     (check5 (capacityIn bytes)
-    (check6 (blockCountIn bytes)
+    (check6 (formatIn bytes) (length bytes) (blockCountIn bytes)
     (check7 (formatIn bytes) (length bytes) (blockCountIn bytes)
-    (planRefusal (planIn bytes))))))))
+    (planRefusal (planIn bytes)))))))))
 
 -- What a plan's bytes are: turned back with a code, or a plan.
 pub data Verdict : Type 0 where

@@ -1,4 +1,4 @@
--- Document 01, "The plan file", and document 02, U4: a plan as the bytes of a file.
+-- Document 01, "The plan file", and document 02, U4 and U6: a plan as the bytes of a file.
 use mathlib.Core.List.{List, [], _∷_, _++_}
 use Prim.Native.Nat.{ℕ, zero, suc, _/_, _%_}
 use Rattle.order.specs.Table.{joined}
@@ -17,6 +17,7 @@ headerBytes p =
     ++ bytesOf 2 (p .version)
     ++ bytesOf 1 (p .racks)
     ++ bytesOf 1 (p .rackSize)
+    ++ bytesOf (formatOf (p .version) .feedsWidth) (p .feeds)
     ++ bytesOf 2 (p .capacity)
     ++ bytesOf 4 (p .budget)
     ++ bytesOf 2 (blockCount p)

@@ -1,7 +1,9 @@
 -- Laws of products and quotients.
 -- Assumes nothing.
-use Prim.Native.Nat.{ℕ, zero, suc, _*_, _/_, _≤_, _<_}
-use native.Mathlib.Nat.{zero-mul, mul-zero, le-trans, mul-le-mul-left, div-mul-le-self, le-div-iff-mul-le}
+use mathlib.Core.Path.{_≡_}
+use Prim.Native.Nat.{ℕ, zero, suc, _*_, _/_, _%_, _≤_, _<_}
+use native.Mathlib.Nat.{zero-mul, mul-zero, le-trans, mul-le-mul-left, div-mul-le-self, le-div-iff-mul-le, mod-eq-of-lt}
+use native.Mathlib.Decide.{decLt}
 use native.Mathlib.Omega.{arith}
 
 -- both factors of a positive product are positive
@@ -15,3 +17,10 @@ div-mono m a b pos h = le-div-iff-mul-le pos .1 (le-trans (div-mul-le-self a m) 
 
 pub div-antitone : (n j k : ℕ) → 0 < j → j ≤ k → n / k ≤ n / j
 div-antitone n j k pos h = le-div-iff-mul-le pos .1 (le-trans (mul-le-mul-left (n / k) h) (div-mul-le-self n k))
+
+-- a divisor of a number above 0 is not above it
+pub divisor-le : (n d : ℕ) → 1 ≤ n → n % d ≡ 0 → d ≤ n
+divisor-le n d some whole = elim (decLt n d) [
+  | yes above ↦ absurd (omega (arith, mod-eq-of-lt above))
+  | no within ↦ omega arith
+]

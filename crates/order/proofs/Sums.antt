@@ -2,7 +2,7 @@
 -- Assumes nothing.
 use mathlib.Core.Path.{_≡_, refl, ap, ap₂, sym, _∙_}
 use mathlib.Core.Logic.{_⊎_, inl, inr}
-use Prim.Native.Nat.{ℕ, zero, suc, _+_, _*_, _≤_, _<_}
+use Prim.Native.Nat.{ℕ, zero, suc, _+_, _*_, _≤_, _<_, min}
 use native.Mathlib.Nat.{le-refl, le-antisymm, mul-add, mul-zero, mul-one, mul-comm, add-le-add, not-suc-le-zero, le-of-suc-le-suc, eq-or-lt-of-le, suc-mul, zero-mul}
 use native.Mathlib.Numerals.{add-one}
 use native.Mathlib.Decide.{ℕ-discrete, decLt}
@@ -32,6 +32,12 @@ pub sum-mono : (n : ℕ) (f g : ℕ → ℕ) → ((i : ℕ) → i < n → f i �
 unfolding sum
 sum-mono zero f g h = omega arith
 sum-mono (suc n) f g h = add-le-add (sum-mono n f g (λ i l. h i (omega arith))) (h n (le-refl (suc n)))
+
+-- a sum is above 0 where one of its terms is
+pub sum-any : (n : ℕ) (f : ℕ → ℕ) → min 1 (sum n f) ≡ min 1 (sum n (λ i. min 1 (f i)))
+unfolding sum
+sum-any zero f = refl
+sum-any (suc n) f = let e = sum-any n f in omega arith
 
 pub sum-none : (n : ℕ) → sum n (λ i. 0) ≡ 0
 unfolding sum

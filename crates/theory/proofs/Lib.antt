@@ -6,6 +6,7 @@ pub mod Widths
 pub mod Replication
 pub mod Placement
 pub mod PlacementFirst
+pub mod Domains
 pub mod Steps
 pub mod StepsLocal
 pub mod StepsNext

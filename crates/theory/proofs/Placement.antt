@@ -16,12 +16,13 @@ use lib.ListN.{length, List·getD-eq-default}
 use Rattle.order.specs.Sum.{sum, delta}
 use Rattle.order.proofs.Booleans.{and-iff, if-iff, leb-iff, ltb-iff}
 use Rattle.order.proofs.Sums.{sum-cong, sum-none, sum-scale, sum-exchange, sum-term, delta-same, delta-other}
+use Rattle.order.proofs.Ranges.{sum-groups}
 use Rattle.order.proofs.Extremes.{allb-iff, largest-cong}
 use Rattle.model.specs.Plan.{Plan, machines, domain, domains, domainSize, blockCount, blockOf, isPaired, partner, upper}
 use Rattle.model.specs.Replication.{limit, FeasibleCounts, share, largestShare}
 use Rattle.model.specs.Placement.{bit, wordOf, held, replicas, replicasIn, domainsUsed, countOf, used, Feasible, allWithin, allSpread, allFit, keptApart, allApart, countsFeasible, isFeasible, shareOf, load, maxShare}
 use Rattle.theory.specs.Refusal.{Shaped, Valid}
-use Rattle.theory.proofs.Plan.{domain-lt, member, member-sum}
+use Rattle.theory.proofs.Plan.{turns, domain-lt, member, member-turn, member-sum}
 use Rattle.theory.proofs.Replication.{feasibleCounts-range, feasibleCounts-same}
 
 -- ── bit ──────────────────────────────────────────────────────────────────────────────────────────
@@ -138,8 +139,19 @@ pub replicasIn-delta : (p : Plan) (w d : ℕ) → replicasIn p w d ≡ sum (mach
 unfolding replicasIn delta
 replicasIn-delta p w d = sum-cong (machines p) _ _ (λ m l. pick (eqb (domain p m) d) (bit w m))
 
-pub replicasIn-members : (p : Plan) (w d : ℕ) → d < domains p → replicasIn p w d ≡ sum (domainSize p) (λ x. bit w (member p d x))
-replicasIn-members p w d l = replicasIn-delta p w d ∙ member-sum p d (bit w) l
+pub replicasIn-members : (p : Plan) → Shaped p → (w d : ℕ) → d < domains p
+    → replicasIn p w d ≡ sum (domainSize p) (λ x. bit w (member p d x))
+replicasIn-members p shaped w d l = replicasIn-delta p w d ∙ member-sum p shaped d (bit w) l
+
+-- by one turn of the domains after the other
+pub replicasIn-turns : (p : Plan) → Shaped p → (w d : ℕ) → d < domains p
+    → replicasIn p w d ≡ sum (p .rackSize) (λ x. sum (turns p) (λ q. bit w (q * (domains p * p .rackSize) + (d * p .rackSize + x))))
+replicasIn-turns p shaped w d l =
+    replicasIn-members p shaped w d l
+    ∙ sum-groups (turns p) (p .rackSize) (λ x. bit w (member p d x))
+    ∙ sum-cong (turns p) _ (λ q. sum (p .rackSize) (λ x. bit w (q * (domains p * p .rackSize) + (d * p .rackSize + x))))
+    (λ q h. sum-cong (p .rackSize) _ _ (λ x k. ap (bit w) (member-turn p d q x k)))
+    ∙ sum-exchange (turns p) (p .rackSize) (λ q x. bit w (q * (domains p * p .rackSize) + (d * p .rackSize + x)))
 
 -- a copy counts in its domain
 replicasIn-held : (p : Plan) (w m : ℕ) → m < machines p → bit w m ≤ replicasIn p w (domain p m)
@@ -154,7 +166,7 @@ pub domainsUsed-pos : (p : Plan) → Shaped p → (w m : ℕ) → m < machines p
 unfolding domainsUsed
 domainsUsed-pos p shaped w m l on =
     let used = replicasIn-held p w m l in
-    omega (arith, sum-term (domains p) (λ d. min 1 (replicasIn p w d)) (domain p m) (domain-lt p shaped m l))
+    omega (arith, sum-term (domains p) (λ d. min 1 (replicasIn p w d)) (domain p m) (domain-lt p shaped m))
 
 -- ── Feasible ─────────────────────────────────────────────────────────────────────────────────────
 -- lawful at counts, lawful at those that agree on the blocks
@@ -266,15 +278,15 @@ shareOf-feasible p count words feasible i l = ap (share (blockOf p i .popularity
 
 -- ── load ─────────────────────────────────────────────────────────────────────────────────────────
 -- the load of a domain's machines is the sum of share × copies in it
-pub load-domain : (p : Plan) (words : List ℕ) (d : ℕ) → d < domains p
+pub load-domain : (p : Plan) → Shaped p → (words : List ℕ) (d : ℕ) → d < domains p
     → sum (domainSize p) (λ x. load p words (member p d x)) ≡ sum (blockCount p) (λ i. shareOf p words i * replicasIn p (wordOf words i) d)
 unfolding load
-load-domain p words d l =
+load-domain p shaped words d l =
     sum-exchange (domainSize p) (blockCount p) (λ x i. held words (member p d x) i * shareOf p words i)
     ∙ sum-cong (blockCount p) _ _
     (λ i h.
     sum-scale (domainSize p) (shareOf p words i) (λ x. held words (member p d x) i)
-    ∙ ap (λ (c : ℕ). shareOf p words i * c) (sym (replicasIn-members p (wordOf words i) d l)))
+    ∙ ap (λ (c : ℕ). shareOf p words i * c) (sym (replicasIn-members p shaped (wordOf words i) d l)))
 
 -- ── maxShare ─────────────────────────────────────────────────────────────────────────────────────
 pub maxShare-feasible : (p : Plan) (count : ℕ → ℕ) (words : List ℕ) → Feasible p count words → largestShare p count ≡ maxShare p words

@@ -22,7 +22,7 @@ use Rattle.model.specs.Replication.{limit, FeasibleCounts, chosen}
 use Rattle.model.specs.Placement.{bit, wordOf, held, replicas, replicasIn, domainsUsed, used, Feasible, position, laidWord, firstWord, firstPlacement}
 use Rattle.theory.specs.Refusal.{Shaped}
 use Rattle.theory.specs.Placement.{FirstFeasible}
-use Rattle.theory.proofs.Plan.{machines-pos, domains-pos, domains-mod, isPaired-first, isPaired-second, partner-pair, upper-machines, upper-pair}
+use Rattle.theory.proofs.Plan.{machines-pos, domains-pos, domains-mod-racks, domains-mod, isPaired-first, isPaired-second, partner-pair, upper-machines, upper-pair}
 use Rattle.theory.proofs.Replication.{chosen-laws}
 use Rattle.theory.proofs.Placement.{bit-zero, bit-add, bit-add-below, replicasIn-delta}
 
@@ -53,7 +53,7 @@ module _ (p : Plan) (shaped : Shaped p) where
 
     -- consecutive positions are in consecutive domains
     pub position-domain : domain p (position p t) ≡ t % domains p
-    position-domain = position-rack
+    position-domain = ap (λ (r : ℕ). r % domains p) position-rack ∙ domains-mod-racks p shaped t
 
     positionOf-position : positionOf p (position p t) ≡ t
     unfolding positionOf
@@ -90,7 +90,7 @@ module _ (p : Plan) (shaped : Shaped p) where
 
   -- consecutive copies are in consecutive domains
   pub machineOf-domain : (q : ℕ) → domain p (machineOf p q) ≡ q % domains p
-  machineOf-domain q = position-domain p shaped (q % machines p) (mod-lt q (machines-pos p shaped)) ∙ domains-mod p q
+  machineOf-domain q = position-domain p shaped (q % machines p) (mod-lt q (machines-pos p shaped)) ∙ domains-mod p shaped q
 
   -- copies are on the same machine exactly where they are at the same position
   same-position : (t : ℕ) → t < machines p → (k : ℕ) (copy : ℕ → ℕ)
@@ -236,7 +236,8 @@ module _ (p : Plan) (shaped : Shaped p) (count : ℕ → ℕ) (few : (i : ℕ) �
 
 -- The copies of all blocks, in file order, are numbered 0, 1, 2 and so on, and copy q is laid on position q mod M. A block's copies
 -- have consecutive numbers, at most M of them, so they are at different positions: on different machines. Consecutive positions are
--- in consecutive domains, so k copies lie in the smaller of k and R of them, and a spread is at most both. A position gets one in M
+-- in consecutive racks, and so in consecutive domains, since F divides R: k copies lie in the smaller of k and F of them, and a spread is
+-- at most both. A position gets one in M
 -- of all the copies, and there are at most M × C, so no machine holds more than C. The two blocks of a pair follow each other and
 -- have at most half of M copies each, so their copies have at most M consecutive numbers: no machine holds both blocks.
 pub laidPlacement-feasible : (p : Plan) → Shaped p → (count : ℕ → ℕ) → FeasibleCounts p count → Feasible p count (laidPlacement p count)

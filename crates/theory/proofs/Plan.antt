@@ -1,23 +1,24 @@
 -- Laws of the plan's definitions: its machines and failure domains, its pairs and upper counts, and the fields that bytes hold.
--- What is proved of spreads goes by the laws of `domain`, `domains`, `domainSize` and `member`, and not by racks.
+-- What is proved of spreads goes by the laws of `domain`, `domains`, `domainSize` and `member`, and not by racks or feeds.
 -- Assumes nothing.
 use mathlib.Core.Path.{_≡_, refl, ap, ap₂, sym, _∙_}
 use mathlib.Core.Bool.{Bool, true, false, cond, _||_}
 use mathlib.Core.List.{List}
 use mathlib.Core.Logic.{_⊎_, inl, inr}
 use Prim.Native.Nat.{ℕ, zero, suc, _+_, _*_, _/_, _%_, _^_, _≤_, _<_, min}
-use native.Mathlib.Nat.{one-le-mul, div-lt-iff-lt-mul, mod-mod-of-dvd, dvd-mul-right, min-le-left, min-le-right, le-trans, mul-le-mul, pow-suc, pow-le-pow-right}
+use native.Mathlib.Nat.{one-le-mul, div-lt-iff-lt-mul, mod-lt, mod-mod-of-dvd, dvd-mul-left, dvd-mul-right, div-add-mod', min-le-left, min-le-right, le-trans, zero-mul, add-mul, mul-assoc, mul-le-mul, pow-suc, pow-le-pow-right}
 use native.Mathlib.Omega.{arith}
 use borrow.Author.Tests.{lt-ltb, le-ltb}
 use lib.Dec.{lit<, ltb}
-use lib.Arith.{digits-div, digits-lt}
+use lib.Arith.{digits-div, digits-mod, digits-lt}
 use lib.ListN.{getD, take}
 use lib.Seq.{getD-take}
 use Rattle.order.specs.Sum.{sum, delta}
+use Rattle.order.proofs.Arithmetic.{divisor-le}
 use Rattle.order.proofs.Booleans.{no-contradiction, cond-all}
-use Rattle.order.proofs.Ranges.{sum-group}
+use Rattle.order.proofs.Ranges.{sum-strided}
 use Rattle.order.proofs.Tables.{length-table, getD-table}
-use Rattle.model.specs.Plan.{Plan, machines, domains, domain, domainSize, blockCount, noBlock, blockOf, pairsNext, pairsBack, isPaired, partner, maxReplicas, upper, field, latestVersion, formatOf, formatIn, recordAt, blockIn, blockCountIn, planIn}
+use Rattle.model.specs.Plan.{Plan, machines, rackOf, domains, domain, domainSize, blockCount, noBlock, blockOf, pairsNext, pairsBack, isPaired, partner, maxReplicas, upper, field, latestVersion, formatOf, formatIn, recordAt, blockIn, blockCountIn, planIn}
 use Rattle.model.specs.Conversion.{withVersion}
 use Rattle.theory.specs.Widths.{mostReplicas, widestPopularity}
 use Rattle.theory.specs.Refusal.{ValidPair, Shaped}
@@ -28,35 +29,79 @@ machines-pos p shaped = one-le-mul (shaped .racks-pos) (shaped .size-pos)
 
 -- ── domains ──────────────────────────────────────────────────────────────────────────────────────
 pub domains-pos : (p : Plan) → Shaped p → 1 ≤ domains p
-domains-pos p shaped = shaped .racks-pos
+domains-pos p shaped = shaped .feeds-pos
 
--- numbers counted around the machines are counted around the domains, too
-pub domains-mod : (p : Plan) (q : ℕ) → q % machines p % domains p ≡ q % domains p
-domains-mod p q = mod-mod-of-dvd (domains p) q (dvd-mul-right (domains p) (domainSize p))
+-- The racks of each domain.
+abbrev pub turns : Plan → ℕ
+turns p = p .racks / domains p
+
+-- every domain has as many racks
+pub domains-turns : (p : Plan) → Shaped p → turns p * domains p ≡ p .racks
+domains-turns p shaped = let whole = div-add-mod' (p .racks) (domains p) in omega (arith, shaped .feeds-divide)
+
+pub turns-pos : (p : Plan) → Shaped p → 1 ≤ turns p
+turns-pos p shaped = go (turns p) (domains-turns p shaped)
+  where
+    go : (n : ℕ) → n * domains p ≡ p .racks → 1 ≤ n
+    go zero e = absurd (omega (arith, zero-mul (domains p), shaped .racks-pos))
+    go (suc n) e = omega arith
+
+-- there are no more domains than racks
+pub domains-le : (p : Plan) → Shaped p → domains p ≤ p .racks
+domains-le p shaped = divisor-le (p .racks) (domains p) (shaped .racks-pos) (shaped .feeds-divide)
+
+-- numbers counted around the racks, or around the machines, are counted around the domains, too
+pub domains-mod-racks : (p : Plan) → Shaped p → (q : ℕ) → q % p .racks % domains p ≡ q % domains p
+domains-mod-racks p shaped q = rw (← (domains-turns p shaped)) (mod-mod-of-dvd (domains p) q (dvd-mul-left (domains p) (turns p)))
+
+pub domains-mod : (p : Plan) → Shaped p → (q : ℕ) → q % machines p % domains p ≡ q % domains p
+domains-mod p shaped q =
+    sym (domains-mod-racks p shaped (q % machines p))
+    ∙ ap (λ (x : ℕ). x % domains p) (mod-mod-of-dvd (p .racks) q (dvd-mul-right (p .racks) (p .rackSize)))
+    ∙ domains-mod-racks p shaped q
 
 -- ── domain ───────────────────────────────────────────────────────────────────────────────────────
 -- every machine lies in a domain
-pub domain-lt : (p : Plan) → Shaped p → (m : ℕ) → m < machines p → domain p m < domains p
-domain-lt p shaped m l = div-lt-iff-lt-mul (shaped .size-pos) .1 l
+pub domain-lt : (p : Plan) → Shaped p → (m : ℕ) → domain p m < domains p
+domain-lt p shaped m = mod-lt (rackOf p m) (shaped .feeds-pos)
+
+-- the machines of a rack lie in one domain
+pub domain-rack : (p : Plan) (m n : ℕ) → rackOf p m ≡ rackOf p n → domain p m ≡ domain p n
+domain-rack p m n e = ap (λ (r : ℕ). r % p .feeds) e
 
 -- ── domainSize ───────────────────────────────────────────────────────────────────────────────────
 pub domainSize-pos : (p : Plan) → Shaped p → 1 ≤ domainSize p
-domainSize-pos p shaped = shaped .size-pos
+domainSize-pos p shaped = one-le-mul (turns-pos p shaped) (shaped .size-pos)
 
--- Machine x of domain d.
+-- Machine x of domain d, by its racks' order.
 abbrev pub member : Plan → ℕ → ℕ → ℕ
-member p d x = d * domainSize p + x
+member p d x = (x / p .rackSize * domains p + d) * p .rackSize + x % p .rackSize
 
-pub member-lt : (p : Plan) (d x : ℕ) → d < domains p → x < domainSize p → member p d x < machines p
-member-lt p d x h l = digits-lt h l
+module _ (p : Plan) (shaped : Shaped p) (d x : ℕ) (h : d < domains p) where
+  pub member-lt : x < domainSize p → member p d x < machines p
+  member-lt l =
+      let turn : x / p .rackSize < turns p = div-lt-iff-lt-mul (shaped .size-pos) .1 l in
+      let rack : x / p .rackSize * domains p + d < turns p * domains p = digits-lt turn h in
+      digits-lt (rw (domains-turns p shaped) at rack) (mod-lt x (shaped .size-pos))
 
-pub member-domain : (p : Plan) (d x : ℕ) → d < domains p → x < domainSize p → domain p (member p d x) ≡ d
-member-domain p d x h l = digits-div d l
+  pub member-domain : domain p (member p d x) ≡ d
+  member-domain =
+      ap (λ (r : ℕ). r % domains p) (digits-div (x / p .rackSize * domains p + d) (mod-lt x (shaped .size-pos)))
+      ∙ digits-mod (x / p .rackSize) h
+
+-- its machines are x of each of its racks, and those are one turn of the domains apart
+pub member-turn : (p : Plan) (d q x : ℕ) → x < p .rackSize
+    → member p d (q * p .rackSize + x) ≡ q * (domains p * p .rackSize) + (d * p .rackSize + x)
+member-turn p d q x l =
+    ap₂ (λ (r y : ℕ). (r * domains p + d) * p .rackSize + y) (digits-div q l) (digits-mod q l)
+    ∙ (omega (arith, add-mul (q * domains p) d (p .rackSize), mul-assoc q (domains p) (p .rackSize)))
 
 -- a sum over the machines of a domain is one over its members
-pub member-sum : (p : Plan) (d : ℕ) (f : ℕ → ℕ) → d < domains p
+pub member-sum : (p : Plan) → Shaped p → (d : ℕ) (f : ℕ → ℕ) → d < domains p
     → sum (machines p) (λ m. delta (domain p m) d * f m) ≡ sum (domainSize p) (λ x. f (member p d x))
-member-sum p d f l = sum-group (domains p) (domainSize p) d f l
+member-sum p shaped d f l =
+    ap (λ (r : ℕ). sum (r * p .rackSize) (λ m. delta (domain p m) d * f m)) (sym (domains-turns p shaped))
+    ∙ sum-strided (turns p) (domains p) (p .rackSize) d f l
 
 -- ── isPaired ─────────────────────────────────────────────────────────────────────────────────────
 -- both blocks of a pair are paired, and no others are
@@ -254,17 +299,23 @@ pub formatOf-popularity : (version : ℕ) → formatOf version .popularityWidth 
 unfolding formatOf
 formatOf-popularity version = cond-all (λ n. n ≤ widestPopularity) (ltb version 3) 3 4 (λ e. omega arith) (omega arith)
 
+-- the byte F is there or not
+pub formatOf-feeds : (version : ℕ) → formatOf version .feedsWidth ≤ 1
+unfolding formatOf
+formatOf-feeds version = cond-all (λ n. n ≤ 1) (ltb version 4) 0 1 (λ e. omega arith) (omega arith)
+
 -- no version's plan of as many blocks is longer than the latest one's
 pub formatOf-longest : (version count most : ℕ) → count ≤ most → recordAt (formatOf version) count ≤ recordAt (formatOf latestVersion) most
 unfolding formatOf
 formatOf-longest version count most l =
-    go (cond (ltb version 3) 3 4) (cond (ltb version 2) 0 1)
+    go (cond (ltb version 4) 0 1) (cond (ltb version 3) 3 4) (cond (ltb version 2) 0 1)
+    (formatOf-feeds version)
     (cond-all (λ n. n ≤ 4) (ltb version 3) 3 4 (λ e. omega arith) (omega arith))
     (cond-all (λ n. n ≤ 1) (ltb version 2) 0 1 (λ e. omega arith) (omega arith))
   where
-    go : (popularity pair : ℕ) → popularity ≤ 4 → pair ≤ 1
-        → 15 + (popularity + 1 + 1 + pair) * count ≤ 15 + (4 + 1 + 1 + 1) * most
-    go popularity pair wide paired =
+    go : (feeds popularity pair : ℕ) → feeds ≤ 1 → popularity ≤ 4 → pair ≤ 1
+        → 15 + feeds + (popularity + 1 + 1 + pair) * count ≤ 16 + (4 + 1 + 1 + 1) * most
+    go feeds popularity pair fed wide paired =
         let product : (popularity + 1 + 1 + pair) * count ≤ 7 * most = mul-le-mul (omega arith) l in
         omega arith
 

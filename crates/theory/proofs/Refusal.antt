@@ -1,21 +1,22 @@
 -- Laws of the checks: what a check that passes says of its numbers, how large a code gets, and what an accepted plan satisfies.
--- The rows are gone through once, for a code that is not one of rows 1 to 9 and 17: then the plan has the shape that these rows
+-- The rows are gone through once, for a code that is not one of rows 1 to 9, 17 and 22: then the plan has the shape that these rows
 -- test, and rows 10 and 11 give its code.
 -- Assumes nothing.
 use mathlib.Core.Path.{_≡_, refl, ap, sym, _∙_}
 use mathlib.Core.Bool.{Bool, true, false, not, _&&_, _||_}
 use mathlib.Core.List.{List}
 use mathlib.Core.Logic.{_⊎_, inl, inr, ⊎-elim}
-use Prim.Native.Nat.{ℕ, zero, suc, _*_, _<_, _≤_}
+use Prim.Native.Nat.{ℕ, zero, suc, _*_, _%_, _<_, _≤_}
 use native.Mathlib.Nat.{pos-of-ne-zero, le-trans, eq-or-lt-of-le}
+use native.Mathlib.Decide.{decLt}
 use native.Mathlib.Omega.{arith}
-use borrow.Author.Tests.{ltb-false, lt-ltb, le-ltb, eqb-true, eqb-false, eq-eqb, ne-eqb, not-false}
-use lib.Dec.{ltb, eqb, lit<, lit≤}
+use borrow.Author.Tests.{ltb-false, lt-ltb, le-ltb, lt-leb, le-leb, eqb-true, eqb-false, eq-eqb, ne-eqb, not-false}
+use lib.Dec.{leb, ltb, eqb, lit≤}
 use lib.ListN.{length}
-use Rattle.order.proofs.Booleans.{no-contradiction, and-iff, eqb-iff, or3-false, pos-eqb, in-range}
+use Rattle.order.proofs.Booleans.{no-contradiction, and-iff, eqb-iff, or-false, or3-false, pos-eqb, in-range}
 use Rattle.order.proofs.Searches.{first-none, none-below, first-all}
-use Rattle.model.specs.Plan.{Block, Plan, machines, domains, blockCount, blockOf, marksPair, pairsNext, upper, minTotal, commonLength, latestVersion, Format, formatIn, recordAt, planIn, markIn, versionIn, racksIn, rackSizeIn, capacityIn, blockCountIn}
-use Rattle.model.specs.Refusal.{refuseIf, orElse, isRefusal, mark, maxMachines, maxCapacity, maxBlocks, check1, check2, check3, check4, check5, check6, check7, check8, check9, alike, check17, check10, check11, check12, blockRefusal, blocksRefusal, pairRefusal, pairsRefusal, planRefusal, refusal, refused, accepted, verdict, judge}
+use Rattle.model.specs.Plan.{Block, Plan, machines, domains, blockCount, blockOf, marksPair, pairsNext, upper, minTotal, commonLength, latestVersion, Format, formatIn, headerLength, recordAt, planIn, markIn, versionIn, racksIn, rackSizeIn, feedsIn, capacityIn, blockCountIn}
+use Rattle.model.specs.Refusal.{refuseIf, orElse, isRefusal, mark, maxMachines, maxCapacity, maxBlocks, check1, check2, check3, check4, check22, check5, check6, check7, check8, check9, alike, check17, check10, check11, check12, blockRefusal, blocksRefusal, pairRefusal, pairsRefusal, planRefusal, refusal, refused, accepted, verdict, judge}
 use Rattle.theory.specs.Refusal.{ValidBlock, ValidPair, Shaped, Valid, PastRow17, AcceptedLaws}
 use Rattle.theory.proofs.Plan.{planIn-blockCount}
 
@@ -57,6 +58,17 @@ check4-zero racks rackSize later e =
     let parts = or3-false (eqb racks 0) (eqb rackSize 0) (ltb maxMachines (racks * rackSize)) (z .0) in
     (pos-of-ne-zero (eqb-false _ _ (parts .0)), pos-of-ne-zero (eqb-false _ _ (parts .1)), ltb-false _ _ (parts .2), z .1)
 
+pub check22-zero : (racks feeds later : ℕ) → check22 racks feeds later ≡ 0 → (1 ≤ feeds) × (racks % feeds ≡ 0) × (later ≡ 0)
+unfolding check22
+check22-zero racks feeds later e =
+    let z = refuseIf-zero _ _ _ e in
+    let parts = or-false (eqb feeds 0) (not (eqb (racks % feeds) 0)) (z .0) in
+    (pos-of-ne-zero (eqb-false _ _ (parts .0)), eqb-true _ _ (not-false _ (parts .1)), z .1)
+
+pub check22-passed : (racks feeds later : ℕ) → 1 ≤ feeds → racks % feeds ≡ 0 → check22 racks feeds later ≡ later
+unfolding check22
+check22-passed racks feeds later some whole = rw (pos-eqb feeds some, eq-eqb (racks % feeds) 0 whole)
+
 pub check5-zero : (capacity later : ℕ) → check5 capacity later ≡ 0
     → (1 ≤ capacity) × (capacity ≤ maxCapacity) × (later ≡ 0)
 unfolding check5
@@ -65,9 +77,38 @@ check5-zero capacity later e =
     let range = in-range capacity maxCapacity (z .0) in
     (range .0, range .1, z .1)
 
-pub check6-zero : (count later : ℕ) → check6 count later ≡ 0 → (count ≤ maxBlocks) × (later ≡ 0)
+-- it is not judged on a missing byte
+pub check6-short : (f : Format) (size count later : ℕ) → size < headerLength f → check6 f size count later ≡ later
 unfolding check6
-check6-zero count later e = refuseIf-within maxBlocks count _ later e
+check6-short f size count later l = rw (lt-leb (headerLength f) size l)
+
+pub check6-long : (f : Format) (size count later : ℕ) → headerLength f ≤ size → check6 f size count later ≡ refuseIf (ltb maxBlocks count) 6 later
+unfolding check6
+check6-long f size count later l = rw (le-leb (headerLength f) size l)
+
+pub check6-within : (f : Format) (size count later : ℕ) → count ≤ maxBlocks → check6 f size count later ≡ later
+unfolding check6
+check6-within f size count later l = rw (le-ltb maxBlocks count l, and-no (leb (headerLength f) size))
+  where
+    and-no : (t : Bool) → (t && false) ≡ false
+    and-no true = refl
+    and-no false = refl
+
+pub check6-above : (f : Format) (size count later : ℕ) → (size < headerLength f → count ≤ maxBlocks) → maxBlocks < count
+    → check6 f size count later ≡ 6
+check6-above f size count later counted l = elim (decLt size (headerLength f)) [
+  | yes short ↦ absurd (omega (arith, counted short))
+  | no long ↦ check6-long f size count later (omega arith) ∙ (rw (lt-ltb maxBlocks count l))
+]
+
+-- where it passes, the later rows decide
+pub check6-rest : (f : Format) (size count later : ℕ) → check6 f size count later ≡ 0 → later ≡ 0
+unfolding check6
+check6-rest f size count later e = refuseIf-zero (leb (headerLength f) size && ltb maxBlocks count) 5 later e .1
+
+pub check6-zero : (f : Format) (size count later : ℕ) → headerLength f ≤ size → check6 f size count later ≡ 0
+    → (count ≤ maxBlocks) × (later ≡ 0)
+check6-zero f size count later l e = refuseIf-within maxBlocks count _ later (sym (check6-long f size count later l) ∙ e)
 
 pub check7-zero : (f : Format) (size count later : ℕ) → check7 f size count later ≡ 0 → (size ≡ recordAt f count) × (later ≡ 0)
 unfolding check7
@@ -243,7 +284,7 @@ planRefusal-valid p valid =
       le-ltb (machines p * p .capacity) (minTotal p) (valid .in-places),
     )
 
-planRefusal-le : (p : Plan) → planRefusal p ≤ 17
+pub planRefusal-le : (p : Plan) → planRefusal p ≤ 17
 unfolding planRefusal check10 check11
 planRefusal-le p =
     orElse-all (λ n. n ≤ 17) (blocksRefusal p) _ (le-trans (blocksRefusal-le p) (lit≤ tt))
@@ -252,79 +293,84 @@ planRefusal-le p =
     (refuseIf-all (λ n. n ≤ 17) (ltb (machines p * p .capacity) (minTotal p)) 11 0 (lit≤ tt) (lit≤ tt))))
 
 -- ── refusal ──────────────────────────────────────────────────────────────────────────────────────
--- a plan's refusal has a number up to 17
-pub refusal-le : (bytes : List ℕ) → refusal bytes ≤ 17
-unfolding refusal check1 check2 check3 check4 check5 check6 check7
+-- a plan's refusal has a number up to 22
+pub refusal-le : (bytes : List ℕ) → refusal bytes ≤ 22
+unfolding refusal check1 check2 check3 check4 check22 check5 check6 check7
 refusal-le bytes =
     let r = racksIn bytes in
     let s = rackSizeIn bytes in
+    let f = feedsIn bytes in
     let c = capacityIn bytes in
     let b = blockCountIn bytes in
     row (ltb (length bytes) commonLength) 1 _ (lit≤ tt)
     (row (not (eqb (markIn bytes) mark)) 2 _ (lit≤ tt)
     (row (eqb (versionIn bytes) 0 || ltb latestVersion (versionIn bytes)) 3 _ (lit≤ tt)
     (row (eqb r 0 || eqb s 0 || ltb maxMachines (r * s)) 4 _ (lit≤ tt)
+    (row (eqb f 0 || not (eqb (r % f) 0)) 22 _ (lit≤ tt)
     (row (eqb c 0 || ltb maxCapacity c) 5 _ (lit≤ tt)
-    (row (ltb maxBlocks b) 6 _ (lit≤ tt)
+    (row (leb (headerLength (formatIn bytes)) (length bytes) && ltb maxBlocks b) 6 _ (lit≤ tt)
     (row (not (eqb (length bytes) (recordAt (formatIn bytes) b))) 7 _ (lit≤ tt)
-    (planRefusal-le (planIn bytes))))))))
+    (le-trans (planRefusal-le (planIn bytes)) (lit≤ tt)))))))))
   where
-    row : (t : Bool) (code later : ℕ) → code ≤ 17 → later ≤ 17 → refuseIf t code later ≤ 17
-    row = refuseIf-all (λ n. n ≤ 17)
+    row : (t : Bool) (code later : ℕ) → code ≤ 22 → later ≤ 22 → refuseIf t code later ≤ 22
+    row = refuseIf-all (λ n. n ≤ 22)
 
--- A row that comes before 10.
+-- A row that comes before 10: 1 to 9, 17 and 22.
 abbrev Early : ℕ → Type 0
-Early row = (row ≤ 9) ⊎ (row ≡ 17)
+Early row = (row ≤ 9) ⊎ (17 ≤ row)
 
 module _ (code : ℕ) (past : PastRow17 code) where
   not-row : (row : ℕ) → 1 ≤ row → Early row → row ≡ code → ⊥
   not-row row some early e = elim past [
-    | inl ten ↦ ⊎-elim (λ (h : row ≤ 9). omega arith) (λ (h : row ≡ 17). omega arith) early
+    | inl ten ↦ ⊎-elim (λ (h : row ≤ 9). omega arith) (λ (h : 17 ≤ row). omega arith) early
     | inr later ↦ elim later [
-      | inl eleven ↦ ⊎-elim (λ (h : row ≤ 9). omega arith) (λ (h : row ≡ 17). omega arith) early
+      | inl eleven ↦ ⊎-elim (λ (h : row ≤ 9). omega arith) (λ (h : 17 ≤ row). omega arith) early
       | inr none ↦ omega arith
     ]
   ]
 
   -- a check of such a row that gives the code has a false condition, and the code is the later rows'
-  refuseIf-past : (t : Bool) (row later : ℕ) → refuseIf t (suc row) later ≡ code → row < 9
+  refuseIf-past : (t : Bool) (row later : ℕ) → refuseIf t (suc row) later ≡ code → Early (suc row)
       → (refuseIf t (suc row) 0 ≡ 0) × (later ≡ code)
-  refuseIf-past true row later e l = absurd (not-row (suc row) (omega arith) (inl (omega arith)) e)
-  refuseIf-past false row later e l = (refl, e)
+  refuseIf-past true row later e early = absurd (not-row (suc row) (omega arith) early e)
+  refuseIf-past false row later e early = (refl, e)
 
   orElse-past : (found later : ℕ) → Early found → orElse found later ≡ code → (found ≡ 0) × (later ≡ code)
   orElse-past zero later early e = (refl, e)
   orElse-past (suc row) later early e = absurd (not-row (suc row) (omega arith) early e)
 
--- what rows 1 to 9 and 17 leave
+-- what rows 1 to 9, 17 and 22 leave
 rows-past : (code : ℕ) → PastRow17 code → (bytes : List ℕ) → refusal bytes ≡ code
     → (1 ≤ racksIn bytes) × (1 ≤ rackSizeIn bytes) × (racksIn bytes * rackSizeIn bytes ≤ maxMachines)
-    × (1 ≤ capacityIn bytes) × (capacityIn bytes ≤ maxCapacity) × (blockCountIn bytes ≤ maxBlocks)
+    × (1 ≤ feedsIn bytes) × (racksIn bytes % feedsIn bytes ≡ 0) × (1 ≤ capacityIn bytes) × (capacityIn bytes ≤ maxCapacity) × (blockCountIn bytes ≤ maxBlocks)
     × (length bytes ≡ recordAt (formatIn bytes) (blockCountIn bytes)) × (blocksRefusal (planIn bytes) ≡ 0) × (pairsRefusal (planIn bytes) ≡ 0)
     × (totalRefusal (planIn bytes) ≡ code)
-unfolding refusal check1 check2 check3 check4 check5 check6 check7 planRefusal
+unfolding refusal check1 check2 check3 check4 check22 check5 check6 check7 planRefusal
 rows-past code past bytes e =
     let r = racksIn bytes in
     let s = rackSizeIn bytes in
+    let f = feedsIn bytes in
     let c = capacityIn bytes in
     let b = blockCountIn bytes in
-    let z1 = refuseIf-past code past (ltb (length bytes) commonLength) 0 _ e (lit< tt) in
-    let z2 = refuseIf-past code past (not (eqb (markIn bytes) mark)) 1 _ (z1 .1) (lit< tt) in
-    let z3 = refuseIf-past code past (eqb (versionIn bytes) 0 || ltb latestVersion (versionIn bytes)) 2 _ (z2 .1) (lit< tt) in
-    let z4 = refuseIf-past code past (eqb r 0 || eqb s 0 || ltb maxMachines (r * s)) 3 _ (z3 .1) (lit< tt) in
-    let z5 = refuseIf-past code past (eqb c 0 || ltb maxCapacity c) 4 _ (z4 .1) (lit< tt) in
-    let z6 = refuseIf-past code past (ltb maxBlocks b) 5 _ (z5 .1) (lit< tt) in
-    let z7 = refuseIf-past code past (not (eqb (length bytes) (recordAt (formatIn bytes) b))) 6 _ (z6 .1) (lit< tt) in
+    let z1 = refuseIf-past code past (ltb (length bytes) commonLength) 0 _ e (inl (lit≤ tt)) in
+    let z2 = refuseIf-past code past (not (eqb (markIn bytes) mark)) 1 _ (z1 .1) (inl (lit≤ tt)) in
+    let z3 = refuseIf-past code past (eqb (versionIn bytes) 0 || ltb latestVersion (versionIn bytes)) 2 _ (z2 .1) (inl (lit≤ tt)) in
+    let z4 = refuseIf-past code past (eqb r 0 || eqb s 0 || ltb maxMachines (r * s)) 3 _ (z3 .1) (inl (lit≤ tt)) in
+    let z22 = refuseIf-past code past (eqb f 0 || not (eqb (r % f) 0)) 21 _ (z4 .1) (inr (lit≤ tt)) in
+    let z5 = refuseIf-past code past (eqb c 0 || ltb maxCapacity c) 4 _ (z22 .1) (inl (lit≤ tt)) in
+    let z6 = refuseIf-past code past (leb (headerLength (formatIn bytes)) (length bytes) && ltb maxBlocks b) 5 _ (z5 .1) (inl (lit≤ tt)) in
+    let z7 = refuseIf-past code past (not (eqb (length bytes) (recordAt (formatIn bytes) b))) 6 _ (z6 .1) (inl (lit≤ tt)) in
     let blocks = orElse-past code past (blocksRefusal (planIn bytes)) _ (inl (blocksRefusal-le (planIn bytes))) (z7 .1) in
     let pairs = orElse-past code past (pairsRefusal (planIn bytes)) _ (pairs-early (pairsRefusal-cases (planIn bytes))) (blocks .1) in
     let h4 = check4-zero r s 0 (z4 .0) in
+    let h22 = check22-zero r f 0 (z22 .0) in
     let h5 = check5-zero c 0 (z5 .0) in
-    let h6 = check6-zero b 0 (z6 .0) in
     let h7 = check7-zero (formatIn bytes) (length bytes) b 0 (z7 .0) in
-    (h4 .0, h4 .1, h4 .2, h5 .0, h5 .1, h6 .0, h7 .0, blocks .0, pairs .0, pairs .1)
+    let h6 = check6-zero (formatIn bytes) (length bytes) b 0 (omega (arith, h7 .0)) (z6 .0) in
+    (h4 .0, h4 .1, h4 .2, h22 .0, h22 .1, h5 .0, h5 .1, h6 .0, h7 .0, blocks .0, pairs .0, pairs .1)
   where
     pairs-early : (pairsRefusal (planIn bytes) ≡ 17) ⊎ (pairsRefusal (planIn bytes) ≡ 0) → Early (pairsRefusal (planIn bytes))
-    pairs-early (inl e) = inr e
+    pairs-early (inl e) = inr (omega (arith, e))
     pairs-early (inr e) = inl (omega (arith, e))
 
 module _ (bytes : List ℕ) (past : PastRow17 (refusal bytes)) where
@@ -335,19 +381,21 @@ module _ (bytes : List ℕ) (past : PastRow17 (refusal bytes)) where
       record {
         racks-pos = z .0;
         size-pos = z .1;
+        feeds-pos = z .3;
+        feeds-divide = z .4;
         machines-max = z .2;
-        capacity-pos = z .3;
-        capacity-max = z .4;
-        blocks-max = rw (planIn-blockCount bytes) (z .5);
-        block = blocksRefusal-zero (planIn bytes) (z .7);
-        pair = pairsRefusal-zero (planIn bytes) (z .8);
+        capacity-pos = z .5;
+        capacity-max = z .6;
+        blocks-max = rw (planIn-blockCount bytes) (z .7);
+        block = blocksRefusal-zero (planIn bytes) (z .9);
+        pair = pairsRefusal-zero (planIn bytes) (z .10);
       }
 
   pub refusal-length : length bytes ≡ recordAt (formatIn bytes) (blockCountIn bytes)
-  refusal-length = rows-past (refusal bytes) past bytes refl .6
+  refusal-length = rows-past (refusal bytes) past bytes refl .8
 
   pub refusal-total : refusal bytes ≡ totalRefusal (planIn bytes)
-  refusal-total = sym (rows-past (refusal bytes) past bytes refl .9)
+  refusal-total = sym (rows-past (refusal bytes) past bytes refl .11)
 
 -- a plan that no row turns back
 pub refusal-zero : (bytes : List ℕ) → refusal bytes ≡ 0 → Valid (planIn bytes)

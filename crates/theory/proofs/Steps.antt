@@ -113,8 +113,8 @@ module _ (p : Plan) (w m n : ℕ) (m-lt : m < machines p) (n-lt : n < machines p
             in
             omega (
               arith,
-              sum-point (domains p) (domain p m) (domain-lt p shaped m m-lt),
-              sum-point (domains p) (domain p n) (domain-lt p shaped n n-lt),
+              sum-point (domains p) (domain p m) (domain-lt p shaped m),
+              sum-point (domains p) (domain p n) (domain-lt p shaped n),
             )
 
 -- ── afterMove ────────────────────────────────────────────────────────────────────────────────────

@@ -1,6 +1,7 @@
 -- Laws of the bytes that are written: how many they are, and that what is read where they stand is what was written.
 -- Assumes nothing.
 use mathlib.Core.Path.{_≡_, refl, ap, ap₂, sym, _∙_}
+use mathlib.Core.Bool.{Bool, true, false, cond}
 use mathlib.Core.List.{List, [], _∷_, _++_, append-assoc}
 use Prim.Native.Nat.{ℕ, zero, suc, _+_, _*_, _-_, _/_, _%_, _^_, _<_, _≤_}
 use native.Mathlib.Nat.{pow-suc, mul-comm, mul-le-mul-left, mul-le-mul-right, add-zero, not-suc-le-zero}
@@ -8,17 +9,18 @@ use native.Mathlib.Numerals.{add-one}
 use native.Mathlib.Decide.{ℕ-discrete}
 use native.Mathlib.Omega.{arith}
 use lib.Arith.{digits-div, digits-mod}
-use lib.Dec.{lit<}
+use lib.Dec.{eqb, ltb, lit<}
 use lib.ListN.{length, getD, take, drop, length-append}
 use lib.Seq.{take-length, take-add, drop-drop, getD-drop, take-append-seam, drop-append-seam, take-take, drop-cons, getD-take}
 use Rattle.order.specs.Table.{joined}
+use Rattle.order.proofs.Booleans.{pos-eqb}
 use Rattle.order.proofs.Tables.{joined-length}
-use Rattle.model.specs.Plan.{Block, Plan, machines, blockCount, field, commonLength, markIn, versionIn, racksIn, rackSizeIn, capacityIn, budgetIn, blockCountIn, Format, minReplicasAt, minRacksAt, pairByteAt, recordLength, blockAt}
+use Rattle.model.specs.Plan.{Block, Plan, machines, blockCount, field, headerLength, markIn, versionIn, racksIn, rackSizeIn, feedsIn, capacityIn, budgetIn, blockCountIn, Format, formatOf, minReplicasAt, minRacksAt, pairByteAt, recordLength, blockAt}
 use Rattle.model.specs.Refusal.{mark}
 use Rattle.model.specs.Writing.{bytesOf, headerBytes, recordBytes}
 use Rattle.theory.specs.Refusal.{Valid}
 use Rattle.theory.specs.Writing.{AreBytes, BlockFits, Layouts, PlanFits}
-use Rattle.theory.proofs.Plan.{field-bound}
+use Rattle.theory.proofs.Plan.{domains-le, field-bound, field-narrow}
 
 -- ── Stands ───────────────────────────────────────────────────────────────────────────────────────
 -- The piece stands in the bytes, from `at` on.
@@ -197,23 +199,60 @@ module _ (bytes : List ℕ) (at : ℕ) where
       written-stands each (x ++ bytesOf (f .0) (f .1)) (k + f .0) long' fs l (rw (held .0) at both) (held .1)
 
 -- ── headerBytes ──────────────────────────────────────────────────────────────────────────────────
+-- What stands in the field of F: F, and in a field of no bytes nothing.
+abbrev feedsPut : ℕ → Plan → ℕ
+feedsPut width p = cond (eqb width 0) 0 (p .feeds)
+
+feedsPut-bytes : (width : ℕ) (p : Plan) → bytesOf width (p .feeds) ≡ bytesOf width (feedsPut width p)
+unfolding bytesOf
+feedsPut-bytes zero p = refl
+feedsPut-bytes (suc width) p = rw (pos-eqb (suc width) (omega arith))
+
+-- it fits, and it is what is read there, F being R where nothing is
+module _ (bytes : List ℕ) (p : Plan) where
+  feedsPut-fit : (width : ℕ) → p .feeds < 256 → feedsPut width p < 256 ^ width
+  feedsPut-fit zero l = omega arith
+  feedsPut-fit (suc width) l = rw (pos-eqb (suc width) (omega arith)) (field-narrow (p .feeds) 1 (suc width) (omega arith) (omega arith))
+
+  feedsPut-read : (width : ℕ) → racksIn bytes ≡ p .racks → (width ≡ 0 → p .feeds ≡ p .racks) → field bytes 7 width ≡ feedsPut width p
+      → cond (eqb width 0) (racksIn bytes) (field bytes 7 width) ≡ p .feeds
+  feedsPut-read zero racks same held = racks ∙ sym (same refl)
+  feedsPut-read (suc width) racks same held =
+      let other = pos-eqb (suc width) (omega arith) in
+      rw other (rw other at held)
+
+  feedsPut-held : (width : ℕ) → cond (eqb width 0) (racksIn bytes) (field bytes 7 width) ≡ p .feeds → field bytes 7 width ≡ feedsPut width p
+  unfolding field
+  feedsPut-held zero is = refl
+  feedsPut-held (suc width) is =
+      let other = pos-eqb (suc width) (omega arith) in
+      rw other (rw other at is)
+
 -- The header's fields behind the mark, and that the bytes hold them.
 abbrev headerFields : Plan → List (ℕ × ℕ)
 headerFields p =
-    (2, p .version) ∷ (1, p .racks) ∷ (1, p .rackSize) ∷ (2, p .capacity) ∷ (4, p .budget) ∷ (2, blockCount p) ∷ []
+    let width = formatOf (p .version) .feedsWidth in
+    (2, p .version) ∷ (1, p .racks) ∷ (1, p .rackSize) ∷ (width, feedsPut width p) ∷ (2, p .capacity) ∷ (4, p .budget) ∷ (2, blockCount p) ∷ []
 
 pub record HeaderIs (bytes : List ℕ) (p : Plan) : Type 0 where
   pub mark-is : markIn bytes ≡ mark
   pub version-is : versionIn bytes ≡ p .version
   pub racks-is : racksIn bytes ≡ p .racks
   pub size-is : rackSizeIn bytes ≡ p .rackSize
+  pub feeds-is : feedsIn bytes ≡ p .feeds
   pub capacity-is : capacityIn bytes ≡ p .capacity
   pub budget-is : budgetIn bytes ≡ p .budget
   pub count-is : blockCountIn bytes ≡ blockCount p
 
-pub headerBytes-length : (p : Plan) → length (headerBytes p) ≡ commonLength
+-- the header is these fields
+headerBytes-written : (p : Plan) → headerBytes p ≡ written (bytesOf 3 mark) (headerFields p)
 unfolding headerBytes
-headerBytes-length p = written-length (bytesOf 3 mark) 3 (bytesOf-length 3 mark) (headerFields p)
+headerBytes-written p = rw (feedsPut-bytes (formatOf (p .version) .feedsWidth) p)
+
+pub headerBytes-length : (p : Plan) → length (headerBytes p) ≡ headerLength (formatOf (p .version))
+headerBytes-length p =
+    rw (headerBytes-written p)
+    (let long = written-length (bytesOf 3 mark) 3 (bytesOf-length 3 mark) (headerFields p) in omega arith)
 
 -- a valid plan's numbers fit the header
 header-fit : (p : Plan) → Valid p → PlanFits p → Fit (headerFields p)
@@ -223,31 +262,47 @@ header-fit p valid fits =
     let size : 1 * p .rackSize ≤ machines p = mul-le-mul-right (p .rackSize) (shaped .racks-pos) in
     let capacity = shaped .capacity-max in
     let count = shaped .blocks-max in
-    (omega (arith, fits .version-max), (omega arith, (omega arith, (omega arith, (fits .budget-fits, (omega arith, tt))))))
+    let feeds = feedsPut-fit [] p (formatOf (p .version) .feedsWidth) (omega (arith, domains-le p shaped)) in
+    (omega (arith, fits .version-max), (omega arith, (omega arith, (feeds, (omega arith, (fits .budget-fits, (omega arith, tt)))))))
 
 -- where the header of such a plan stands, its numbers are read; the header of numbers that are read stands where they were read
 pub headerBytes-read : (bytes : List ℕ) (p : Plan) → Valid p → PlanFits p → Stands bytes 0 (headerBytes p) → HeaderIs bytes p
-unfolding headerBytes
 headerBytes-read bytes p valid fits h =
-    let parts = written-held bytes 0 (bytesOf 3 mark) 3 (bytesOf-length 3 mark) (headerFields p) (header-fit p valid fits) h in
+    let parts =
+    written-held bytes 0 (bytesOf 3 mark) 3 (bytesOf-length 3 mark) (headerFields p) (header-fit p valid fits) (rw (headerBytes-written p) at h)
+    in
     let held = parts .1 in
+    let later = held .1 .1 .1 .1 in
+    let width = formatOf (p .version) .feedsWidth in
     record {
       mark-is = bytesOf-read bytes 0 3 mark (lit< tt) (parts .0);
       version-is = held .0;
       racks-is = held .1 .0;
       size-is = held .1 .1 .0;
-      capacity-is = held .1 .1 .1 .0;
-      budget-is = held .1 .1 .1 .1 .0;
-      count-is = held .1 .1 .1 .1 .1 .0;
+      feeds-is = rw (held .0) (feedsPut-read bytes p width (held .1 .0) (fits .feeds-racks) (held .1 .1 .1 .0));
+      capacity-is = rw (held .0) (ap (λ (at : ℕ). field bytes at 2) (omega arith) ∙ later .0);
+      budget-is = rw (held .0) (ap (λ (at : ℕ). field bytes at 4) (omega arith) ∙ later .1 .0);
+      count-is = rw (held .0) (ap (λ (at : ℕ). field bytes at 2) (omega arith) ∙ later .1 .1 .0);
     }
 
-pub headerBytes-stands : (bytes : List ℕ) → AreBytes bytes → commonLength ≤ length bytes → (p : Plan) → HeaderIs bytes p
-    → Stands bytes 0 (headerBytes p)
-unfolding headerBytes
-headerBytes-stands bytes each l p is =
+pub headerBytes-stands : (bytes : List ℕ) → AreBytes bytes → (p : Plan) → headerLength (formatOf (p .version)) ≤ length bytes
+    → HeaderIs bytes p → Stands bytes 0 (headerBytes p)
+headerBytes-stands bytes each p l is =
     let first = rw (is .mark-is) at (bytesOf-stands bytes each 0 3 (omega arith)) in
-    written-stands bytes 0 each (bytesOf 3 mark) 3 (bytesOf-length 3 mark) (headerFields p) l first
-    (is .version-is, (is .racks-is, (is .size-is, (is .capacity-is, (is .budget-is, (is .count-is, tt))))))
+    let width = formatOf (p .version) .feedsWidth in
+    let feeds = feedsPut-held bytes p width (rw (is .version-is) at (is .feeds-is)) in
+    let capacity = rw (is .version-is) at (is .capacity-is) in
+    let budget = rw (is .version-is) at (is .budget-is) in
+    let count = rw (is .version-is) at (is .count-is) in
+    rw (headerBytes-written p)
+    (written-stands bytes 0 each (bytesOf 3 mark) 3 (bytesOf-length 3 mark) (headerFields p) (omega arith) first (
+      is .version-is,
+      (is .racks-is, (is .size-is, (feeds, (moved 2 (omega arith) capacity, (moved 4 (omega arith) budget, (moved 2 (omega arith) count, tt)))))),
+    ))
+  where
+    -- the same place, written in another way
+    moved : {at other n : ℕ} (width : ℕ) → at ≡ other → field bytes other width ≡ n → field bytes at width ≡ n
+    moved width e held = ap (λ (k : ℕ). field bytes k width) e ∙ held
 
 -- ── recordBytes ──────────────────────────────────────────────────────────────────────────────────
 -- The record's fields behind the popularity.

@@ -3,8 +3,8 @@
 -- Assumes nothing.
 use mathlib.Core.Path.{_≡_, refl, ap, sym, _∙_}
 use mathlib.Core.List.{List}
-use Prim.Native.Nat.{ℕ, suc, _*_, _<_, _≤_}
-use native.Mathlib.Nat.{mul-le-mul-left}
+use Prim.Native.Nat.{ℕ, suc, _+_, _*_, _<_, _≤_}
+use native.Mathlib.Nat.{zero-add, mul-le-mul-left}
 use native.Mathlib.Omega.{arith}
 use borrow.Author.Tests.{le-ltb, eq-eqb}
 use lib.ListN.{length, length-append}
@@ -12,13 +12,13 @@ use lib.Seq.{ext-getD}
 use Rattle.order.specs.Table.{table, joined}
 use Rattle.order.proofs.Booleans.{pos-eqb}
 use Rattle.order.proofs.Tables.{joined-length, length-table, getD-table}
-use Rattle.model.specs.Plan.{Plan, machines, blockCount, noBlock, blockOf, commonLength, latestVersion, markIn, versionIn, blockCountIn, formatOf, formatIn, recordLength, recordAt, blockIn, planIn}
-use Rattle.model.specs.Refusal.{mark, maxMachines, maxCapacity, maxBlocks, check1, check2, check3, check4, check5, check6, check7, refusal, accepted}
+use Rattle.model.specs.Plan.{Plan, machines, blockCount, noBlock, blockOf, commonLength, latestVersion, markIn, versionIn, blockCountIn, formatOf, formatIn, headerLength, recordLength, recordAt, blockIn, planIn}
+use Rattle.model.specs.Refusal.{mark, maxMachines, maxCapacity, maxBlocks, check1, check2, check3, check4, check5, check7, refusal, accepted}
 use Rattle.model.specs.Writing.{headerBytes, recordBytes, planBytes}
 use Rattle.theory.specs.Refusal.{Valid}
 use Rattle.theory.specs.Writing.{AreBytes, BlockFits, PlanFits, ReadsWritten, WritesRead, AcceptedFits}
 use Rattle.theory.proofs.Plan.{field-bound, planIn-blockCount, planIn-blockOf}
-use Rattle.theory.proofs.Refusal.{planRefusal-valid, judge-accepted, accepted-laws, accepted-mark}
+use Rattle.theory.proofs.Refusal.{check22-passed, check6-long, planRefusal-valid, judge-accepted, accepted-laws, accepted-mark}
 use Rattle.theory.proofs.Writing.{Stands, stands-all, stands-whole, stands-both, stands-first, stands-next, joined-stands, joined-each, recordBytes-length, recordBytes-read, recordBytes-stands, recordBytes-fits, HeaderIs, headerBytes-length, headerBytes-read, headerBytes-stands}
 
 -- ── planBytes ────────────────────────────────────────────────────────────────────────────────────
@@ -30,7 +30,7 @@ records-length : (p : Plan) (i : ℕ) → length (records p i) ≡ recordLength 
 records-length p i = recordBytes-length (formatOf (p .version)) (blockOf p i)
 
 pub planBytes-length : (p : Plan) → length (planBytes p) ≡ recordAt (formatOf (p .version)) (blockCount p)
-unfolding planBytes formatOf
+unfolding planBytes
 planBytes-length p =
     let all = joined-length (blockCount p) _ (records p) (λ i l. records-length p i) in
     rw (length-append, headerBytes-length, all) (omega arith)
@@ -40,21 +40,23 @@ module _ (bytes : List ℕ) (p : Plan) where
   pub planBytes-both : Stands bytes 0 (headerBytes p)
       → ((i : ℕ) → i < blockCount p → Stands bytes (recordAt (formatOf (p .version)) i) (records p i))
       → Stands bytes 0 (planBytes p)
-  unfolding planBytes formatOf
+  unfolding planBytes
   planBytes-both header each =
-      let behind = joined-stands bytes commonLength _ (records p) (records-length p) (blockCount p) each in
-      stands-both bytes 0 (headerBytes p) (joined (blockCount p) (records p)) commonLength (headerBytes-length p) header behind
+      let long = headerLength (formatOf (p .version)) in
+      let behind = joined-stands bytes long _ (records p) (records-length p) (blockCount p) each in
+      stands-both bytes 0 (headerBytes p) (joined (blockCount p) (records p)) long (headerBytes-length p) header (rw (zero-add long) behind)
 
   module _ (h : Stands bytes 0 (planBytes p)) where
     pub planBytes-header : Stands bytes 0 (headerBytes p)
     unfolding planBytes
-    planBytes-header = stands-first bytes 0 (headerBytes p) (joined (blockCount p) (records p)) commonLength (headerBytes-length p) h
+    planBytes-header = stands-first bytes 0 (headerBytes p) (joined (blockCount p) (records p)) _ (headerBytes-length p) h
 
     pub planBytes-record : (i : ℕ) → i < blockCount p → Stands bytes (recordAt (formatOf (p .version)) i) (records p i)
-    unfolding planBytes formatOf
+    unfolding planBytes
     planBytes-record =
-        let behind = stands-next bytes 0 (headerBytes p) (joined (blockCount p) (records p)) commonLength (headerBytes-length p) h in
-        joined-each bytes commonLength _ (records p) (records-length p) (blockCount p) behind
+        let long = headerLength (formatOf (p .version)) in
+        let behind = stands-next bytes 0 (headerBytes p) (joined (blockCount p) (records p)) long (headerBytes-length p) h in
+        joined-each bytes long _ (records p) (records-length p) (blockCount p) (rw (zero-add long) at behind)
 
 -- a valid plan's bytes hold the plan
 module _ (p : Plan) (valid : Valid p) (fits : PlanFits p) where
@@ -78,15 +80,15 @@ module _ (p : Plan) (valid : Valid p) (fits : PlanFits p) where
       ext-getD noBlock (table n g) (p .blocks) (length-table n g)
       (λ i l. let below : i < n = rw (length-table n g) at l in getD-table n g i noBlock below ∙ block-is i below)
       in
-      rw (is .version-is, is .racks-is, is .size-is, is .capacity-is, is .budget-is, is .count-is, blocks)
+      rw (is .feeds-is, is .capacity-is, is .budget-is, is .count-is, is .version-is, is .racks-is, is .size-is, blocks)
 
 -- the bytes of the plan that bytes hold stand in them, and its numbers fit
 module _ (bytes : List ℕ) (each : AreBytes bytes) where
   planIn-stands : markIn bytes ≡ mark → recordAt (formatIn bytes) (blockCountIn bytes) ≤ length bytes
       → Stands bytes 0 (planBytes (planIn bytes))
-  unfolding planIn blockIn formatOf
+  unfolding planIn blockIn
   planIn-stands marked within =
-      planBytes-both bytes (planIn bytes) (headerBytes-stands bytes each (omega arith) (planIn bytes) is)
+      planBytes-both bytes (planIn bytes) (headerBytes-stands bytes each (planIn bytes) (omega arith) is)
       (λ i l. own i (rw (planIn-blockCount bytes) at l))
     where
       is : HeaderIs bytes (planIn bytes)
@@ -96,6 +98,7 @@ module _ (bytes : List ℕ) (each : AreBytes bytes) where
             version-is = refl;
             racks-is = refl;
             size-is = refl;
+            feeds-is = refl;
             capacity-is = refl;
             budget-is = refl;
             count-is = sym (planIn-blockCount bytes);
@@ -114,7 +117,8 @@ module _ (bytes : List ℕ) (each : AreBytes bytes) where
       record {
         version-pos = some;
         version-max = latest;
-        budget-fits = field-bound bytes each 9 4;
+        feeds-racks = λ none. rw none;
+        budget-fits = field-bound bytes each (9 + formatIn bytes .feedsWidth) 4;
         block-fits = λ i l. block i (rw (planIn-blockCount bytes) at l);
       }
     where
@@ -123,7 +127,7 @@ module _ (bytes : List ℕ) (each : AreBytes bytes) where
 
 -- ── refusal ──────────────────────────────────────────────────────────────────────────────────────
 refusal-written : (p : Plan) → Valid p → PlanFits p → refusal (planBytes p) ≡ 0
-unfolding refusal check1 check2 check3 check4 check5 check6 check7 formatOf
+unfolding refusal check1 check2 check3 check4 check5 check7
 refusal-written p valid fits =
     let is = header-is p valid fits in
     let shaped = valid .shaped in
@@ -132,19 +136,22 @@ refusal-written p valid fits =
       planIn-written p valid fits,
       planBytes-length p,
       is .mark-is,
+      is .feeds-is,
+      is .capacity-is,
+      is .count-is,
       is .version-is,
       is .racks-is,
       is .size-is,
-      is .capacity-is,
-      is .count-is,
       le-ltb (recordAt f (blockCount p)) commonLength (omega arith),
       pos-eqb (p .version) (fits .version-pos),
       le-ltb latestVersion (p .version) (fits .version-max),
       pos-eqb (p .racks) (shaped .racks-pos),
       pos-eqb (p .rackSize) (shaped .size-pos),
       le-ltb maxMachines (machines p) (shaped .machines-max),
+      check22-passed (p .racks) (p .feeds) _ (shaped .feeds-pos) (shaped .feeds-divide),
       pos-eqb (p .capacity) (shaped .capacity-pos),
       le-ltb maxCapacity (p .capacity) (shaped .capacity-max),
+      check6-long f (recordAt f (blockCount p)) (blockCount p) _ (omega arith),
       le-ltb maxBlocks (blockCount p) (shaped .blocks-max),
       eq-eqb (recordAt f (blockCount p)) _ refl,
     )

@@ -4,6 +4,7 @@ pub mod Widths
 pub mod Units
 pub mod Replication
 pub mod Placement
+pub mod Domains
 pub mod Steps
 pub mod Listing
 pub mod Writing

@@ -4,11 +4,11 @@ use mathlib.Core.Bool.{true, false}
 use mathlib.Core.List.{List}
 use mathlib.Core.Logic.{_⊎_}
 use lib.ListN.{length}
-use Prim.Native.Nat.{ℕ, suc, _*_, _<_, _≤_}
+use Prim.Native.Nat.{ℕ, suc, _*_, _%_, _<_, _≤_}
 use Rattle.model.specs.Plan.{Plan, machines, domains, blockCount, blockOf, pairsNext, upper, minTotal, formatIn, planIn, recordAt}
 use Rattle.model.specs.Refusal.{maxMachines, maxCapacity, maxBlocks, judge, accepted}
 
--- What rows 8 and 9 leave of block i: 1 ≤ least ≤ the upper count, 1 ≤ spread ≤ least, spread ≤ R.
+-- What rows 8 and 9 leave of block i: 1 ≤ least ≤ the upper count, 1 ≤ spread ≤ least, spread ≤ the domains.
 pub record ValidBlock (p : Plan) (i : ℕ) : Type 0 where
   pub min-pos : 1 ≤ blockOf p i .minReplicas
   pub min-upper : blockOf p i .minReplicas ≤ upper p i
@@ -25,10 +25,12 @@ pub record ValidPair (p : Plan) (i : ℕ) : Type 0 where
   pub replicas-same : pairsNext p i ≡ true → blockOf p i .minReplicas ≡ blockOf p (suc i) .minReplicas
   pub racks-same : pairsNext p i ≡ true → blockOf p i .minRacks ≡ blockOf p (suc i) .minRacks
 
--- What rows 4 to 9 and 17 leave of a plan.
+-- What rows 4 to 9, 17 and 22 leave of a plan.
 pub record Shaped (p : Plan) : Type 0 where
   pub racks-pos : 1 ≤ p .racks
   pub size-pos : 1 ≤ p .rackSize
+  pub feeds-pos : 1 ≤ p .feeds
+  pub feeds-divide : p .racks % p .feeds ≡ 0
   pub machines-max : machines p ≤ maxMachines
   pub capacity-pos : 1 ≤ p .capacity
   pub capacity-max : p .capacity ≤ maxCapacity
@@ -42,7 +44,7 @@ pub record Valid (p : Plan) : Type 0 where
   pub in-budget : minTotal p ≤ p .budget
   pub in-places : minTotal p ≤ machines p * p .capacity
 
--- The code is not one of 1 to 9 and 17, which come before 10.
+-- The code is not one of 1 to 9, 17 and 22, which come before 10.
 abbrev pub PastRow17 : ℕ → Type 0
 PastRow17 code = (code ≡ 10) ⊎ (code ≡ 11) ⊎ (code ≡ 0)
 

@@ -36,6 +36,8 @@ Layouts = (f : Format) → LayoutLaws f
 pub record PlanFits (p : Plan) : Type 0 where
   pub version-pos : 1 ≤ p .version
   pub version-max : p .version ≤ latestVersion
+  -- where the file has no F it is R
+  pub feeds-racks : formatOf (p .version) .feedsWidth ≡ 0 → p .feeds ≡ p .racks
   pub budget-fits : p .budget < 256 ^ 4
   pub block-fits : (i : ℕ) → i < blockCount p → BlockFits (formatOf (p .version)) (blockOf p i)
 

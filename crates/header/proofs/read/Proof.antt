@@ -6,26 +6,17 @@ use native.Mathlib.Omega.{arith}
 use borrow.Author.Needs.{needs}
 use denote.Ref.{now}
 use lib.ListN.{length}
-use Rattle.model.specs.Plan.{markIn, versionIn, racksIn, rackSizeIn, capacityIn, blockCountIn, latestVersion, Format, formatIn, recordAt}
-use Rattle.model.specs.Refusal.{orElse, maxCapacity, maxBlocks, check1, check2, check3, check4, check5, check6, check7, refusal}
-use Rattle.theory.proofs.Refusal.{orElse-some, check4-zero, check5-zero, check6-zero, check7-zero}
-use Rattle.header.specs.Header.{headerIn}
+use Rattle.model.specs.Plan.{markIn, versionIn, racksIn, rackSizeIn, feedsIn, capacityIn, blockCountIn, latestVersion, Format, formatIn, recordAt}
+use Rattle.model.specs.Refusal.{orElse, check1, check2, check3, check4, check22, check5, check6, check7, refusal}
+use Rattle.theory.proofs.Refusal.{orElse-some, check4-zero, check22-zero, check5-zero, check6-rest, check6-zero, check7-zero}
+use Rattle.header.specs.Header.{headerWith, countIn}
 use Rattle.header.specs.declared.Header.{Header}
+use Rattle.header.proofs.Laws.{countIn-long, countIn-counted, countIn-rows}
 use Rattle.header.proofs.read.Statement.{statement}
 use Rattle.header.proofs.read.Tie as tie
 
 orElse-none : (code later : ℕ) → code ≡ 0 → orElse code later ≡ later
 orElse-none code later e = ap (λ (n : ℕ). orElse n later) e
-
--- what checks 5 to 7 leave where their code is 0
-sizes-zero : (f : Format) (capacity blocks size code : ℕ)
-    → ((later : ℕ) → check5 capacity (check6 blocks (check7 f size blocks later)) ≡ orElse code later)
-    → code ≡ 0
-    → (capacity ≤ maxCapacity) × (blocks ≤ maxBlocks) × (size ≡ recordAt f blocks)
-sizes-zero f capacity blocks size code is none =
-    let z5 = check5-zero capacity _ (is 0 ∙ orElse-none code 0 none) in
-    let z6 = check6-zero blocks _ (z5 .2) in
-    (z5 .1, z6 .0, check7-zero f size blocks 0 (z6 .1) .0)
 
 -- where checks 1 to 3 passed, the later rows decide
 past-mark : (c : tie.Else1) (later : ℕ)
@@ -33,32 +24,41 @@ past-mark : (c : tie.Else1) (later : ℕ)
     check1 (length bytes) (check2 (markIn bytes) (check3 latestVersion (versionIn bytes) later)) ≡ later
 past-mark c later = c .before .mark-refusal .ensures .code later ∙ orElse-none _ later (c .if1 .left)
 
-rack-code : (c : tie.After-rack-refusal) (later : ℕ)
-    → let marked = c .before .before .before in
-    let bytes = now (marked .before .before .before .args .bytes) in
-    check4 (racksIn bytes) (rackSizeIn bytes) later ≡ orElse (c .rack-refusal .result) later
-unfolding headerIn
-rack-code c later =
-    ap (λ (h : Header). check4 (h .cluster .racks) (h .cluster .«rack_size») later) (sym (c .before .before .fields .ensures .0))
-    ∙ c .rack-refusal .ensures later
+-- checks 4, 22 and 5
+hall-code : (c : tie.After-hall-refusal) (later : ℕ)
+    → let bytes = now (c .before .before .before .before .before .before .before .args .bytes) in
+    check4 (racksIn bytes) (rackSizeIn bytes) (check22 (racksIn bytes) (feedsIn bytes) (check5 (capacityIn bytes) later))
+    ≡ orElse (c .hall-refusal .result) later
+unfolding headerWith
+hall-code c later =
+    ap (λ (h : Header). check4 (h .cluster .racks) (h .cluster .«rack_size») (check22 (h .cluster .racks) (h .cluster .feeds) (check5 (h .cluster .capacity) later)))
+    (sym (c .before .before .fields .ensures .0))
+    ∙ c .hall-refusal .ensures later
 
-past-rack : (c : tie.Else2) (later : ℕ)
-    → let marked = c .before .before .before .before in
-    let bytes = now (marked .before .before .before .args .bytes) in
-    check4 (racksIn bytes) (rackSizeIn bytes) later ≡ later
-past-rack c later = rack-code (c .before) later ∙ orElse-none _ later (c .if2 .left)
+past-hall : (c : tie.Else2) (later : ℕ)
+    → let bytes = now (c .before .before .before .before .before .before .before .before .args .bytes) in
+    check4 (racksIn bytes) (rackSizeIn bytes) (check22 (racksIn bytes) (feedsIn bytes) (check5 (capacityIn bytes) later)) ≡ later
+past-hall c later = hall-code (c .before) later ∙ orElse-none _ later (c .if2 .left)
 
+-- the blocks, and the format
+blocks-are : (c : tie.After-fields)
+    → c .fields .result .cluster .blocks ≡ countIn (now (c .before .before .before .before .before .args .bytes))
+unfolding headerWith
+blocks-are c = ap (λ (h : Header). h .cluster .blocks) (c .fields .ensures .0)
+
+-- checks 6 and 7
 size-code : (c : tie.After-size-refusal) (later : ℕ)
-    → let marked = c .before .before .before .before .before .before in
-    let bytes = now (marked .before .before .before .args .bytes) in
-    check5 (capacityIn bytes) (check6 (blockCountIn bytes) (check7 (formatIn bytes) (length bytes) (blockCountIn bytes) later))
+    → let read = c .before .before .before .before in
+    let bytes = now (read .before .before .before .before .before .args .bytes) in
+    check6 (formatIn bytes) (length bytes) (blockCountIn bytes) (check7 (formatIn bytes) (length bytes) (blockCountIn bytes) later)
     ≡ orElse (c .size-refusal .result) later
-unfolding headerIn
 size-code c later =
-    let read = c .before .before .before .before .before in
-    let size = length (now (read .before .before .before .before .args .bytes)) in
-    ap₂ (λ (h : Header) (f : Format). check5 (h .cluster .capacity) (check6 (h .cluster .blocks) (check7 f size (h .cluster .blocks) later)))
-    (sym (read .fields .ensures .0)) (sym (c .before .format-in .ensures .0))
+    let read = c .before .before .before .before in
+    let bytes = now (read .before .before .before .before .before .args .bytes) in
+    countIn-rows bytes later
+    ∙ ap₂ (λ (f : Format) (n : ℕ). check6 f (length bytes) n (check7 f (length bytes) n later))
+    (sym (read .before .format-in .ensures .0))
+    (sym (blocks-are read))
     ∙ c .size-refusal .ensures later
 
 mark-refusal-requires : tie.Need-mark-refusal-requires
@@ -72,34 +72,46 @@ returns c =
       some = omega arith;
     }
 
-fields-requires : tie.Need-fields-requires
-fields-requires c κs = c .before .mark-refusal .ensures .long (c .if1 .left)
+format-in-requires : tie.Need-format-in-requires
+format-in-requires c κs = c .before .mark-refusal .ensures .long (c .if1 .left)
 
-rack-refusal-requires : tie.Need-rack-refusal-requires
-rack-refusal-requires c κs = search needs
+fields-requires : tie.Need-fields-requires
+fields-requires c κs =
+    record {
+      long = c .before .before .mark-refusal .ensures .long (c .before .if1 .left);
+      format-is = c .format-in .ensures .0;
+      fits = c .format-in .ensures .1;
+    }
+
+hall-refusal-requires : tie.Need-hall-refusal-requires
+hall-refusal-requires c κs = search needs
 
 returns-2 : tie.Need-returns-2
 unfolding refusal
 returns-2 c =
+    let read = c .before .before .before in
     record {
-      is = past-mark (c .before .before .before .before) _ ∙ rack-code (c .before) _ ∙ orElse-some _ _ (c .if2 .taken);
+      is = past-mark (read .before .before) _ ∙ hall-code (c .before) _ ∙ orElse-some _ _ (c .if2 .taken);
       some = omega arith;
     }
 
-format-in-requires : tie.Need-format-in-requires
-format-in-requires c κs = c .before .before .before .before .before .mark-refusal .ensures .long (c .before .before .before .before .if1 .left)
-
 size-refusal-requires : tie.Need-size-refusal-requires
-size-refusal-requires c κs = search needs
+size-refusal-requires c κs =
+    let read = c .before .before .before in
+    let bytes = now (read .before .before .before .before .before .args .bytes) in
+    record {
+      fits = read .before .format-in .ensures .1;
+      counted = countIn-counted bytes _ _ (read .before .format-in .ensures .0) (blocks-are read);
+    }
 
 returns-3 : tie.Need-returns-3
 unfolding refusal
 returns-3 c =
-    let racked = c .before .before .before in
+    let hall = c .before .before in
     record {
       is =
-          past-mark (racked .before .before .before .before) _
-          ∙ past-rack racked _
+          past-mark (hall .before .before .before .before .before) _
+          ∙ past-hall hall _
           ∙ size-code (c .before) _
           ∙ orElse-some _ _ (c .if3 .taken);
       some = omega arith;
@@ -108,27 +120,39 @@ returns-3 c =
 returns-4 : tie.Need-returns-4
 unfolding refusal
 returns-4 c =
-    let racked = c .before .before .before in
-    let read = racked .before .before .before in
-    let racks = check4-zero _ _ 0 (racked .before .rack-refusal .ensures 0 ∙ orElse-none _ 0 (racked .if2 .left)) in
-    let sizes = sizes-zero _ _ _ _ _ (c .before .size-refusal .ensures) (c .if3 .left) in
+    let hall = c .before .before in
+    let read = hall .before .before .before in
+    let bytes = now (read .before .before .before .before .before .args .bytes) in
+    let blocks = read .fields .result .cluster .blocks in
+    let f = formatIn bytes in
+    let z4 = check4-zero _ _ _ (hall .before .hall-refusal .ensures 0 ∙ orElse-none _ 0 (hall .if2 .left)) in
+    let z22 = check22-zero _ _ _ (z4 .3) in
+    let z5 = check5-zero _ _ (z22 .2) in
+    let rows = rw (read .before .format-in .ensures .0) at (c .before .size-refusal .ensures 0 ∙ orElse-none _ 0 (c .if3 .left)) in
+    let size : length bytes ≡ recordAt f blocks = sizes f (length bytes) blocks rows in
+    let same : countIn bytes ≡ blockCountIn bytes = countIn-long bytes (omega (arith, size)) in
     record {
-      fields = read .fields .ensures .0;
+      fields = rw same at (read .fields .ensures .0);
       left =
-          past-mark (read .before) _
-          ∙ past-rack racked _
+          past-mark (read .before .before) _
+          ∙ past-hall hall _
           ∙ size-code (c .before) _
           ∙ orElse-none _ _ (c .if3 .left);
       in-range =
           record {
-            racks-pos = racks .0;
-            size-pos = racks .1;
-            machines-max = racks .2;
-            capacity-max = sizes .0;
-            blocks-max = sizes .1;
+            racks-pos = z4 .0;
+            size-pos = z4 .1;
+            feeds-pos = z22 .0;
+            feeds-divide = z22 .1;
+            machines-max = z4 .2;
+            capacity-max = z5 .1;
+            blocks-max = check6-zero f (length bytes) blocks _ (omega (arith, size)) rows .0;
           };
-      length-is = sizes .2 ∙ ap (λ (f : Format). recordAt f (read .fields .result .cluster .blocks)) (c .before .before .format-in .ensures .0);
+      length-is = size;
     }
+  where
+    sizes : (f : Format) (size blocks : ℕ) → check6 f size blocks (check7 f size blocks 0) ≡ 0 → size ≡ recordAt f blocks
+    sizes f size blocks e = check7-zero f size blocks 0 (check6-rest f size blocks _ e) .0
 
 pub read-spec : {M : Type 1} → statement M
 read-spec =
@@ -136,10 +160,10 @@ read-spec =
     (tie.spec
     mark-refusal-requires
     returns
-    fields-requires
-    rack-refusal-requires
-    returns-2
     format-in-requires
+    fields-requires
+    hall-refusal-requires
+    returns-2
     size-refusal-requires
     returns-3
     returns-4)

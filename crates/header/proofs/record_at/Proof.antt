@@ -25,13 +25,16 @@ add-record-2 c = search needs
 add-record-3 : tie.Need-add-record-3
 add-record-3 c = search needs
 
+add-result : tie.Need-add-result
+add-result c = search needs
+
 mul-result : tie.Need-mul-result
 mul-result c =
-    let start = c .before .before .before in
+    let start = c .before .before .before .before in
     omega (arith, records-max (asFormat (start .args .format)) _ (start .pre .0) (start .pre .1))
 
-add-result : tie.Need-add-result
-add-result c =
+add-result-2 : tie.Need-add-result-2
+add-result-2 c =
     let start = c .before .before .before .before in
     omega (arith, records-max (asFormat (start .args .format)) _ (start .pre .0) (start .pre .1))
 
@@ -41,4 +44,4 @@ returns c =
     (refl, omega (arith, records-max (asFormat (start .args .format)) _ (start .pre .0) (start .pre .1)))
 
 pub record-at-spec : {M : Type 1} → statement M
-record-at-spec = tie.close (tie.spec add-record add-record-2 add-record-3 mul-result add-result returns)
+record-at-spec = tie.close (tie.spec add-record add-record-2 add-record-3 add-result mul-result add-result-2 returns)
