@@ -53,6 +53,7 @@ fn turned_back(code: u8) -> Intake
     let cluster = Cluster {
         racks: 0,
         rack_size: 0,
+        feeds: 0,
         capacity: 0,
         blocks: 0,
     };

@@ -18,10 +18,10 @@ pub const KEYS_AT: usize = 2048;
 
 pub const RANKS_AT: usize = 3072;
 
-// A route: a step takes a block from machine m to machine n. What m's load may fall by stays below `margin`; `across` says whether the
-// two lie in different racks.
+// A route: a step takes a block from machine m to machine n. What m's load may fall by stays below `margin`; `parted` says whether the
+// two lie in different failure domains.
 pub struct Route {
-    pub across: bool,
+    pub parted: bool,
     pub m: usize,
     pub n: usize,
     pub margin: u64,

@@ -107,13 +107,15 @@ module _ (c : Cursor) (circle : OnCircle c) (t : ℕ) (at : c ≡ cursorAt (c .c
 
 -- A plan that has the cluster's racks: the model's laws are about plans, and a word is laid by their racks alone.
 abbrev bare : Cluster → Plan
-bare c = record { version = 1; racks = c .racks; rackSize = c .«rack_size»; capacity = 1; budget = 0; blocks = [] }
+bare c = record { version = 1; racks = c .racks; rackSize = c .«rack_size»; feeds = c .feeds; capacity = 1; budget = 0; blocks = [] }
 
 bare-shaped : (c : Cluster) → InRange c → Shaped (bare c)
 bare-shaped c in-range =
     record {
       racks-pos = in-range .racks-pos;
       size-pos = in-range .size-pos;
+      feeds-pos = in-range .feeds-pos;
+      feeds-divide = in-range .feeds-divide;
       machines-max = in-range .machines-max;
       capacity-pos = lit≤ tt;
       capacity-max = lit≤ tt;

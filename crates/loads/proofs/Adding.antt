@@ -84,7 +84,7 @@ added-to e load one =
 -- a cluster with its first i blocks alone
 abbrev pub upTo : Cluster → ℕ → Cluster
 upTo c i =
-    record { racks = c .racks; «rack_size» = c .«rack_size»; capacity = c .capacity; blocks = i }
+    record { racks = c .racks; «rack_size» = c .«rack_size»; feeds = c .feeds; capacity = c .capacity; blocks = i }
 
 module _ (c : Cluster) (words profiles : List ℕ) where
   -- no word is counted

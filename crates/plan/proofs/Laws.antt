@@ -18,7 +18,7 @@ use Rattle.cluster.specs.Blocks.{demandOf, DemandsOf}
 use Rattle.cluster.proofs.Laws.{cluster-range}
 use Rattle.header.specs.declared.Header.{Header}
 use Rattle.header.specs.Format.{FormatFits}
-use Rattle.header.specs.Header.{headerIn, PassedAs}
+use Rattle.header.specs.Header.{headerWith, headerIn, PassedAs}
 use Rattle.header.proofs.Laws.{formatOf-fits}
 use Rattle.records.specs.Records.{RecordIn, RecordsIn, RecordsOf}
 use Rattle.records.proofs.Laws.{record-in}
@@ -28,7 +28,7 @@ use Rattle.plan.specs.Reading.{planOf, AcceptedHeader}
 
 -- with the header that was read, it is the plan that the bytes hold
 pub planOf-in : (bytes : List ℕ) (h : Header) → h ≡ headerIn bytes → planOf bytes h ≡ planIn bytes
-unfolding planOf planIn headerIn
+unfolding planOf planIn headerWith
 planOf-in bytes h e = ap (planOf bytes) e
 
 module _ (bytes : List ℕ) (h : Header) where
@@ -43,7 +43,7 @@ module _ (bytes : List ℕ) (h : Header) where
       record {
         valid = valid;
         is =
-            ap (λ (n : ℕ). record { racks = h .cluster .racks; «rack_size» = h .cluster .«rack_size»; capacity = h .cluster .capacity; blocks = n })
+            ap (λ (n : ℕ). record { racks = h .cluster .racks; «rack_size» = h .cluster .«rack_size»; feeds = h .cluster .feeds; capacity = h .cluster .capacity; blocks = n })
             (sym planOf-blocks);
       }
 
@@ -81,9 +81,9 @@ module _ (bytes : List ℕ) (h : Header) (of : HeaderOf bytes h) where
   unfolding planOf
   planIn-version = ap (λ (p : Plan). p .version) (of .held)
 
-  pub planIn-racks : h .cluster .racks ≡ domains (planIn bytes)
+  pub planIn-domains : h .cluster .feeds ≡ domains (planIn bytes)
   unfolding planOf
-  planIn-racks = ap domains (of .held)
+  planIn-domains = ap domains (of .held)
 
   pub planIn-machines : machinesIn (h .cluster) ≡ machines (planIn bytes)
   unfolding planOf

@@ -21,6 +21,7 @@ planOf bytes h =
       version = h .version;
       racks = h .cluster .racks;
       rackSize = h .cluster .«rack_size»;
+      feeds = h .cluster .feeds;
       capacity = h .cluster .capacity;
       budget = h .budget;
       blocks = table (h .cluster .blocks) (blockIn (formatIn bytes) bytes);

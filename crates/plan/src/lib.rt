@@ -1,4 +1,4 @@
-// A plan file, judged: checks 1 to 11 and 17 on any bytes, and the records of an accepted plan.
+// A plan file, judged: checks 1 to 11, 17 and 22 on any bytes, and the records of an accepted plan.
 use header::Header;
 use header::HeaderAnswer;
 ghost use mathlib.Core.Path.{_≡_};
@@ -34,7 +34,7 @@ fn scan_records(bytes: &[u8], h: Header) -> Records
         let least = records::min_replicas(bytes, format, i);
         let spread = records::min_racks(bytes, format, i);
         let most = records::upper_count(h.version, cluster, records::link(bytes, format, i));
-        let code = records::block_refusal(most, cluster.racks, least, spread);
+        let code = records::block_refusal(most, cluster.feeds, least, spread);
         if code != 0 {
             return Records::Fault(code);
         }
@@ -85,7 +85,7 @@ fn judge_total(bytes: &[u8], h: Header, total: usize) -> Reading
     Reading::Accepted(h)
 }
 
-// Checks 8 to 11 and 17, for a header that passed checks 1 to 7.
+// Checks 8 to 11 and 17, for a header that passed its own checks.
 fn judge_records(bytes: &[u8], h: Header) -> Reading
     requires { ⌜ PassedAs (now bytes) h ⌝ }
     ensures { λ r. ⌜ verdictOf (now (bytes .entry)) r ≡ judge (now (bytes .entry)) ⌝ }

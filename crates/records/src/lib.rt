@@ -112,8 +112,8 @@ pub fn upper_count(version: usize, cluster: Cluster, link: usize) -> usize
 }
 
 // Checks 8 and 9 of one block; 0 where both pass.
-pub fn block_refusal(most: usize, racks: usize, least: usize, spread: usize) -> u8
-    ensures { λ r. ⌜ r ≡ check8 most least (check9 racks least spread 0) ⌝ }
+pub fn block_refusal(most: usize, domains: usize, least: usize, spread: usize) -> u8
+    ensures { λ r. ⌜ r ≡ check8 most least (check9 domains least spread 0) ⌝ }
 {
     if least == 0 {
         return 8;
@@ -127,7 +127,7 @@ pub fn block_refusal(most: usize, racks: usize, least: usize, spread: usize) -> 
     if spread > least {
         return 9;
     }
-    if spread > racks {
+    if spread > domains {
         return 9;
     }
     0

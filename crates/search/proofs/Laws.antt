@@ -1,18 +1,21 @@
 -- Laws of one kind of step: which machines are of the kind, and the kinds in their order.
 -- Assumes nothing.
-use mathlib.Core.Path.{_≡_, refl, ap, sym, _∙_}
+use mathlib.Core.Path.{_≡_, refl, ap, ap₂, sym, _∙_}
 use mathlib.Core.Bool.{Bool, true, false, not, Bool·beq}
 use mathlib.Core.List.{List}
-use Prim.Native.Nat.{ℕ, _+_, _*_, _/_, _<_, _≤_}
-use native.Mathlib.Nat.{div-lt-iff-lt-mul}
+use Prim.Native.Nat.{ℕ, _+_, _*_, _/_, _%_, _<_, _≤_}
+use native.Mathlib.Nat.{add-zero, mod-lt, div-lt-iff-lt-mul, mul-div-cancel, mul-mod-left, mul-lt-mul-of-pos-right}
 use native.Mathlib.Decide.{decLt}
 use native.Mathlib.Omega.{arith}
 use borrow.Author.Tests.{eq-eqb, ne-eqb}
+use lib.Arith.{digits-div}
 use lib.Dec.{eqb}
+use Rattle.order.proofs.Arithmetic.{mod-digits}
 use Rattle.order.proofs.Booleans.{no-contradiction}
 use Rattle.model.specs.Plan.{Plan}
 use Rattle.model.specs.Steps.{Step, none, move, swap, isStep, routes, nextMove, nextSwap, orStep, nextStep}
 use Rattle.cluster.specs.declared.Cluster.{Cluster}
+use Rattle.cluster.specs.Cluster.{domainIn, InRange}
 use Rattle.cluster.specs.Blocks.{PlacementOf}
 use Rattle.transfers.specs.declared.Hit.{Hit}
 use Rattle.transfers.specs.Route.{hitOf, routeStep}
@@ -28,11 +31,9 @@ pub beq-false : (a : Bool) → not a ≡ Bool·beq a false
 beq-false true = refl
 beq-false false = refl
 
-pub beq-same : (a b : Bool) → true ≡ Bool·beq a b → a ≡ b
-beq-same true true e = refl
-beq-same true false e = no-contradiction e
-beq-same false true e = no-contradiction e
-beq-same false false e = refl
+pub true-beq : (a : Bool) → Bool·beq true a ≡ a
+true-beq true = refl
+true-beq false = refl
 
 -- the machines before, in and after the rack of m
 module _ (size m n : ℕ) (pos : 1 ≤ size) where
@@ -59,6 +60,26 @@ module _ (size m n : ℕ) (pos : 1 ≤ size) where
       let within : n < (m / size + 1) * size = omega arith in
       let below : n / size < m / size + 1 = div-lt-iff-lt-mul pos .1 within in
       ap not (eq-eqb (m / size) (n / size) (omega arith))
+
+-- ── is_parted ──────────────────────────────────────────────────────────────────────────────────────────────────────────
+
+module _ (c : Cluster) (range : InRange c) where
+  -- a machine's number within its turn of the domains gives its domain, and the start of its rack the start of its domain's first one
+  pub turn-domain : (n : ℕ) → n % (c .feeds * c .«rack_size») / c .«rack_size» ≡ domainIn c n
+  turn-domain n =
+      ap (λ (k : ℕ). k / c .«rack_size») (mod-digits n (c .feeds) (c .«rack_size») (range .feeds-pos) (range .size-pos))
+      ∙ digits-div (domainIn c n) (mod-lt n (range .size-pos))
+
+  pub turn-base : (m : ℕ) → m / c .«rack_size» * c .«rack_size» % (c .feeds * c .«rack_size») ≡ domainIn c m * c .«rack_size»
+  turn-base m =
+      let size = c .«rack_size» in
+      let rack = m / size in
+      mod-digits (rack * size) (c .feeds) size (range .feeds-pos) (range .size-pos)
+      ∙ ap₂ (λ (q x : ℕ). q % c .feeds * size + x) (mul-div-cancel rack (range .size-pos)) (mul-mod-left rack size)
+      ∙ add-zero (domainIn c m * size)
+
+  pub turn-start : (m : ℕ) → domainIn c m * c .«rack_size» < c .feeds * c .«rack_size»
+  turn-start m = mul-lt-mul-of-pos-right (mod-lt (m / c .«rack_size») (range .feeds-pos)) (range .size-pos)
 
 -- ── nextStep ───────────────────────────────────────────────────────────────────────────────────────────────────────────
 

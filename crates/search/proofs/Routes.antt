@@ -17,9 +17,9 @@ use Rattle.theory.specs.Refusal.{Shaped}
 use Rattle.theory.specs.Steps.{LocalMove, LocalSwap}
 use Rattle.theory.proofs.StepsLocal.{canMove-local, canSwap-local}
 use Rattle.cluster.specs.declared.Cluster.{Cluster}
-use Rattle.cluster.specs.Cluster.{machinesIn}
+use Rattle.cluster.specs.Cluster.{machinesIn, domainIn}
 use Rattle.cluster.specs.Blocks.{PlacementOf}
-use Rattle.cluster.proofs.Laws.{cluster-size, cluster-capacity, cluster-blocks, placement-machine, placement-share}
+use Rattle.cluster.proofs.Laws.{range-turn, cluster-size, cluster-capacity, cluster-blocks, placement-machine, placement-share}
 use Rattle.loads.proofs.Laws.{loads-narrow, copies-used, loads-load}
 use Rattle.index.specs.declared.Route.{Route}
 use Rattle.index.specs.Index.{rankAt, shareAt}
@@ -29,8 +29,8 @@ use Rattle.transfers.specs.declared.Hit.the-variants.{Nothing}
 use Rattle.transfers.specs.Route.{hitOf, routeStep, RouteAsked, RouteScene, HitOf}
 use Rattle.transfers.proofs.Searches.{none-found, test-none}
 use Rattle.search.specs.declared.Row.{Row}
-use Rattle.search.specs.Scene.{KindAsked, routeOf, RouteAt, HitIs}
-use Rattle.search.proofs.Laws.{beq-same}
+use Rattle.search.specs.Scene.{KindAsked, PartedAsked, PartedOf, routeOf, RouteAt, HitIs}
+use Rattle.search.proofs.Laws.{turn-start}
 
 -- ── routeStep ───────────────────────────────────────────────────────────────────────────────────────────────────────────
 
@@ -100,11 +100,11 @@ module _ {c : Cluster} {words profiles index : List ℕ} {route : Route} (at : R
         (rw (share-is j h, share-is i l) (margin .gain)) in
         omega (arith, share-is i l, share-is j h, margin .below)
 
-    pub routeStep-ruled : (swapping : Bool) → RuledOut c index route swapping
-        → none ≡ routeStep p words swapping (route .across) (route .m) (route .n)
-    routeStep-ruled swapping ruled =
+    pub routeStep-ruled : (swapping across : Bool) → RuledOut c index route swapping
+        → none ≡ routeStep p words swapping across (route .m) (route .n)
+    routeStep-ruled swapping across ruled =
         routeStep-none p count c words profiles (scene .placement) (route .m) (route .n) (at .route-in .m-below) (at .route-in .n-below)
-        swapping (route .across) (barren-ruled swapping ruled)
+        swapping across (barren-ruled swapping ruled)
 
 -- ── the route of a row's machine m and n ────────────────────────────────────────────────────────────────────────────────
 
@@ -120,6 +120,14 @@ module _ {c : Cluster} {words profiles index loads copies : List ℕ} {row : Row
         size-pos = ranges .size-pos;
         low-max = omega (arith, at .row-in .low-is, div-add-mod' (row .m) (c .«rack_size»), m-max);
         size-max = omega (arith, mul-le-mul-right (c .«rack_size») (ranges .racks-pos), ranges .machines-max);
+      }
+
+  pub parted-asked : PartedAsked c (row .base)
+  parted-asked =
+      let ranges = at .all .fits .profiles-fit .in-range in
+      record {
+        in-range = ranges;
+        base-max = omega (arith, at .row-in .base-is, turn-start c ranges (row .m), range-turn c ranges, ranges .machines-max);
       }
 
   -- whether the route is of the row's kind
@@ -172,10 +180,10 @@ module _ {c : Cluster} {words profiles index loads copies : List ℕ} {row : Row
     pub nothing-full : row .swapping ≡ false → c .capacity ≤ getD copies n 0 → HitIs c words profiles (row .across) wanted Nothing
     nothing-full moving l = nothing-barren (λ p count placement. rw moving (λ i h s. omega (arith, n-used p count placement, cluster-capacity p c (placement .profiles-of .cluster), s .room)))
 
-    module _ (more : getD loads n 0 < getD loads (row .m) 0) where
+    module _ (more : getD loads n 0 < getD loads (row .m) 0) (parted : Bool) (parted-is : PartedOf c (row .base) n parted) where
       -- the route as it is handed on: what m has more than n is its margin
       abbrev pub routeHere : Route
-      routeHere = record { across = row .across; m = row .m; n = n; margin = getD loads (row .m) 0 - getD loads n 0 }
+      routeHere = record { parted = parted; m = row .m; n = n; margin = getD loads (row .m) 0 - getD loads n 0 }
 
       pub route-asked : RouteAsked c words profiles index routeHere
       route-asked =
@@ -187,7 +195,7 @@ module _ {c : Cluster} {words profiles index loads copies : List ℕ} {row : Row
                   in-range = at .all .fits .profiles-fit .in-range;
                   m-below = at .row-in .m-below;
                   n-below = at .n-below;
-                  across-is = beq-same _ _ kind;
+                  parted-is = parted-is (domainIn c (row .m)) (at .row-in .base-is);
                   margin-narrow = omega (arith, loads-narrow c words profiles loads copies (at .all .loads-of) (at .all .fits .profiles-fit) (row .m) m-max);
                 };
           }
@@ -205,7 +213,7 @@ module _ {c : Cluster} {words profiles index loads copies : List ℕ} {row : Row
           }
 
       pub route-found : (r : Hit) → (row .swapping ≡ false → getD copies n 0 < c .capacity)
-          → HitOf c words profiles routeHere (row .swapping) (λ p. routeStep p words (row .swapping) (row .across) (row .m) n) r
+          → HitOf c words profiles routeHere (row .swapping) (λ across p. routeStep p words (row .swapping) across (row .m) n) r
           → HitIs c words profiles (row .across) wanted r
       route-found r room found =
           record {
@@ -213,5 +221,6 @@ module _ {c : Cluster} {words profiles index loads copies : List ℕ} {row : Row
             is = λ p count placement.
                 found .is p count (route-scene p count placement)
                 (λ moving. omega (arith, room moving, n-used p count placement, cluster-capacity p c (placement .profiles-of .cluster)))
+                (row .across)
                 ∙ this p count placement;
           }

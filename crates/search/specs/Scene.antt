@@ -8,7 +8,7 @@ use Rattle.model.specs.Plan.{Plan, machines}
 use Rattle.model.specs.Refusal.{maxMachines}
 use Rattle.model.specs.Steps.{Step as ModelStep, none, move, swap, acrossRacks, first, nextStep}
 use Rattle.cluster.specs.declared.Cluster.{Cluster}
-use Rattle.cluster.specs.Cluster.{machinesIn}
+use Rattle.cluster.specs.Cluster.{machinesIn, domainIn, InRange}
 use Rattle.cluster.specs.Blocks.{PlacementFits, PlacementOf}
 use Rattle.loads.specs.Loads.{LoadsOf}
 use Rattle.index.specs.Index.{Indexed}
@@ -54,6 +54,14 @@ abbrev pub OfKind : ℕ → ℕ → ℕ → Bool → Bool → Type 0
 OfKind low size n across r =
     (m : ℕ) → low ≡ m / size * size → r ≡ Bool·beq across (not (eqb (m / size) (n / size)))
 
+-- Whether n lies in another failure domain than one whose first rack starts at `base`.
+pub record PartedAsked (c : Cluster) (base : ℕ) : Type 0 where
+  pub in-range : InRange c
+  pub base-max : base < maxMachines
+
+abbrev pub PartedOf : Cluster → ℕ → ℕ → Bool → Type 0
+PartedOf c base n r = (d : ℕ) → base ≡ d * c .«rack_size» → r ≡ not (eqb d (domainIn c n))
+
 -- A kind by its number in the order of the steps: 0 Move, 1 Swap, 2 RackMove, 3 RackSwap.
 abbrev pub isExchange : ℕ → Bool
 isExchange kind = eqb (kind % 2) 1
@@ -77,10 +85,11 @@ pub record SearchAsked (c : Cluster) (words profiles index loads copies : List �
   pub indexed : Indexed c words profiles index
   pub loads-of : LoadsOf c words profiles loads copies
 
--- A machine of the cluster, and where its rack starts.
+-- A machine of the cluster, and where its rack starts, and the first rack of its failure domain.
 pub record RowIn (c : Cluster) (row : Row) : Type 0 where
   pub m-below : row .m < machinesIn c
   pub low-is : row .low ≡ row .m / c .«rack_size» * c .«rack_size»
+  pub base-is : row .base ≡ domainIn c (row .m) * c .«rack_size»
 
 pub record RowAsked (c : Cluster) (words profiles index loads copies : List ℕ) (row : Row) : Type 0 where
   pub all : SearchAsked c words profiles index loads copies

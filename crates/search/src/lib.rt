@@ -3,7 +3,9 @@ use cluster::Cluster;
 use index::Route;
 use transfers::Hit;
 ghost use Rattle.transfers.specs.Route.{routeStep, RouteAsked, HitOf};
-ghost use Rattle.search.specs.Scene.{isExchange, isAcross, NextFound, AnswerOf, KindAsked, OfKind, routeOf, rowOf, kindStep, SearchAsked, RowAsked, RouteAt, HitIs};
+ghost use mathlib.Core.Path.{_≡_};
+ghost use Prim.Native.Nat.{_%_, _≤_};
+ghost use Rattle.search.specs.Scene.{isExchange, isAcross, NextFound, AnswerOf, KindAsked, OfKind, PartedAsked, PartedOf, routeOf, rowOf, kindStep, SearchAsked, RowAsked, RouteAt, HitIs};
 
 // A step, or rest. Block i goes from m to n, of an exchange block j from n to m; m and n of a RackMove or RackSwap lie in
 // different racks.
@@ -33,11 +35,12 @@ pub enum Step {
     },
 }
 
-// A kind of step and the machine m that it leaves, whose rack starts at `low`.
+// A kind of step and the machine m that it leaves; its rack starts at `low`, and the first rack of its failure domain at `base`.
 struct Row {
     swapping: bool,
     across: bool,
     low: usize,
+    base: usize,
     m: usize,
 }
 
@@ -76,6 +79,27 @@ fn of_kind(low: usize, size: usize, n: usize, across: bool) -> bool
     !across
 }
 
+// n mod `turn`; no division where n is below it, as in a hall with a feed for each rack.
+fn wrapped(n: usize, turn: usize) -> usize
+    requires { ⌜ 1 ≤ turn ⌝ }
+    ensures { λ r. ⌜ r ≡ n % turn ⌝ }
+{
+    if n < turn {
+        return n;
+    }
+    n % turn
+}
+
+// Whether n lies in another failure domain than the one whose first rack starts at `base`.
+fn is_parted(cluster: Cluster, base: usize, n: usize) -> bool
+    requires { ⌜ PartedAsked cluster base ⌝ }
+    ensures { λ r. ⌜ PartedOf cluster base n r ⌝ }
+{
+    let size = cluster.rack_size;
+    let at = wrapped(n, cluster.feeds * size);
+    of_kind(base, size, at, true)
+}
+
 // The first step of the kind between m and n, unless the shares rule it out; n of a move has room.
 fn find_open(
     words: &[u64],
@@ -87,7 +111,7 @@ fn find_open(
 ) -> Hit
     requires { ⌜ RouteAsked cluster (now words) (now profiles) (now index) route ⌝ }
     ensures { λ r. ⌜ HitOf cluster (now (words .entry)) (now (profiles .entry)) route swapping
-        (λ p. routeStep p (now (words .entry)) swapping (route .across) (route .m) (route .n)) r ⌝ }
+        (λ across p. routeStep p (now (words .entry)) swapping across (route .m) (route .n)) r ⌝ }
 {
     if screen::rules_out(index, cluster, route, swapping) {
         return Hit::Nothing;
@@ -110,9 +134,8 @@ fn find_route(
     ensures { λ r. ⌜ HitIs cluster (now (words .entry)) (now (profiles .entry)) (row .across)
         (λ p. routeOf p (now (words .entry)) (row .swapping) (row .across) (row .m) n) r ⌝ }
 {
-    let across = row.across;
     let m = row.m;
-    if !of_kind(row.low, cluster.rack_size, n, across) {
+    if !of_kind(row.low, cluster.rack_size, n, row.across) {
         return Hit::Nothing;
     }
     if loads[m] <= loads[n] {
@@ -125,7 +148,7 @@ fn find_route(
     }
     let margin = loads[m] - loads[n];
     let route = Route {
-        across,
+        parted: is_parted(cluster, row.base, n),
         m,
         n,
         margin,
@@ -184,6 +207,7 @@ fn find_kind(
             swapping,
             across,
             low,
+            base: wrapped(low, cluster.feeds * size),
             m,
         };
         let hit = find_row(words, profiles, index, loads, copies, cluster, row);

@@ -25,9 +25,9 @@ use Rattle.theory.proofs.Placement.{replicasIn-members}
 use Rattle.theory.proofs.Steps.{domainsUsed-shift-inside, domainsUsed-shift-pos}
 use Rattle.theory.proofs.StepsLocal.{canMove-local, canSwap-local}
 use Rattle.cluster.specs.declared.Cluster.{Cluster}
-use Rattle.cluster.specs.Cluster.{machinesIn, ClusterOf}
+use Rattle.cluster.specs.Cluster.{machinesIn, domainIn}
 use Rattle.cluster.specs.Blocks.{linkedTo, shareIn, spreadIn, PlacementFits, PlacementOf}
-use Rattle.cluster.proofs.Laws.{cluster-blocks, cluster-racks, cluster-size, cluster-machines, mate-paired, mate-single, profiles-mate, placement-block, placement-share, placement-spread, placement-machine}
+use Rattle.cluster.proofs.Laws.{cluster-blocks, cluster-domain, cluster-machines, mate-paired, mate-single, profiles-mate, placement-block, placement-share, placement-spread, placement-machine}
 use Rattle.index.specs.declared.Route.{Route}
 use Rattle.index.specs.Index.{byNumber, spot, rankAt, NextOf}
 use Rattle.transfers.specs.Route.{blockStep, routeStep, Shift, RouteIn, BlockAsked, Lies, InMargin, Passable, Free, NoReturn, ReturnAsked, RouteAsked, RouteScene, Return, FreeReturn, CandidateAsked}
@@ -43,26 +43,17 @@ module _ (p : Plan) (c : Cluster) (route : Route) (word profile : ℕ)
   n-lt : route .n < machines p
   n-lt = rw (cluster-machines p c (lies .cluster-of)) at (asked .route-in .n-below)
 
-  -- inside a rack, and with a spread of one, nothing can be lost
-  pub kept-inside : route .across ≡ false → spreadIn profile ≤ domainsUsed p (shifted word (route .m) (route .n))
+  -- inside a domain, and with a spread of one, nothing can be lost
+  pub kept-inside : route .parted ≡ false → spreadIn profile ≤ domainsUsed p (shifted word (route .m) (route .n))
   kept-inside inside =
-      let same : route .m / c .«rack_size» ≡ route .n / c .«rack_size» =
-      eqb-true _ _ (not-false _ (sym (asked .route-in .across-is) ∙ inside))
-      in
-      rw (domainsUsed-shift-inside p word (route .m) (route .n) m-lt n-lt (asked .holds) (asked .lacks) (rw (cluster-size p c (lies .cluster-of)) at same))
+      let same : domainIn c (route .m) ≡ domainIn c (route .n) = eqb-true _ _ (not-false _ (sym (asked .route-in .parted-is) ∙ inside)) in
+      let of = lies .cluster-of in
+      rw (domainsUsed-shift-inside p word (route .m) (route .n) m-lt n-lt (asked .holds) (asked .lacks) (sym (cluster-domain p c of (route .m)) ∙ same ∙ cluster-domain p c of (route .n)))
       (lies .enough)
 
   pub kept-one : spreadIn profile ≤ 1 → spreadIn profile ≤ domainsUsed p (shifted word (route .m) (route .n))
   kept-one low =
       omega (arith, domainsUsed-shift-pos p word (route .m) (route .n) m-lt n-lt (asked .holds) (asked .lacks) (lies .cluster-of .valid .shaped))
-
--- the groups of bits are the racks
-pub groups-are : (p : Plan) (c : Cluster) (w : ℕ) → ClusterOf p c
-    → sum (c .racks) (λ d. min 1 (sum (c .«rack_size») (λ x. bit w (d * c .«rack_size» + x)))) ≡ domainsUsed p w
-unfolding domainsUsed
-groups-are p c w of =
-    rw (cluster-racks p c of, cluster-size p c of)
-    (sum-cong (p .racks) _ _ (λ d l. ap (min 1) (sym (replicasIn-members p w d l))))
 
 -- ── PlacementFits: the block that a block is linked to ─────────────────────────────────────────────────────────────────
 
@@ -165,7 +156,7 @@ noReturn-block p {index} {route} asked ruled k l t =
 -- ── Route: the other way round ──────────────────────────────────────────────────────────────────────────────────────────
 
 abbrev pub reversed : Route → Route
-reversed route = record { across = route .across; m = route .n; n = route .m; margin = route .margin }
+reversed route = record { parted = route .parted; m = route .n; n = route .m; margin = route .margin }
 
 -- whether two machines lie apart does not hang on their order
 apart-sym : (a b : ℕ) → not (eqb a b) ≡ not (eqb b a)
@@ -186,7 +177,7 @@ reversed-asked c words profiles index route asked =
             in-range = route-in .in-range;
             m-below = route-in .n-below;
             n-below = route-in .m-below;
-            across-is = route-in .across-is ∙ apart-sym (route .m / c .«rack_size») (route .n / c .«rack_size»);
+            parted-is = route-in .parted-is ∙ apart-sym (domainIn c (route .m)) (domainIn c (route .n));
             margin-narrow = route-in .margin-narrow;
           };
     }
@@ -402,10 +393,10 @@ module _ (p : Plan) (count : ℕ → ℕ) (c : Cluster) (words profiles : List �
         )
 
     -- a block that is no candidate takes part in no step
-    pub blockStep-others : (swapping : Bool) → (held words (route .m) i ≡ 1 → held words (route .n) i ≡ 0 → ⊥)
-        → isStep (blockStep p words swapping (route .across) (route .m) (route .n) i) ≡ false
-    blockStep-others swapping other =
-        ap isStep (blockStep-none p words (route .across) (route .m) (route .n) i swapping
+    pub blockStep-others : (swapping across : Bool) → (held words (route .m) i ≡ 1 → held words (route .n) i ≡ 0 → ⊥)
+        → isStep (blockStep p words swapping across (route .m) (route .n) i) ≡ false
+    blockStep-others swapping across other =
+        ap isStep (blockStep-none p words across (route .m) (route .n) i swapping
         (λ e. not-so _ (λ t. let s = local-move .0 t in other (s .on) (s .off)))
         (λ e j l. not-so _ (λ t.
         let s = swap-exchange j (rw (cluster-blocks p c (scene .placement .profiles-of .cluster)) l) .0 t in

@@ -3,7 +3,7 @@ use mathlib.Core.Path.{_≡_}
 use mathlib.Core.Bool.{Bool, true, false, not, cond}
 use mathlib.Core.List.{List}
 use mathlib.Core.Logic.{_↔_}
-use Prim.Native.Nat.{ℕ, _+_, _/_, _<_, _≤_}
+use Prim.Native.Nat.{ℕ, _+_, _<_, _≤_}
 use lib.Dec.{eqb}
 use lib.ListN.{getD}
 use Rattle.model.specs.Plan.{Plan, blockCount}
@@ -12,7 +12,7 @@ use Rattle.model.specs.Steps.{Step, none, move, swap, shifted, canMove, canSwap
 use Rattle.theory.specs.Widths.{shareBound, loadBound}
 use Rattle.theory.specs.Steps.{Lowers}
 use Rattle.cluster.specs.declared.Cluster.{Cluster}
-use Rattle.cluster.specs.Cluster.{machinesIn, InRange, ClusterOf}
+use Rattle.cluster.specs.Cluster.{machinesIn, domainIn, InRange, ClusterOf}
 use Rattle.cluster.specs.Blocks.{linkedTo, shareIn, spreadIn, PlacementFits, PlacementOf}
 use Rattle.index.specs.declared.Route.{Route}
 use Rattle.index.specs.Index.{byRank, spot, shareAt, Indexed, AboveAsked}
@@ -50,12 +50,12 @@ HitFound c words Nothing = Unit
 HitFound c words (Move m n i) = Shift c words m n i
 HitFound c words (Swap m n i j) = Shift c words m n i × Shift c words n m j
 
--- Two machines of the cluster, and whether they lie in different racks.
+-- Two machines of the cluster, and whether they lie in different failure domains.
 pub record RouteIn (c : Cluster) (route : Route) : Type 0 where
   pub in-range : InRange c
   pub m-below : route .m < machinesIn c
   pub n-below : route .n < machinesIn c
-  pub across-is : route .across ≡ not (eqb (route .m / c .«rack_size») (route .n / c .«rack_size»))
+  pub parted-is : route .parted ≡ not (eqb (domainIn c (route .m)) (domainIn c (route .n)))
   pub margin-narrow : route .margin < loadBound
 
 -- What is asked about a block that is on m and not on n.
@@ -196,8 +196,8 @@ pub record ExchangeFound (c : Cluster) (words profiles : List ℕ) (route : Rout
 abbrev pub HasRoom : Plan → List ℕ → Bool → ℕ → Type 0
 HasRoom p words swapping n = swapping ≡ false → used p words n < p .capacity
 
--- What is found is what the definition's search finds.
-pub record HitOf (c : Cluster) (words profiles : List ℕ) (route : Route) (swapping : Bool) (wanted : Plan → Step) (r : Hit) : Type 0 where
+-- What is found is what the definition's search finds, whichever kinds the step is of.
+pub record HitOf (c : Cluster) (words profiles : List ℕ) (route : Route) (swapping : Bool) (wanted : Bool → Plan → Step) (r : Hit) : Type 0 where
   pub sound : HitFound c words r
   pub is : (p : Plan) (count : ℕ → ℕ) → RouteScene p count c words profiles route → HasRoom p words swapping (route .n)
-      → hitOf (route .across) r ≡ wanted p
+      → (across : Bool) → hitOf across r ≡ wanted across p

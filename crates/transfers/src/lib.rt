@@ -43,12 +43,13 @@ pub fn is_found(hit: Hit) -> bool
     }
 }
 
-// Whether a block still lies in as many racks as its spread once its copy on m is on n.
+// Whether a block still lies in as many failure domains as its spread once its copy on m is on n. They are counted only where a block
+// with a spread above one changes its domain.
 fn keeps(word: u64, profile: u64, cluster: Cluster, route: Route) -> bool
     requires { ⌜ BlockAsked cluster route word profile ⌝ }
     ensures { λ r. ⌜ KeepsOf cluster route word (spreadIn profile) r ⌝ }
 {
-    if !route.across {
+    if !route.parted {
         return true;
     }
     let spread = cluster::spread_of(profile);
@@ -56,7 +57,7 @@ fn keeps(word: u64, profile: u64, cluster: Cluster, route: Route) -> bool
         return true;
     }
     let moved = bits::shift_bit(word, route.m, route.n);
-    spread <= bits::groups_used(moved, cluster.racks, cluster.rack_size)
+    spread <= bits::domains_used(moved, cluster)
 }
 
 // Whether a block can move from m to n.
@@ -200,7 +201,7 @@ fn first_exchange(
         return cluster.blocks;
     }
     let back = Route {
-        across: route.across,
+        parted: route.parted,
         m: route.n,
         n: route.m,
         margin: route.margin,
@@ -223,7 +224,7 @@ fn find_at(
 ) -> Hit
     requires { ⌜ CandidateAsked cluster (now words) (now profiles) (now index) route i ⌝ }
     ensures { λ r. ⌜ HitOf cluster (now (words .entry)) (now (profiles .entry)) route swapping
-        (λ p. blockStep p (now (words .entry)) swapping (route .across) (route .m) (route .n) i) r ⌝ }
+        (λ across p. blockStep p (now (words .entry)) swapping across (route .m) (route .n) i) r ⌝ }
 {
     let m = route.m;
     let n = route.n;
@@ -254,7 +255,7 @@ pub fn find(
 ) -> Hit
     requires { ⌜ RouteAsked cluster (now words) (now profiles) (now index) route ⌝ }
     ensures { λ r. ⌜ HitOf cluster (now (words .entry)) (now (profiles .entry)) route swapping
-        (λ p. routeStep p (now (words .entry)) swapping (route .across) (route .m) (route .n)) r ⌝ }
+        (λ across p. routeStep p (now (words .entry)) swapping across (route .m) (route .n)) r ⌝ }
 {
     let mut i = index::next(index, BY_NUMBER, route.m, route.n, 0, cluster);
     while i < cluster.blocks {

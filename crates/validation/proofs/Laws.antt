@@ -15,18 +15,18 @@ use Rattle.order.proofs.Sums.{sum-cong, sum-none}
 use Rattle.order.proofs.Booleans.{bool-cases, not-so}
 use Rattle.order.proofs.Ranges.{sum-append}
 use Rattle.order.proofs.Extremes.{allb-cong, allb-step}
-use Rattle.model.specs.Plan.{Plan, machines, domains, blockCount, isPaired, partner}
+use Rattle.model.specs.Plan.{Plan, machines, blockCount, isPaired, partner}
 use Rattle.model.specs.Refusal.{maxMachines}
 use Rattle.model.specs.Replication.{FeasibleCounts, chosen}
 use Rattle.model.specs.Placement.{bit, wordOf, replicas, domainsUsed, allWithin, allSpread, allFit, allApart}
 use Rattle.model.specs.Calls.{allCounted}
-use Rattle.theory.proofs.Placement.{bit-above-from, replicasIn-members, allWithin-iff, allApart-iff}
-use Rattle.theory.proofs.Plan.{member, partner-below, partner-other}
+use Rattle.theory.proofs.Placement.{bit-above-from, allWithin-iff, allApart-iff}
+use Rattle.theory.proofs.Plan.{partner-below, partner-other}
 use Rattle.theory.proofs.Replication.{chosen-laws}
 use Rattle.cluster.specs.declared.Cluster.{Cluster}
 use Rattle.cluster.specs.Cluster.{machinesIn, ClusterOf}
 use Rattle.cluster.specs.Blocks.{linkedTo, mate, countIn, spreadIn, ProfilesOf}
-use Rattle.cluster.proofs.Laws.{cluster-racks, cluster-size, cluster-capacity, cluster-blocks, cluster-machines, mate-paired, mate-single, profiles-count, profiles-spread, profiles-mate}
+use Rattle.cluster.proofs.Laws.{cluster-capacity, cluster-blocks, cluster-machines, mate-paired, mate-single, profiles-count, profiles-spread, profiles-mate}
 use Rattle.loads.specs.declared.Loads.{Loads}
 use Rattle.validation.specs.Validation.{CopiesOf, Apart}
 
@@ -47,11 +47,6 @@ bits-within n M w l h =
     in
     ap (λ (k : ℕ). sum k (bit w)) (sym cut) ∙ sum-append M (n - M) (bit w) ∙ (omega arith)
 
--- the domains that a word lies in, by the members of each
-domains-members : (p : Plan) (w : ℕ) → domainsUsed p w ≡ sum (domains p) (λ d. min 1 (sum (p .rackSize) (λ x. bit w (member p d x))))
-unfolding domainsUsed
-domains-members p w = sum-cong (domains p) _ _ (λ d l. ap (min 1) (replicasIn-members p w d l))
-
 -- row 13
 abbrev pub isWithin : List ℕ → ℕ → ℕ → Bool
 isWithin words M i = ltb (wordOf words i) (2 ^ M)
@@ -61,10 +56,8 @@ abbrev pub isCounted : List ℕ → List ℕ → ℕ → Bool
 isCounted words profiles i = eqb (sum maxMachines (bit (wordOf words i))) (countIn (getD profiles i 0))
 
 -- row 15
-abbrev pub isSpread : List ℕ → List ℕ → Cluster → ℕ → Bool
-isSpread words profiles c i =
-    leb (spreadIn (getD profiles i 0))
-    (sum (c .racks) (λ d. min 1 (sum (c .«rack_size») (λ x. bit (wordOf words i) (d * c .«rack_size» + x)))))
+abbrev pub isSpread : Plan → List ℕ → List ℕ → ℕ → Bool
+isSpread p words profiles i = leb (spreadIn (getD profiles i 0)) (domainsUsed p (wordOf words i))
 
 -- row 16
 abbrev pub isFit : List ℕ → ℕ → ℕ → Bool
@@ -92,13 +85,13 @@ module _ (p : Plan) (words : List ℕ) (c : Cluster) where
         (bits-within maxMachines (machines p) (wordOf words i) (of .cluster .valid .shaped .machines-max) (allWithin-iff p words .0 within i l))
         (profiles-count p (chosen p) c profiles of counts i (in-cluster i l))))
 
-    pub spread-row : allb (c .blocks) (isSpread words profiles c) ≡ allSpread p words
+    pub spread-row : allb (c .blocks) (isSpread p words profiles) ≡ allSpread p words
     unfolding allSpread
     spread-row =
-        rw (cluster-blocks p c (of .cluster), cluster-racks p c (of .cluster), cluster-size p c (of .cluster))
+        rw (cluster-blocks p c (of .cluster))
         (allb-cong (blockCount p) _ _
         (λ i l.
-        ap₂ leb (profiles-spread p (chosen p) c profiles of counts i (in-cluster i l)) (sym (domains-members p (wordOf words i)))))
+        ap (λ (n : ℕ). leb n (domainsUsed p (wordOf words i))) (profiles-spread p (chosen p) c profiles of counts i (in-cluster i l))))
 
     -- row 18
     module _ (within : allWithin p words ≡ true) where

@@ -47,16 +47,14 @@ fn all_counted(words: &[u64], profiles: &[u64], cluster: Cluster) -> bool
     true
 }
 
-// Row 15: whether every block lies in as many racks as its spread says.
+// Row 15: whether every block lies in as many failure domains as its spread says.
 fn all_spread(words: &[u64], profiles: &[u64], cluster: Cluster) -> bool
     requires { ⌜ PlacementFits cluster (now words) (now profiles) ⌝ }
     ensures { λ r. ⌜ ((p : Plan) → ProfilesOf p (chosen p) cluster (now (profiles .entry)) → r ≡ allSpread p (now (words .entry))) ⌝ }
 {
     let mut i: usize = 0;
     while i < cluster.blocks {
-        if bits::groups_used(words[i], cluster.racks, cluster.rack_size)
-            < cluster::spread_of(profiles[i])
-        {
+        if bits::domains_used(words[i], cluster) < cluster::spread_of(profiles[i]) {
             return false;
         }
         i += 1;

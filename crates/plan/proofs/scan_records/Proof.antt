@@ -14,7 +14,7 @@ use Rattle.order.proofs.Searches.{first-none, first-at}
 use Rattle.model.specs.Plan.{Block, blockCount, blockOf, upper, minTotal, planIn}
 use Rattle.model.specs.Refusal.{isRefusal, blockRefusal, blocksRefusal}
 use Rattle.header.specs.Format.{asFormat}
-use Rattle.plan.proofs.Laws.{passed-of, planIn-blocks, planIn-version, planIn-racks, planIn-machines, planIn-records, BlockAt, common-in, block-at}
+use Rattle.plan.proofs.Laws.{passed-of, planIn-blocks, planIn-version, planIn-domains, planIn-machines, planIn-records, BlockAt, common-in, block-at}
 use Rattle.plan.proofs.scan_records.Statement.{statement}
 use Rattle.plan.proofs.scan_records.Tie as tie
 
@@ -58,7 +58,7 @@ code-is c =
     rw (
       here taken .is,
       ← (most-is (c .before)),
-      ← (planIn-racks _ _ (passed-of _ _ (taken .before .before .before .before .before .before .pre))),
+      ← (planIn-domains _ _ (passed-of _ _ (taken .before .before .before .before .before .before .pre))),
       ← (racks .before .min-replicas .ensures .0),
       ← (racks .min-racks .ensures .0),
       c .block-refusal .ensures,

@@ -15,8 +15,8 @@ returns c =
     let start = c .before .before .before .before .before in
     record {
       sound = tt;
-      is = λ p count scene room.
-          routeStep-ruled (start .pre) p count scene (start .args .swapping) (c .before .rules-out .ensures (c .if1 .taken));
+      is = λ p count scene room across.
+          routeStep-ruled (start .pre) p count scene (start .args .swapping) across (c .before .rules-out .ensures (c .if1 .taken));
     }
 
 find-requires : tie.Need-find-requires

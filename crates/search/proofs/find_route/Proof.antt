@@ -6,7 +6,7 @@ use mathlib.Core.Logic.{⊎-elim}
 use borrow.Author.Needs.{needs}
 use borrow.Author.Tests.{not-true, not-false}
 use Rattle.order.proofs.Booleans.{no-contradiction}
-use Rattle.search.proofs.Routes.{kind-asked, kindHere, nothing-other, nothing-level, nothing-full, route-asked, route-found}
+use Rattle.search.proofs.Routes.{kind-asked, parted-asked, kindHere, nothing-other, nothing-level, nothing-full, route-asked, route-found}
 use Rattle.search.proofs.find_route.Statement.{statement}
 use Rattle.search.proofs.find_route.Tie as tie
 
@@ -67,16 +67,23 @@ shared-slice-read-margin-2 c = search needs
 sub-margin : tie.Need-sub-margin
 sub-margin c = search needs
 
+is-parted-requires : tie.Need-is-parted-requires
+is-parted-requires c κs =
+    let e = c .before .before .before .before .before .before .before in
+    parted-asked (e .before .before .before .before .before .before .before .pre)
+
 find-open-requires : tie.Need-find-open-requires
 find-open-requires c κs =
-    let e = c .before .before .before .before .before .before .before in
-    route-asked (e .before .before .before .before .before .before .before .pre) (kind-here e) (c .before .before .before .before .if2 .left)
+    let e = c .before .before .before .before .before .before .before .before in
+    route-asked (e .before .before .before .before .before .before .before .pre) (kind-here e) (c .before .before .before .before .before .if2 .left) _
+    (c .is-parted .ensures)
 
 returns-4 : tie.Need-returns-4
 returns-4 c =
-    let e = c .before .before .before .before .before .before .before .before in
-    route-found (e .before .before .before .before .before .before .before .pre) (kind-here e) (c .before .before .before .before .before .if2 .left) _
-    (λ moving. ⊎-elim (λ w. w .3 .left) (λ w. no-contradiction (sym (not-false _ (w .left)) ∙ moving)) (c .before .before .before .if3 .came))
+    let e = c .before .before .before .before .before .before .before .before .before in
+    route-found (e .before .before .before .before .before .before .before .pre) (kind-here e) (c .before .before .before .before .before .before .if2 .left) _
+    (c .before .is-parted .ensures) _
+    (λ moving. ⊎-elim (λ w. w .3 .left) (λ w. no-contradiction (sym (not-false _ (w .left)) ∙ moving)) (c .before .before .before .before .if3 .came))
     (c .find-open .ensures)
 
 pub find-route-spec : {M : Type 1} → statement M
@@ -98,5 +105,6 @@ find-route-spec =
     mul-margin-2
     shared-slice-read-margin-2
     sub-margin
+    is-parted-requires
     find-open-requires
     returns-4)

@@ -21,13 +21,13 @@ use Rattle.transfers.proofs.find.Tie as tie
 abbrev Fails : Cluster → List ℕ → List ℕ → Route → Bool → ℕ → Type 0
 Fails cluster words profiles route swapping k =
     (p : Plan) (count : ℕ → ℕ) → RouteScene p count cluster words profiles route → HasRoom p words swapping (route .n)
-    → isStep (blockStep p words swapping (route .across) (route .m) (route .n) k) ≡ false
+    → (across : Bool) → isStep (blockStep p words swapping across (route .m) (route .n) k) ≡ false
 
 -- nor at one that is no candidate
 others : {cluster : Cluster} {words profiles : List ℕ} {route : Route} {swapping : Bool} → RouteIn cluster route
     → (k : ℕ) → k < cluster .blocks → (held words (route .m) k ≡ 1 → held words (route .n) k ≡ 0 → ⊥)
     → Fails cluster words profiles route swapping k
-others route-in k l other p count scene room = blockStep-others p count _ _ _ _ scene route-in k l _ other
+others route-in k l other p count scene room across = blockStep-others p count _ _ _ _ scene route-in k l _ across other
 
 abbrev Inv-loop : tie.InvT-loop
 Inv-loop words profiles index cluster route swapping i₀ i = Passed cluster words route (Fails cluster words profiles route swapping) i
@@ -56,15 +56,14 @@ returns : tie.Need-returns Inv-loop μ-loop
 returns c =
     let at = c .before .before .before .before .before in
     let below = c .before .before .before .if1 .taken in
-    let route = at .before .before .before .before .before .args .route in
     let hit = c .before .before .find-at in
     record {
       sound = hit .ensures .sound;
-      is = λ p count scene room.
-          routeStep-found p _ _ _ _ _ (at .loop .i) (hitOf (route .across) (hit .result))
+      is = λ p count scene room across.
+          routeStep-found p _ _ _ _ _ (at .loop .i) (hitOf across (hit .result))
           (placement-block p count _ _ _ (scene .placement) (at .loop .i) below)
-          (λ k l. at .loop .inv .before k l (omega arith) p count scene room)
-          (hit .ensures .is p count scene room) (c .before .is-found .ensures (route .across) ∙ c .if2 .taken);
+          (λ k l. at .loop .inv .before k l (omega arith) p count scene room across)
+          (hit .ensures .is p count scene room across) (c .before .is-found .ensures across ∙ c .if2 .taken);
     }
 
 add-next : tie.Need-add-next Inv-loop μ-loop
@@ -82,9 +81,9 @@ loop-again c =
     let start = at .before .before .before .before .before in
     let asked = start .pre in
     passed-next asked (others (asked .route-in)) (at .loop .inv)
-    (λ p count scene room.
-    rw (c .before .before .before .find-at .ensures .is p count scene room)
-    at (c .before .before .is-found .ensures (start .args .route .across) ∙ c .before .if2 .left))
+    (λ p count scene room across.
+    rw (c .before .before .before .find-at .ensures .is p count scene room across)
+    at (c .before .before .is-found .ensures across ∙ c .before .if2 .left))
     (c .next2 .ensures)
 
 returns-2 : tie.Need-returns-2 Inv-loop μ-loop
@@ -93,9 +92,9 @@ returns-2 c =
     let at = c .before .before in
     record {
       sound = tt;
-      is = λ p count scene room.
+      is = λ p count scene room across.
           let blocks = cluster-blocks p _ (scene .placement .profiles-of .cluster) in
-          routeStep-none p _ _ _ _ _ (λ k l. at .loop .inv .before k (omega arith) (omega arith) p count scene room);
+          routeStep-none p _ _ _ _ _ (λ k l. at .loop .inv .before k (omega arith) (omega arith) p count scene room across);
     }
 
 pub find-spec : {M : Type 1} → statement M

@@ -33,7 +33,7 @@ returns c =
           lacks = found .lacks jl;
         },
       );
-      is = λ p count scene room.
+      is = λ p count scene room across.
           sym (blockStep-swap p _ _ _ _ _ _ (c .before .before .before .if1 .taken) j (placement-block p count _ _ _ (scene .placement) j jl)
           (λ k l. found .passed k l (omega arith) p count scene) (found .found jl p count scene));
     }
@@ -44,7 +44,7 @@ returns-2 c =
     let found = c .before .before .first-exchange .ensures in
     record {
       sound = tt;
-      is = λ p count scene room.
+      is = λ p count scene room across.
           let blocks = cluster-blocks p _ (scene .placement .profiles-of .cluster) in
           sym (blockStep-none p _ _ _ _ _ _ (λ e. no-contradiction (sym (c .before .before .before .if1 .taken) ∙ e))
           (λ e j l. found .passed j (omega arith) (omega arith) p count scene));
@@ -76,7 +76,7 @@ returns-3 c =
     let moves = c .before .before .before .before .if1 .left in
     record {
       sound = tt;
-      is = λ p count scene room.
+      is = λ p count scene room across.
           let told = move-told p count _ _ _ _ scene (asked .asked .route-in) i (asked .i-below) (asked .holds) (asked .lacks) (room moves) in
           let test = c .before .movable .ensures p (lies-at p count _ _ _ (scene .placement) i (asked .i-below)) in
           sym (blockStep-none p _ _ _ _ _ _
@@ -96,7 +96,7 @@ returns-4 c =
     let moves = c .before .before .before .before .before .before .if1 .left in
     record {
       sound = tt;
-      is = λ p count scene room.
+      is = λ p count scene room across.
           let told = move-told p count _ _ _ _ scene (asked .asked .route-in) i (asked .i-below) (asked .holds) (asked .lacks) (room moves) in
           sym (blockStep-none p _ _ _ _ _ _
           (λ e. not-so _ (λ t. no-contradiction (sym (c .before .is-free .ensures .1 (told .0 t .1)) ∙ not-true _ (c .if4 .taken))))
@@ -112,7 +112,7 @@ returns-5 c =
     let moves = c .before .before .before .before .before .before .if1 .left in
     record {
       sound = candidate-shift asked;
-      is = λ p count scene room.
+      is = λ p count scene room across.
           let told = move-told p count _ _ _ _ scene (asked .asked .route-in) i (asked .i-below) (asked .holds) (asked .lacks) (room moves) in
           let test = c .before .before .before .movable .ensures p (lies-at p count _ _ _ (scene .placement) i (asked .i-below)) in
           sym (blockStep-move p _ _ _ _ _ _ moves (told .1 (

@@ -1,10 +1,10 @@
--- `transfers::keeps` meets its contract: inside a rack and at a spread of one nothing can be lost, otherwise the racks are counted.
+-- `transfers::keeps` meets its contract: inside a domain and at a spread of one nothing can be lost, otherwise the domains are counted.
 -- Assumes nothing.
 use mathlib.Core.Path.{refl, ap, sym, _∙_}
 use borrow.Author.Tests.{not-true}
 use Rattle.order.proofs.Booleans.{leb-iff}
 use Rattle.model.specs.Placement.{domainsUsed}
-use Rattle.transfers.proofs.Laws.{kept-inside, kept-one, groups-are}
+use Rattle.transfers.proofs.Laws.{kept-inside, kept-one}
 use borrow.Author.Needs.{needs}
 use Rattle.transfers.proofs.keeps.Statement.{statement}
 use Rattle.transfers.proofs.keeps.Tie as tie
@@ -25,15 +25,15 @@ returns-2 c =
 shift-bit-requires : tie.Need-shift-bit-requires
 shift-bit-requires c κs = search needs
 
-groups-used-requires : tie.Need-groups-used-requires
-groups-used-requires c κs = search needs
+domains-used-requires : tie.Need-domains-used-requires
+domains-used-requires c κs = search needs
 
 returns-3 : tie.Need-returns-3
 returns-3 c =
     λ p lies.
     let moved = c .before .shift-bit in
-    let e = c .groups-used .ensures ∙ groups-are p _ (moved .result) (lies .cluster-of) ∙ ap (domainsUsed p) (moved .ensures) in
-    rw (sym e, sym (c .before .before .before .spread-of .ensures)) (leb-iff _ (c .groups-used .result))
+    let e = c .domains-used .ensures p (lies .cluster-of) ∙ ap (domainsUsed p) (moved .ensures) in
+    rw (sym e, sym (c .before .before .before .spread-of .ensures)) (leb-iff _ (c .domains-used .result))
 
 pub keeps-spec : {M : Type 1} → statement M
 keeps-spec =
@@ -43,5 +43,5 @@ keeps-spec =
     spread-of-requires
     returns-2
     shift-bit-requires
-    groups-used-requires
+    domains-used-requires
     returns-3)
