@@ -17,7 +17,7 @@ use Rattle.model.specs.Listing.{listingRoom, roomRefusal, wrote, listingCall}
 use Rattle.model.specs.Conversion.{converted, convertRefusal, convertVerdict, convertCall}
 use Rattle.theory.proofs.Refusal.{refuseIf-all, refusal-le}
 use Rattle.model.specs.declared.Entry.{Entry}
-use Rattle.model.specs.ReadLog.{readCall, popularityCall}
+use Rattle.model.specs.ReadLog.{check19, readRefusal, readCall, popularityCall}
 use Rattle.theory.proofs.Calls.{placementRefusal-le}
 use Rattle.theory.proofs.Conversion.{convertRefusal-le}
 use Rattle.theory.proofs.ReadLog.{check19-le, readRefusal-le}
@@ -42,7 +42,7 @@ module _ {I A : Type 0} (items : List I) where
   unless-told zero call row told = told
   unless-told (suc code) call row told = record { some = omega arith; row = row }
 
-  verdict-told : (code : ℕ) (p : Plan) (rows : Plan → ℕ) (call : Plan → OutcomeOver I A) → code ≤ 17
+  verdict-told : (code : ℕ) (p : Plan) (rows : Plan → ℕ) (call : Plan → OutcomeOver I A) → code ≤ lastRow
       → (rows p ≤ lastRow) ⊎ (rows p ≡ shortOut) → Told (call p .answer) → Told (onPlan (verdict code p) items rows call .answer)
   unfolding onPlan
   verdict-told zero p rows call l row told = unless-told (rows p) (call p) row told
@@ -88,7 +88,7 @@ effect-tells need numbers items out call told =
     ]
 
 -- the verdict's code
-verdict-known : (code : ℕ) (p : Plan) → code ≤ 17 → (verdictCode (verdict code p) ≡ 0) ⊎ RefusalCode (verdictCode (verdict code p))
+verdict-known : (code : ℕ) (p : Plan) → code ≤ lastRow → (verdictCode (verdict code p) ≡ 0) ⊎ RefusalCode (verdictCode (verdict code p))
 unfolding verdictCode
 verdict-known zero p l = inl refl
 verdict-known (suc code) p l = inr (record { some = omega arith; row = inl (omega arith) })
@@ -158,11 +158,11 @@ module _ (plan items out : List ℕ) (budget : ℕ) where
 module _ (plan : List ℕ) (list : List Entry) (out : List ℕ) (block tick count : ℕ) where
   read-told : Told (readCall plan block tick list count .answer)
   unfolding readCall
-  read-told = plan-told list plan _ _ (readRefusal-le block tick list count (planIn plan)) tt
+  read-told = plan-told list plan (readRefusal block tick list count) _ (le-trans (readRefusal-le block tick list count (planIn plan)) (lit≤ tt)) tt
 
   popularity-told : Told (popularityCall plan block list count .answer)
   unfolding popularityCall
-  popularity-told = plan-told list plan _ _ (check19-le block (blockCount (planIn plan)) 0 (lit≤ tt)) tt
+  popularity-told = plan-told list plan (λ p. check19 block (blockCount p) 0) _ (le-trans (check19-le block (blockCount (planIn plan)) 0 (lit≤ tt)) (lit≤ tt)) tt
 
   pub read-codes : ReadCodes plan list out block tick count
   read-codes = record { read-tells = effect-tells _ _ list out _ read-told; popularity-tells = effect-tells _ _ list out _ popularity-told }

@@ -30,6 +30,7 @@ newRecords-read bytes h new old e is =
 
 -- the new file is the new header and the new records
 pub converted-parts : (bytes : List ℕ) (h : Header)
-    → converted (planOf bytes h) ≡ headerWith writtenVersion h ++ newRecords (formatOf writtenVersion) (planOf bytes h)
+    → converted (planOf bytes h)
+    ≡ headerWith writtenVersion (formatOf writtenVersion) h ++ newRecords (formatOf writtenVersion) (planOf bytes h)
 unfolding converted planBytes headerBytes headerWith planOf
 converted-parts bytes h = rw (planOf-blocks bytes h)

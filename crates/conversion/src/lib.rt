@@ -44,7 +44,7 @@ fn put_plan(bytes: &[u8], h: Header, new: Format, buffer: &mut [u8]) -> usize
     requires { ⌜ PlanAsked (now bytes) h (asFormat new) (now buffer) ⌝ }
     ensures { λ r. ⌜ Put 0 (converted (planOf (now (bytes .entry)) h)) (now (buffer .entry)) (now (buffer .exit)) r ⌝ }
 {
-    let next = encoding::put_header(h, WRITTEN_VERSION, buffer);
+    let next = encoding::put_header(h, WRITTEN_VERSION, new, buffer);
     put_records(bytes, h, new, buffer, next)
 }
 

@@ -18,13 +18,14 @@ numberAt widths numbers i = bytesOf (getD widths i 0) (getD numbers i 0)
 unfoldable pub numbersBytes : List ℕ → List ℕ → List ℕ
 numbersBytes widths numbers = joined (length widths) (numberAt widths numbers)
 
--- The header of a version with a read header's fields.
-unfoldable pub headerWith : ℕ → Header → List ℕ
-headerWith version h =
+-- The header of a version, in its format, with a read header's fields.
+unfoldable pub headerWith : ℕ → Format → Header → List ℕ
+headerWith version f h =
     bytesOf 3 mark
     ++ bytesOf 2 version
     ++ bytesOf 1 (h .cluster .racks)
     ++ bytesOf 1 (h .cluster .«rack_size»)
+    ++ bytesOf (f .feedsWidth) (h .cluster .feeds)
     ++ bytesOf 2 (h .cluster .capacity)
     ++ bytesOf 4 (h .budget)
     ++ bytesOf 2 (h .cluster .blocks)

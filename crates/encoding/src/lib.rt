@@ -37,18 +37,19 @@ fn put_numbers(buffer: &mut [u8], at: usize, widths: &[usize], numbers: &[u64]) 
     next
 }
 
-// Puts the header's fields, with a version.
-pub fn put_header(h: Header, version: usize, buffer: &mut [u8]) -> usize
-    requires { ⌜ Room 0 (headerWith version h) (now buffer) ⌝ }
-    ensures { λ r. ⌜ Put 0 (headerWith version h) (now (buffer .entry)) (now (buffer .exit)) r ⌝ }
+// Puts the header's fields, with a version and in its format.
+pub fn put_header(h: Header, version: usize, new: Format, buffer: &mut [u8]) -> usize
+    requires { ⌜ Room 0 (headerWith version (asFormat new) h) (now buffer) ⌝ }
+    ensures { λ r. ⌜ Put 0 (headerWith version (asFormat new) h) (now (buffer .entry)) (now (buffer .exit)) r ⌝ }
 {
     let cluster = h.cluster;
-    let widths = [3, 2, 1, 1, 2, 4, 2];
+    let widths = [3, 2, 1, 1, new.feeds_width, 2, 4, 2];
     let numbers = [
         MARK,
         version as u64,
         cluster.racks as u64,
         cluster.rack_size as u64,
+        cluster.feeds as u64,
         cluster.capacity as u64,
         h.budget as u64,
         cluster.blocks as u64,

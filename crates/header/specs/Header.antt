@@ -16,8 +16,8 @@ use Rattle.header.specs.declared.HeaderAnswer.{HeaderAnswer}
 use Rattle.header.specs.declared.HeaderAnswer.the-variants.{Refused, Passed}
 
 -- The header's fields, as the structs have them, with so many blocks.
-abbrev pub clusterWith : ℕ → List ℕ → Cluster
-clusterWith count bytes =
+abbrev pub clusterCounted : ℕ → List ℕ → Cluster
+clusterCounted count bytes =
     record {
       racks = racksIn bytes;
       «rack_size» = rackSizeIn bytes;
@@ -26,11 +26,11 @@ clusterWith count bytes =
       blocks = count;
     }
 
-unfoldable pub headerWith : ℕ → List ℕ → Header
-headerWith count bytes = record { version = versionIn bytes; cluster = clusterWith count bytes; budget = budgetIn bytes }
+unfoldable pub headerCounted : ℕ → List ℕ → Header
+headerCounted count bytes = record { version = versionIn bytes; cluster = clusterCounted count bytes; budget = budgetIn bytes }
 
 abbrev pub headerIn : List ℕ → Header
-headerIn bytes = headerWith (blockCountIn bytes) bytes
+headerIn bytes = headerCounted (blockCountIn bytes) bytes
 
 -- B, and 0 where one of its bytes is missing.
 unfoldable pub countIn : List ℕ → ℕ

@@ -8,7 +8,7 @@ ghost use lib.ListN.{length};
 ghost use Rattle.model.specs.Plan.{field, commonLength, formatOf, formatIn, feedsIn, recordAt};
 ghost use Rattle.model.specs.Refusal.{orElse, maxBlocks};
 ghost use Rattle.header.specs.Format.{asFormat, FormatFits};
-ghost use Rattle.header.specs.Header.{countIn, headerWith, HallRows, SizeRows, Narrow, FieldsAsked, SizesAsked, MarkChecked, HeaderChecked};
+ghost use Rattle.header.specs.Header.{countIn, headerCounted, HallRows, SizeRows, Narrow, FieldsAsked, SizesAsked, MarkChecked, HeaderChecked};
 
 // The bytes that every version's header has, the mark, the latest version, and the most copies that a machine can be said to hold.
 const COMMON_LENGTH: usize = 15;
@@ -221,7 +221,7 @@ fn count_in(bytes: &[u8], format: Format) -> usize
 
 fn fields(bytes: &[u8], format: Format) -> Header
     requires { ⌜ FieldsAsked (now bytes) format ⌝ }
-    ensures { λ r. ⌜ (r ≡ headerWith (countIn (now (bytes .entry))) (now (bytes .entry))) × Narrow r ⌝ }
+    ensures { λ r. ⌜ (r ≡ headerCounted (countIn (now (bytes .entry))) (now (bytes .entry))) × Narrow r ⌝ }
 {
     let shift = format.feeds_width;
     let cluster = Cluster {

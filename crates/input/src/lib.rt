@@ -5,7 +5,7 @@ ghost use Rattle.libc.specs.Io.{Moved};
 ghost use Rattle.input.specs.Input.{inputOf, SourceIs};
 
 // One byte more than the largest plan has. Of a longer input no more is read: it is judged as it would be in full.
-const INPUT_ROOM: usize = 7184;
+const INPUT_ROOM: usize = 7185;
 
 // What the reads say of the input: one failed, or the end came after so many bytes, or the buffer is full.
 pub enum Input {

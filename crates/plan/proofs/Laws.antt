@@ -18,7 +18,7 @@ use Rattle.cluster.specs.Blocks.{demandOf, DemandsOf}
 use Rattle.cluster.proofs.Laws.{cluster-range}
 use Rattle.header.specs.declared.Header.{Header}
 use Rattle.header.specs.Format.{FormatFits}
-use Rattle.header.specs.Header.{headerWith, headerIn, PassedAs}
+use Rattle.header.specs.Header.{headerCounted, headerIn, PassedAs}
 use Rattle.header.proofs.Laws.{formatOf-fits}
 use Rattle.records.specs.Records.{RecordIn, RecordsIn, RecordsOf}
 use Rattle.records.proofs.Laws.{record-in}
@@ -28,7 +28,7 @@ use Rattle.plan.specs.Reading.{planOf, AcceptedHeader}
 
 -- with the header that was read, it is the plan that the bytes hold
 pub planOf-in : (bytes : List ℕ) (h : Header) → h ≡ headerIn bytes → planOf bytes h ≡ planIn bytes
-unfolding planOf planIn headerWith
+unfolding planOf planIn headerCounted
 planOf-in bytes h e = ap (planOf bytes) e
 
 module _ (bytes : List ℕ) (h : Header) where

@@ -145,7 +145,7 @@ module _ (p : Plan) (shaped : Shaped p) (words : List ℕ) (count : ℕ → ℕ)
     domain-load : (d : ℕ) → d < domains p
         → sum (domainSize p) (λ x. load p words (member p d x)) ≡ sum (blockCount p) (λ g. shareOf p words g * item p (copies d) g)
     domain-load d l =
-        load-domain p words d l
+        load-domain p shaped words d l
         ∙ sum-cong (blockCount p) _ _ (λ i h. mul-comm (shareOf p words i) (copies d i))
         ∙ sym (item-weight p shaped (copies d) (shareOf p words) even-share)
         ∙ sum-cong (blockCount p) _ _ (λ g h. mul-comm (item p (copies d) g) (shareOf p words g))
@@ -153,7 +153,7 @@ module _ (p : Plan) (shaped : Shaped p) (words : List ℕ) (count : ℕ → ℕ)
     domain-item : (d : ℕ) → d < domains p → (g : ℕ)
         → item p (copies d) g ≡ sum (domainSize p) (λ x. item p (held words (member p d x)) g)
     domain-item d l g =
-        item-cong p (copies d) (λ i. sum (domainSize p) (λ x. held words (member p d x) i)) (λ i. replicasIn-members p (wordOf words i) d l) g
+        item-cong p (copies d) (λ i. sum (domainSize p) (λ x. held words (member p d x) i)) (λ i. replicasIn-members p shaped (wordOf words i) d l) g
         ∙ item-exchange p shaped (domainSize p) (λ x. held words (member p d x)) g
 
     -- of two domains, not every machine of one exceeds every machine of the other by more than a share and the slack: a block with
@@ -175,13 +175,13 @@ module _ (p : Plan) (shaped : Shaped p) (words : List ℕ) (count : ℕ → ℕ)
         holder : (i : ℕ) → 0 < copies r i → (x : ℕ) × (x < domainSize p) × (0 < held words (member p r x) i)
         holder i some =
             sum-index (domainSize p) (λ x. 0) (λ x. held words (member p r x) i)
-            (rw (sum-none (domainSize p), ← replicasIn-members p (wordOf words i) r r-lt) some)
+            (rw (sum-none (domainSize p), ← replicasIn-members p shaped (wordOf words i) r r-lt) some)
 
         empty : (g : ℕ) → g < blockCount p → item p (copies t) g < item p (copies r) g
             → (y : ℕ) × (y < domainSize p) × (item p (held words (member p t y)) g < 1)
         empty g l fewer =
             let most = sum-mono (domainSize p) (λ x. item p (held words (member p r x)) g) (λ x. 1)
-            (λ x h. item-bit p shaped count words feasible (member p r x) (member-lt p r x r-lt h) g l)
+            (λ x h. item-bit p shaped count words feasible (member p r x) (member-lt p shaped r x r-lt h) g l)
             in
             sum-index (domainSize p) (λ y. item p (held words (member p t y)) g) (λ y. 1)
             (omega (arith, most, fewer, domain-item t t-lt g, domain-item r r-lt g))
@@ -192,14 +192,14 @@ module _ (p : Plan) (shaped : Shaped p) (words : List ℕ) (count : ℕ → ℕ)
         found g i l within pos fewer (x, x-lt, some) (y, y-lt, none) =
             let a = member p r x in
             let b = member p t y in
-            let a-lt = member-lt p r x r-lt x-lt in
-            let b-lt = member-lt p t y t-lt y-lt in
+            let a-lt = member-lt p shaped r x r-lt x-lt in
+            let b-lt = member-lt p shaped t y t-lt y-lt in
             let below = within-below p shaped g i l within in
             let share = within-same p shaped g i l (shareOf p words) even-share within in
             let clear = within-clear p shaped g i l (held words b) (omega arith) within in
             let on : held words a i ≡ 1 = omega (arith, bit-le (wordOf words i) a) in
             let kept = domainsUsed-shift-across p (wordOf words i) a b a-lt b-lt on (clear .0) shaped
-            (rw (member-domain p t y t-lt y-lt, member-domain p r x r-lt x-lt) fewer)
+            (rw (member-domain p shaped t y t-lt, member-domain p shaped r x r-lt) fewer)
             in
             let settle = settled .no-move a b i a-lt b-lt below on (clear .0) (room b b-lt) (rw share pos)
             (le-trans (feasible .spread i below) kept) (clear .1)
@@ -220,12 +220,12 @@ module _ (p : Plan) (shaped : Shaped p) (words : List ℕ) (count : ℕ → ℕ)
         far : load p words n + 3 * (maxShare p words + slack) < load p words m → (x y : ℕ) → x < domainSize p → y < domainSize p
             → load p words (member p (domain p n) y) + (maxShare p words + slack) < load p words (member p (domain p m) x)
         far more x y l h =
-            let r-lt = domain-lt p shaped m m-lt in
-            let t-lt = domain-lt p shaped n n-lt in
+            let r-lt = domain-lt p shaped m in
+            let t-lt = domain-lt p shaped n in
             omega (
               arith,
-              near-inside m (member p (domain p m) x) m-lt (member-lt p (domain p m) x r-lt l) (sym (member-domain p (domain p m) x r-lt l)),
-              near-inside (member p (domain p n) y) n (member-lt p (domain p n) y t-lt h) n-lt (member-domain p (domain p n) y t-lt h),
+              near-inside m (member p (domain p m) x) m-lt (member-lt p shaped (domain p m) x r-lt l) (sym (member-domain p shaped (domain p m) x r-lt)),
+              near-inside (member p (domain p n) y) n (member-lt p shaped (domain p n) y t-lt h) n-lt (member-domain p shaped (domain p n) y t-lt),
             )
 
         go : Dec (load p words m ≤ load p words n + 3 * (maxShare p words + slack))
@@ -233,14 +233,14 @@ module _ (p : Plan) (shaped : Shaped p) (words : List ℕ) (count : ℕ → ℕ)
         go (yes le) = le
         go (no more) =
             absurd
-            (domains-near (domain p m) (domain p n) (domain-lt p shaped m m-lt) (domain-lt p shaped n n-lt) (far (omega arith)))
+            (domains-near (domain p m) (domain p n) (domain-lt p shaped m) (domain-lt p shaped n) (far (omega arith)))
 
 -- the total load is that of every lawful placement
 totals : (p : Plan) → Valid p → (words other : List ℕ) (count count' : ℕ → ℕ) → Feasible p count words → Feasible p count' other
     → totalLoad p words ≡ totalLoad p other
 totals p valid words other count count' f f' = loads-total p valid count words f ∙ sym (loads-total p valid count' other f')
 
--- Where every spread is one, a copy may be shifted between any two machines, as it lies in a rack wherever it is. A pair counts as one
+-- Where every spread is one, a copy may be shifted between any two machines, as it lies in a domain wherever it is. A pair counts as one
 -- item, so an item that only one of two machines holds meets no partner on the other. So no load is more than a share (and the slack)
 -- above another. Let X be the largest load. Each of the M - 1 other loads is at least X less a share,
 -- so M × X is at most the total and M - 1 shares; and the total, the same for every lawful placement, is at most M times the largest

@@ -7,7 +7,7 @@ use mathlib.Core.List.{List, []}
 use Prim.Native.Nat.{ℕ, _≤_}
 use native.Mathlib.Nat.{le-trans}
 use native.Mathlib.Omega.{arith}
-use borrow.Author.Tests.{le-ltb}
+use borrow.Author.Tests.{lt-ltb, le-ltb}
 use lib.Dec.{ltb, eqb, lit<}
 use lib.ListN.{length}
 use Rattle.order.specs.Table.{table, joined}
@@ -25,7 +25,7 @@ use Rattle.theory.proofs.Refusal.{refuseIf-zero, check3-read, verdict-accepted,
 use Rattle.theory.proofs.WritingPlan.{reads-written, accepted-fits}
 use Rattle.theory.proofs.Conversion.{converted-length, convertVerdict-judged, convertCall-short, convertCall-refused}
 use Rattle.theorems.specs.Trials.{plan-H, plan-full}
-use Rattle.theorems.specs.Versions.{verdictWith}
+use Rattle.theorems.specs.Versions.{verdictWith, Twins}
 use Rattle.theorems.specs.Conversion.{OldPlan, Converts, Conversions, wide-H, ConversionExamples}
 use Rattle.theorems.proofs.Trials.{trials}
 use Rattle.theorems.proofs.Versions.{limits, same-answers}
@@ -61,7 +61,7 @@ module _ (bytes : List ℕ) (p : Plan) where
       ∙ t .accepts
 
 -- ── Converts ─────────────────────────────────────────────────────────────────────────────────────
--- a valid plan is valid in the version that is written, which allows no fewer copies
+-- a valid plan is valid in version 3, which allows no fewer copies
 written-limit : (version : ℕ) → maxReplicas version ≤ maxReplicas writtenVersion
 written-limit version = rw (← (maxReplicas-later writtenVersion (omega arith))) (maxReplicas-most version)
 
@@ -74,6 +74,8 @@ written-valid p v =
           record {
             racks-pos = s .racks-pos;
             size-pos = s .size-pos;
+            feeds-pos = s .feeds-pos;
+            feeds-divide = s .feeds-divide;
             machines-max = s .machines-max;
             capacity-pos = s .capacity-pos;
             capacity-max = s .capacity-max;
@@ -96,7 +98,7 @@ written-valid p v =
       in-places = v .in-places;
     }
 
--- an older version's block fits the wider record
+-- any version's block fits its record
 block-wider : (version : ℕ) (b : Block) → BlockFits (formatOf version) b → BlockFits (formatOf writtenVersion) b
 unfolding formatOf
 block-wider version b fits =
@@ -111,23 +113,36 @@ block-wider version b fits =
           (cond-all (λ n. n ≤ 1) (ltb version 2) 0 1 (λ e. omega arith) (omega arith));
     }
 
-written-fits : (p : Plan) → PlanFits p → PlanFits (withVersion writtenVersion p)
-written-fits p fits =
+written-fits : (p : Plan) → PlanFits p → p .feeds ≡ p .racks → PlanFits (withVersion writtenVersion p)
+written-fits p fits feeds =
     record {
       version-pos = omega arith;
       version-max = omega arith;
+      feeds-racks = λ none. feeds;
       budget-fits = fits .budget-fits;
       block-fits = λ i l. block-wider (p .version) (blockOf p i) (fits .block-fits i l);
     }
 
+-- an accepted plan with F = R is accepted in version 3
+written-accepted : (bytes : List ℕ) → AreBytes bytes → (p : Plan) → judge bytes ≡ accepted p → p .feeds ≡ p .racks
+    → judge (planBytes (withVersion writtenVersion p)) ≡ accepted (withVersion writtenVersion p)
+written-accepted bytes each p e feeds =
+    reads-written (withVersion writtenVersion p) (written-valid p (accepted-laws bytes p e .valid)) (written-fits p (accepted-fits bytes each p e) feeds)
+
+-- before version 4, F is R
+no-feeds : (version : ℕ) → version ≤ convertedVersion → formatOf version .feedsWidth ≡ 0
+unfolding formatOf
+no-feeds version l = rw (lt-ltb version 4 (omega arith))
+
 converts : (bytes : List ℕ) → AreBytes bytes → (p : Plan) → convertVerdict bytes ≡ accepted p → Converts bytes p
 unfolding converted inputRoom
 converts bytes each p e =
-    let old = taken bytes p e .accepts in
+    let taken-plan = taken bytes p e in
+    let old = taken-plan .accepts in
     let laws = accepted-laws bytes p old in
     let valid = laws .valid in
-    let new : judge (converted p) ≡ accepted (withVersion writtenVersion p) =
-    reads-written (withVersion writtenVersion p) (written-valid p valid) (written-fits p (accepted-fits bytes each p old)) in
+    let feeds = accepted-fits bytes each p old .feeds-racks (no-feeds (p .version) (taken-plan .version-max)) in
+    let new : judge (converted p) ≡ accepted (withVersion writtenVersion p) = written-accepted bytes each p old feeds in
     let longest = formatOf-longest writtenVersion (blockCount p) maxBlocks (valid .shaped .blocks-max) in
     record {
       accepts = new;
@@ -135,6 +150,19 @@ converts bytes each p e =
           same-answers writtenVersion bytes (converted p) (new ∙ sym (ap (verdictWith writtenVersion) old))
           (λ q accepts. limits .few (q .version) writtenVersion (machines q) (subst (λ (r : Plan). machines r ≤ 8) (laws .held ∙ sym (accepted-laws bytes q accepts .held)) few));
       fits = omega (arith, converted-length p);
+    }
+
+-- ── Twins ────────────────────────────────────────────────────────────────────────────────────────
+pub twins : Twins
+twins bytes each p e version feeds =
+    let new = written-accepted bytes each p e feeds in
+    record {
+      accepts = new;
+      same =
+          same-answers 3 bytes (planBytes (withVersion 3 p)) (new ∙ sym (ap (verdictWith 3) e))
+          (λ q accepts.
+          let same : p ≡ q = accepted-laws bytes p e .held ∙ sym (accepted-laws bytes q accepts .held) in
+          rw (sym (ap (λ (r : Plan). r .version) same) ∙ version) (limits .later (machines q)));
     }
 
 pub conversions : Conversions

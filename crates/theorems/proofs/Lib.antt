@@ -12,6 +12,7 @@ pub mod ClaimCases
 pub mod Histories
 pub mod Trials
 pub mod RowExamples
+pub mod Feeds
 pub mod ReadExamples
 pub mod Versions
 pub mod Ties

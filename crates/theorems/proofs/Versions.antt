@@ -7,13 +7,13 @@ use mathlib.Core.List.{List}
 use Prim.Native.Nat.{ℕ, zero, suc, _*_, _/_, _≤_, min}
 use native.Mathlib.Omega.{arith}
 use borrow.Author.Tests.{le-ltb, eq-eqb}
-use lib.Dec.{leb, eqb}
+use lib.Dec.{leb, ltb, eqb}
 use lib.ListN.{length}
 use Rattle.order.specs.Sum.{sum}
 use Rattle.order.specs.Search.{allb}
 use Rattle.order.proofs.Tables.{table-cong}
-use Rattle.model.specs.Plan.{Plan, machines, blockCount, maxReplicas, upper, isPaired, pairsBack, pairsNext, partner, minTotal, markIn, versionIn, racksIn, rackSizeIn, capacityIn, blockCountIn, latestVersion, formatOf, recordAt, blockIn, planIn}
-use Rattle.model.specs.Refusal.{check1, check2, check4, check5, check6, check7, blockRefusal, blocksRefusal, pairRefusal, pairsRefusal, planRefusal, refusal, Verdict, refused, accepted, verdict, judge}
+use Rattle.model.specs.Plan.{Plan, machines, blockCount, maxReplicas, upper, isPaired, pairsBack, pairsNext, partner, minTotal, markIn, versionIn, racksIn, rackSizeIn, feedsIn, capacityIn, blockCountIn, latestVersion, formatOf, formatIn, recordAt, blockIn, planIn}
+use Rattle.model.specs.Refusal.{refuseIf, maxBlocks, check1, check2, check4, check22, check5, check7, blockRefusal, blocksRefusal, pairRefusal, pairsRefusal, planRefusal, refusal, Verdict, refused, accepted, verdict, judge}
 use Rattle.model.specs.Replication.{limit, largestShare, need, reachable, figure, chosen}
 use Rattle.model.specs.Placement.{countOf, replicas, replicasIn, domainsUsed, used, allWithin, allSpread, allFit, keptApart, allApart, countsFeasible, isFeasible, position, laidWord, firstWord, firstPlacement, shareOf, load, maxLoad, minLoad, totalLoad, maxShare}
 use Rattle.model.specs.Steps.{after, improves, canMove, canSwap, routes, nextMove, nextSwap, nextStep, run}
@@ -21,7 +21,7 @@ use Rattle.model.specs.Calls.{Outcome, onPlan, bufferRefusal, allCounted, place
 use Rattle.model.specs.Listing.{planLine, blockLine, lastLine, listingOf, printedOf, printed}
 use Rattle.model.specs.Conversion.{withVersion}
 use Rattle.theory.proofs.Plan.{maxReplicas-least, upper-limit}
-use Rattle.theory.proofs.Refusal.{check3-read, accepted-laws}
+use Rattle.theory.proofs.Refusal.{check3-read, check6-long, accepted-laws}
 use Rattle.theorems.specs.Versions.{verdictWith, SameLimit, Limits, VersionsFree, Described, SameFields, SameAnswers, Versions}
 
 -- ── Limits ───────────────────────────────────────────────────────────────────────────────────────
@@ -30,6 +30,7 @@ unfolding maxReplicas
 limits =
     record {
       early = λ machines. refl;
+      later = λ machines. refl;
       few = λ from to machines l. omega (arith, maxReplicas-least from, maxReplicas-least to);
     }
 
@@ -112,26 +113,43 @@ rows-between : (bytes : List ℕ) (version : ℕ) → versionIn bytes ≡ versio
     → length bytes ≡ recordAt (formatOf version) (blockCountIn bytes)
     → refusal bytes
     ≡ check2 (markIn bytes)
-    (check4 (racksIn bytes) (rackSizeIn bytes) (check5 (capacityIn bytes) (check6 (blockCountIn bytes) (planRefusal (planIn bytes)))))
-unfolding refusal check1 check7 formatOf
+    (check4 (racksIn bytes) (rackSizeIn bytes)
+    (check22 (racksIn bytes) (feedsIn bytes)
+    (check5 (capacityIn bytes) (refuseIf (ltb maxBlocks (blockCountIn bytes)) 6 (planRefusal (planIn bytes))))))
+unfolding refusal check1 check7
 rows-between bytes version is described sized =
-    rw (le-ltb (length bytes) 15 (omega arith), is, check3-read latestVersion version _ (described .version-pos) (described .version-max), eq-eqb (length bytes) (recordAt (formatOf version) (blockCountIn bytes)) sized)
+    let f = formatIn bytes in
+    let count = blockCountIn bytes in
+    let whole : length bytes ≡ recordAt f count = sized ∙ ap (λ (v : ℕ). recordAt (formatOf v) count) (sym is) in
+    rw (
+      le-ltb (length bytes) 15 (omega arith),
+      check3-read latestVersion (versionIn bytes) _ (rw is (described .version-pos)) (rw is (described .version-max)),
+      check6-long f (length bytes) count _ (omega arith),
+      eq-eqb (length bytes) (recordAt f count) whole,
+    )
 
 module _ (from to : ℕ) (read-from : Described from) (read-to : Described to) (old new : List ℕ) (same : SameFields from to old new)
     (limit-same : SameLimit from to (racksIn old * rackSizeIn old)) where
   plans : planIn new ≡ withVersion to (planIn old)
   unfolding planIn
   plans =
-      let records = table-cong (blockCountIn old) (blockIn (formatOf to) new) (blockIn (formatOf from) old) (same .records-same) in
+      let count = blockCountIn old in
+      let records =
+      table-cong count (blockIn (formatIn new) new) (blockIn (formatIn old) old)
+      (λ i l.
+      ap (λ (v : ℕ). blockIn (formatOf v) new i) (same .new-version)
+      ∙ same .records-same i l
+      ∙ ap (λ (v : ℕ). blockIn (formatOf v) old i) (sym (same .old-version)))
+      in
       rw (
-        same .new-version,
-        same .old-version,
-        same .racks-same,
-        same .size-same,
+        same .feeds-same,
         same .capacity-same,
         same .budget-same,
         same .blocks-same,
         records,
+        same .new-version,
+        same .racks-same,
+        same .size-same,
       )
 
   plan-limit : (p : Plan) → p ≡ planIn old → SameLimit (p .version) to (machines p)
@@ -141,7 +159,7 @@ module _ (from to : ℕ) (read-from : Described from) (read-to : Described to) (
   refusals : refusal new ≡ refusal old
   refusals =
       rows-between new to (same .new-version) read-to (rw (same .blocks-same) (same .new-length))
-      ∙ (rw (same .mark-same, same .racks-same, same .size-same, same .capacity-same, same .blocks-same, plans, planRefusal-free to (planIn old) (plan-limit (planIn old) refl)))
+      ∙ (rw (plans, same .mark-same, same .feeds-same, same .capacity-same, same .blocks-same, same .racks-same, same .size-same, planRefusal-free to (planIn old) (plan-limit (planIn old) refl)))
       ∙ sym (rows-between old from (same .old-version) read-from (same .old-length))
 
   verdicts : judge new ≡ verdictWith to (judge old)

@@ -7,6 +7,7 @@ pub mod Claim
 pub mod Histories
 pub mod Trials
 pub mod RowExamples
+pub mod Feeds
 pub mod ReadExamples
 pub mod Versions
 pub mod Ties

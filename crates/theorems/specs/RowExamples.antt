@@ -100,6 +100,7 @@ pub record RowExamples : Type 0 where
         version = 1;
         racks = 2;
         rackSize = 2;
+        feeds = 2;
         capacity = 3;
         budget = 8;
         blocks =

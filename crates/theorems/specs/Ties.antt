@@ -31,6 +31,7 @@ tied =
       version = 1;
       racks = 1;
       rackSize = 3;
+      feeds = 1;
       capacity = 12;
       budget = 12;
       blocks = replicate 12 (record { popularity = 1; minReplicas = 1; minRacks = 1; pairByte = 0 });

@@ -1,17 +1,19 @@
--- Document 02, U1, U4 and U5: plans of two versions with the same fields are equal but for the version, and what a call answers goes by
+-- Document 02, U1 and U4 to U6: plans of two versions with the same fields are equal but for the version, and what a call answers goes by
 -- the version's most copies alone: where both versions allow as many, all calls answer the same.
 use mathlib.Core.Path.{_≡_}
 use mathlib.Core.List.{List}
 use Prim.Native.Nat.{ℕ, _*_, _<_, _≤_, min}
 use lib.ListN.{length}
-use Rattle.model.specs.Plan.{Plan, machines, maxReplicas, markIn, versionIn, racksIn, rackSizeIn, capacityIn, budgetIn, blockCountIn, latestVersion, formatOf, recordAt, blockIn}
+use Rattle.model.specs.Plan.{Plan, machines, maxReplicas, markIn, versionIn, racksIn, rackSizeIn, feedsIn, capacityIn, budgetIn, blockCountIn, latestVersion, formatOf, recordAt, blockIn}
 use Rattle.model.specs.Refusal.{Verdict, refused, accepted, judge}
 use Rattle.model.specs.Replication.{chosen}
 use Rattle.model.specs.Placement.{firstPlacement}
 use Rattle.model.specs.Steps.{nextStep, run}
 use Rattle.model.specs.Calls.{countsCall, firstCall, checkCall, reportCall, stepCall, runCall}
 use Rattle.model.specs.Listing.{listingOf, printed}
+use Rattle.model.specs.Writing.{planBytes}
 use Rattle.model.specs.Conversion.{withVersion}
+use Rattle.theory.specs.Writing.{AreBytes}
 
 -- The verdict that accepts the same plan in another version.
 abbrev pub verdictWith : ℕ → Verdict → Verdict
@@ -22,9 +24,10 @@ verdictWith version (accepted p) = accepted (withVersion version p)
 abbrev pub SameLimit : ℕ → ℕ → ℕ → Type 0
 SameLimit from to machines = min (maxReplicas to) machines ≡ min (maxReplicas from) machines
 
--- Versions 1 and 2 do on any number of machines, and all versions on up to 8.
+-- Versions 1 and 2 do on any number of machines, versions 3 and 4, too, and all versions on up to 8.
 pub record Limits : Type 0 where
   pub early : (machines : ℕ) → SameLimit 1 2 machines
+  pub later : (machines : ℕ) → SameLimit 4 3 machines
   pub few : (from to machines : ℕ) → machines ≤ 8 → SameLimit from to machines
 
 -- What a plan says is the same in another version.
@@ -45,13 +48,14 @@ pub record Described (version : ℕ) : Type 0 where
   pub version-max : version ≤ latestVersion
 
 -- Bytes of one version, and bytes of another with the same fields, each as long as its version wants. A record without a pair byte equals
--- one whose pair byte is 0.
+-- one whose pair byte is 0, and a header without F one whose F is R.
 pub record SameFields (from to : ℕ) (old new : List ℕ) : Type 0 where
   pub mark-same : markIn new ≡ markIn old
   pub old-version : versionIn old ≡ from
   pub new-version : versionIn new ≡ to
   pub racks-same : racksIn new ≡ racksIn old
   pub size-same : rackSizeIn new ≡ rackSizeIn old
+  pub feeds-same : feedsIn new ≡ feedsIn old
   pub capacity-same : capacityIn new ≡ capacityIn old
   pub budget-same : budgetIn new ≡ budgetIn old
   pub blocks-same : blockCountIn new ≡ blockCountIn old
@@ -75,3 +79,14 @@ Versions =
     (from to : ℕ) → Described from → Described to → (old new : List ℕ) → SameFields from to old new
     → SameLimit from to (racksIn old * rackSizeIn old)
     → SameAnswers to old new
+
+-- Every accepted version 4 plan with F = R has an accepted version 3 twin: a plan that is equal but for the version, and on which every call
+-- answers the same, counts, first placement, steps and listing among them.
+pub record Twin (bytes : List ℕ) (p : Plan) : Type 0 where
+  pub accepts : judge (planBytes (withVersion 3 p)) ≡ accepted (withVersion 3 p)
+  pub same : SameAnswers 3 bytes (planBytes (withVersion 3 p))
+
+abbrev pub Twins : Type 0
+Twins =
+    (bytes : List ℕ) → AreBytes bytes → (p : Plan) → judge bytes ≡ accepted p → p .version ≡ 4 → p .feeds ≡ p .racks
+    → Twin bytes p

@@ -17,7 +17,7 @@ use Rattle.conversion.proofs.put_plan.Tie as tie
 -- room for the header and the records
 parts-room : (start : tie.Start)
     → let a = start .args in
-    Room 0 (headerWith writtenVersion (a .h) ++ newRecords (asFormat (a .new)) (planOf (now (a .bytes)) (a .h))) (now (a .buffer))
+    Room 0 (headerWith writtenVersion (asFormat (a .new)) (a .h) ++ newRecords (asFormat (a .new)) (planOf (now (a .bytes)) (a .h))) (now (a .buffer))
 parts-room start = rw (start .pre .format-is, ← (converted-parts (now (start .args .bytes)) (start .args .h))) (start .pre .room)
 
 put-header-requires : tie.Need-put-header-requires

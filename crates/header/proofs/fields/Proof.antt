@@ -5,7 +5,7 @@ use Prim.Native.Nat.{_+_}
 use borrow.Author.Needs.{needs}
 use denote.Ref.{now}
 use Rattle.model.specs.Plan.{Format, field}
-use Rattle.header.specs.Header.{headerWith}
+use Rattle.header.specs.Header.{headerCounted}
 use Rattle.header.proofs.fields.Statement.{statement}
 use Rattle.header.proofs.fields.Tie as tie
 
@@ -37,7 +37,7 @@ field-at-requires-5 : tie.Need-field-at-requires-5
 field-at-requires-5 c κs = search needs
 
 returns : tie.Need-returns
-unfolding headerWith
+unfolding headerCounted
 returns c =
     let counted = c .before .before in
     let sized = counted .before .before .before in

@@ -9,7 +9,7 @@ use lib.ListN.{length}
 use Rattle.model.specs.Plan.{markIn, versionIn, racksIn, rackSizeIn, feedsIn, capacityIn, blockCountIn, latestVersion, Format, formatIn, recordAt}
 use Rattle.model.specs.Refusal.{orElse, check1, check2, check3, check4, check22, check5, check6, check7, refusal}
 use Rattle.theory.proofs.Refusal.{orElse-some, check4-zero, check22-zero, check5-zero, check6-rest, check6-zero, check7-zero}
-use Rattle.header.specs.Header.{headerWith, countIn}
+use Rattle.header.specs.Header.{headerCounted, countIn}
 use Rattle.header.specs.declared.Header.{Header}
 use Rattle.header.proofs.Laws.{countIn-long, countIn-counted, countIn-rows}
 use Rattle.header.proofs.read.Statement.{statement}
@@ -29,7 +29,7 @@ hall-code : (c : tie.After-hall-refusal) (later : ℕ)
     → let bytes = now (c .before .before .before .before .before .before .before .args .bytes) in
     check4 (racksIn bytes) (rackSizeIn bytes) (check22 (racksIn bytes) (feedsIn bytes) (check5 (capacityIn bytes) later))
     ≡ orElse (c .hall-refusal .result) later
-unfolding headerWith
+unfolding headerCounted
 hall-code c later =
     ap (λ (h : Header). check4 (h .cluster .racks) (h .cluster .«rack_size») (check22 (h .cluster .racks) (h .cluster .feeds) (check5 (h .cluster .capacity) later)))
     (sym (c .before .before .fields .ensures .0))
@@ -43,7 +43,7 @@ past-hall c later = hall-code (c .before) later ∙ orElse-none _ later (c .if2 
 -- the blocks, and the format
 blocks-are : (c : tie.After-fields)
     → c .fields .result .cluster .blocks ≡ countIn (now (c .before .before .before .before .before .args .bytes))
-unfolding headerWith
+unfolding headerCounted
 blocks-are c = ap (λ (h : Header). h .cluster .blocks) (c .fields .ensures .0)
 
 -- checks 6 and 7
