@@ -3,7 +3,7 @@
 
 use crate::plan::{read_of, Block, Plan, Refusal};
 
-/// The bytes of the largest plan, 1,024 blocks in version 3.
+/// The bytes of the largest plan that it writes, 1,024 blocks in version 3.
 pub const LARGEST_PLAN: usize = 15 + 7 * 1024;
 
 /// The bytes of a record of version 3: popularity (4 bytes), least copies, spread, pair byte.

@@ -1,40 +1,57 @@
-//! Damaged plans (rows 1 to 11, and 17) and damaged placements (rows 13 to 16, and 18).
+//! Damaged plans (rows 1 to 11, 17 and 22) and damaged placements (rows 13 to 16, and 18).
 
 use crate::gen::{draft, filled, placement, Draft, Record, Rng, Size};
 use crate::placement::{broken_rows, copies_of, held_by, holds};
 use crate::plan::{most_copies, Plan};
 
-/// The rows for a plan of version 2 or 3, in the order of the checks. Row 17 refuses none of version 1.
-pub const PLAN_ROWS: [u8; 12] = [1, 2, 3, 4, 5, 6, 7, 8, 9, 17, 10, 11];
+/// The rows for a plan of version 4, in the order of the checks.
+pub const PLAN_ROWS: [u8; 13] = [1, 2, 3, 4, 22, 5, 6, 7, 8, 9, 17, 10, 11];
+
+/// Those for a plan of version 2 or 3. Row 17 refuses none of version 1.
+pub const ROWS_BEFORE_FEEDS: [u8; 12] = [1, 2, 3, 4, 5, 6, 7, 8, 9, 17, 10, 11];
 
 /// A row that may refuse a plan of this version.
 pub fn any_row(rng: &mut Rng, version: u16) -> u8 {
+    let since = |row: u8| match row {
+        17 => 2,
+        22 => 4,
+        _ => 1,
+    };
     let rows = PLAN_ROWS.into_iter();
-    let rows: Vec<u8> = rows.filter(|row| *row != 17 || version >= 2).collect();
+    let rows: Vec<u8> = rows.filter(|row| since(*row) <= version).collect();
     rng.one_of(&rows)
 }
 
-/// The plan file with one more flaw, that of the given row (1 to 11, and 17 from version 2 on). Rows that need a record
-/// are left out of a file that has none.
+/// The plan file with one more flaw, that of the given row (1 to 11, 17 from version 2 on, and 22 in version 4). Rows that
+/// need a record are left out of a file that has none.
 pub fn flawed(rng: &mut Rng, mut bytes: Vec<u8>, row: u8) -> Vec<u8> {
     let above = above_most(&bytes);
+    let later = header_length(&bytes) - 15;
     match row {
         1 => bytes.truncate(rng.below(15) as usize),
         2 => bytes[rng.below(3) as usize] ^= rng.from_to(1, 255) as u8,
         3 => strange_version(rng, &mut bytes),
         4 => set(&mut bytes, 5, &machines_refused(rng)),
+        22 => flaw_feeds(rng, &mut bytes),
         5 => set(
             &mut bytes,
-            7,
+            7 + later,
             &rng.one_of(&[[0, 0], [4, 1], [255, 255], [8, 0]]),
         ),
-        6 => set(&mut bytes, 13, &rng.one_of(&[[4, 1], [255, 255], [5, 0]])),
+        6 => set(
+            &mut bytes,
+            13 + later,
+            &rng.one_of(&[[4, 1], [255, 255], [5, 0]]),
+        ),
         7 => lengthened(rng, &mut bytes),
         8 => flaw_record(rng, &mut bytes, 0, &[0, above, 255]),
         9 => flaw_record(rng, &mut bytes, 1, &[0, above, 65, 255]),
-        10 => set(&mut bytes, 9, &rng.one_of(&[[0; 4], [0, 0, 0, 1]])),
+        10 => set(&mut bytes, 9 + later, &rng.one_of(&[[0; 4], [0, 0, 0, 1]])),
         17 => flaw_record(rng, &mut bytes, 2, &[2, 3, 128, 255]),
-        _ => set(&mut bytes, 5, &[1, 1, 0, 1]),
+        _ => {
+            set(&mut bytes, 5, &[1, 1, 1]);
+            set(&mut bytes, 7 + later, &[0, 1]);
+        }
     }
     bytes
 }
@@ -73,22 +90,56 @@ fn machines_refused(rng: &mut Rng) -> [u8; 2] {
     ])
 }
 
-/// One more than the most copies of a block in this file's version.
-fn above_most(bytes: &[u8]) -> u8 {
-    let version = match bytes.get(3..5) {
+/// Feeds that row 22 refuses, in a file of version 4: none, fewer than the racks that do not divide them, or more.
+fn flaw_feeds(rng: &mut Rng, bytes: &mut [u8]) {
+    if header_length(bytes) == 15 || bytes.len() < 8 {
+        return;
+    }
+    let racks = bytes[5];
+    let between: Vec<u8> = (1..racks).filter(|f| !racks.is_multiple_of(*f)).collect();
+    bytes[7] = match rng.below(3) {
+        0 => 0,
+        1 if !between.is_empty() => rng.one_of(&between),
+        _ => rng.from_to(u64::from(racks.min(254)) + 1, 255) as u8,
+    };
+}
+
+/// The version of this file if it has one of less than 256, otherwise 1.
+fn version_in(bytes: &[u8]) -> u8 {
+    match bytes.get(3..5) {
         Some([0, version]) => *version,
         _ => 1,
-    };
-    most_copies(version.into()) as u8 + 1
+    }
+}
+
+/// One more than the most copies of a block in this file's version.
+fn above_most(bytes: &[u8]) -> u8 {
+    most_copies(version_in(bytes).into()) as u8 + 1
+}
+
+/// The bytes before the records of this file.
+fn header_length(bytes: &[u8]) -> usize {
+    match version_in(bytes) {
+        4 => 16,
+        _ => 15,
+    }
 }
 
 /// The bytes of a popularity in this file, and those of a record.
 fn record_widths(bytes: &[u8]) -> (usize, usize) {
-    match bytes.get(3..5) {
-        Some([0, 3]) => (4, 7),
-        Some([0, 2]) => (3, 6),
+    match version_in(bytes) {
+        3 | 4 => (4, 7),
+        2 => (3, 6),
         _ => (3, 5),
     }
+}
+
+/// The first 15 bytes of a file of version 4, with any byte for the first of the number of blocks: row 7, whatever row 6
+/// would say of that byte, unless an earlier row refuses it.
+pub fn cut_short(rng: &mut Rng, mut bytes: Vec<u8>) -> Vec<u8> {
+    bytes.truncate(15);
+    bytes[14] = rng.below(256) as u8;
+    bytes
 }
 
 /// One byte too few, one too many, or one record too many.
@@ -96,7 +147,7 @@ fn lengthened(rng: &mut Rng, bytes: &mut Vec<u8>) {
     let record = [0, 0, 0, 1, 1, 1, 0];
     let (width, length) = record_widths(bytes);
     match rng.below(3) {
-        0 if bytes.len() > 15 => bytes.truncate(bytes.len() - 1),
+        0 if bytes.len() > header_length(bytes) => bytes.truncate(bytes.len() - 1),
         1 => bytes.extend(&record[4 - width..][..length]),
         _ => bytes.push(0),
     }
@@ -105,10 +156,11 @@ fn lengthened(rng: &mut Rng, bytes: &mut Vec<u8>) {
 /// Puts one of the numbers into byte `at` behind the popularity of a record, where the records of this file have one.
 fn flaw_record(rng: &mut Rng, bytes: &mut [u8], at: usize, numbers: &[u8]) {
     let (width, length) = record_widths(bytes);
-    let number = (bytes.len().max(15) - 15) / length;
+    let header = header_length(bytes);
+    let number = bytes.len().saturating_sub(header) / length;
     if number > 0 && width + at < length {
         let i = rng.below(number as u64) as usize;
-        bytes[15 + length * i + width + at] = rng.one_of(numbers);
+        bytes[header + length * i + width + at] = rng.one_of(numbers);
     }
 }
 
@@ -148,21 +200,22 @@ pub fn two_records(rng: &mut Rng, size: Size, least_first: bool) -> Option<Draft
     Some(draft)
 }
 
-/// An accepted plan with a spread above R that is not above the block's least copies: row 9.
+/// An accepted plan with a spread above R, in version 4 above F, that is not above the block's least copies: row 9.
 pub fn over_racks(rng: &mut Rng, size: Size) -> Option<Draft> {
     let mut draft = draft(rng, size);
+    let feeds = draft.feeds();
     if draft.records.is_empty()
-        || draft.machines().min(draft.most_copies().into()) <= u64::from(draft.racks)
+        || draft.machines().min(draft.most_copies().into()) <= u64::from(feeds)
     {
         return None;
     }
     let i = rng.below(draft.records.len() as u64) as usize;
     let most = draft.upper(i);
-    if most <= draft.racks {
+    if most <= feeds {
         return None;
     }
-    draft.records[i].least = rng.from_to(u64::from(draft.racks) + 1, u64::from(most)) as u8;
-    draft.records[i].spread = draft.racks + 1;
+    draft.records[i].least = rng.from_to(u64::from(feeds) + 1, u64::from(most)) as u8;
+    draft.records[i].spread = feeds + 1;
     Some(draft)
 }
 
@@ -206,13 +259,13 @@ fn couple(draft: &mut Draft, i: usize, number: usize) {
 /// Makes the pair at i differ in its popularity, least copies or spread. False where the machines are too few.
 fn differ(rng: &mut Rng, draft: &mut Draft, i: usize, how: Mispairing) -> bool {
     let half = (draft.machines() / 2).min(draft.most_copies().into());
-    let (racks, other) = (draft.racks, i + rng.below(2) as usize);
+    let (feeds, other) = (draft.feeds(), i + rng.below(2) as usize);
     if how == Mispairing::Popularity {
-        let bits = if draft.version == 3 { 32 } else { 24 };
+        let bits = if draft.version >= 3 { 32 } else { 24 };
         draft.records[other].popularity ^= 1 << rng.below(bits);
         return true;
     }
-    if half < 2 || how == Mispairing::Spread && racks < 2 {
+    if half < 2 || how == Mispairing::Spread && feeds < 2 {
         return false;
     }
     let least = rng.from_to(2, half) as u8;
@@ -226,7 +279,7 @@ fn differ(rng: &mut Rng, draft: &mut Draft, i: usize, how: Mispairing) -> bool {
     true
 }
 
-/// A plan with room for all least copies that row 17 refuses in this way alone, for a size of version 2 or 3.
+/// A plan with room for all least copies that row 17 refuses in this way alone, for a size from version 2 on.
 pub fn mispaired(rng: &mut Rng, size: Size, how: Mispairing) -> Option<Draft> {
     let mut draft = draft(rng, size);
     let number = draft.records.len();
@@ -312,27 +365,31 @@ fn miscount(rng: &mut Rng, plan: &Plan, words: &mut [u64]) {
     }
 }
 
-/// Lays all copies of some block side by side, from some rack's first machine on; a block is taken
-/// that has then too few racks, if there is one.
+/// Lays all copies of some block side by side, from some feed's first machine on, through the racks of each feed; a block
+/// is taken that has then too few feeds, if there is one.
 fn crowd(rng: &mut Rng, plan: &Plan, words: &mut [u64]) {
-    let racks = |i: &usize| copies_of(words[*i]).div_ceil(plan.per_rack);
+    let per_feed = plan.machines() / plan.feeds;
+    let feeds = |i: &usize| copies_of(words[*i]).div_ceil(per_feed);
     let spread = |i: &usize| plan.blocks[*i].spread;
-    let fitting: Vec<usize> = (0..words.len()).filter(|i| racks(i) < spread(i)).collect();
+    let fitting: Vec<usize> = (0..words.len()).filter(|i| feeds(i) < spread(i)).collect();
     if fitting.is_empty() {
         return;
     }
     let i = rng.one_of(&fitting);
-    let start = rng.below((plan.racks - racks(&i) + 1) as u64) as usize * plan.per_rack;
-    words[i] = (0..copies_of(words[i])).fold(0, |w, k| w | 1 << (start + k));
+    let start = rng.below((plan.feeds - feeds(&i) + 1) as u64) as usize * per_feed;
+    let mut by_feed: Vec<usize> = (0..plan.machines()).collect();
+    by_feed.sort_by_key(|m| plan.feed_of(*m));
+    let machines = &by_feed[start..][..copies_of(words[i])];
+    words[i] = machines.iter().fold(0, |w, m| w | 1 << m);
 }
 
-/// Lays a copy of every other block on one machine, in place of another copy of the same rack or of any; of a pair one
+/// Lays a copy of every other block on one machine, in place of another copy of the same feed or of any; of a pair one
 /// block only.
 fn overload(rng: &mut Rng, plan: &Plan, words: &mut [u64]) {
     let to = rng.below(plan.machines() as u64) as usize;
-    let same_rack = rng.once_in(2);
+    let same_feed = rng.once_in(2);
     for i in 0..words.len() {
-        let suits = |m: &usize| !same_rack || plan.rack_of(*m) == plan.rack_of(to);
+        let suits = |m: &usize| !same_feed || plan.feed_of(*m) == plan.feed_of(to);
         let from = (0..plan.machines())
             .filter(suits)
             .find(|m| holds(words[i], *m));

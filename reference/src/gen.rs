@@ -41,7 +41,7 @@ impl Rng {
 }
 
 /// A record of a plan file before it is judged. The pair byte is written from version 2 on, the popularity in 3 bytes,
-/// and in 4 in version 3.
+/// and from version 3 on in 4.
 #[derive(Clone, Copy, Debug)]
 pub struct Record {
     pub popularity: u32,
@@ -50,12 +50,13 @@ pub struct Record {
     pub pair: u8,
 }
 
-/// The fields of a plan file before it is judged.
+/// The fields of a plan file before it is judged. The feed byte is written in version 4.
 #[derive(Clone, Debug)]
 pub struct Draft {
     pub version: u16,
     pub racks: u8,
     pub per_rack: u8,
+    pub feed_byte: u8,
     pub capacity: u16,
     pub budget: u32,
     pub records: Vec<Record>,
@@ -65,6 +66,15 @@ impl Draft {
     /// M, in full width.
     pub fn machines(&self) -> u64 {
         u64::from(self.racks) * u64::from(self.per_rack)
+    }
+
+    /// What a spread counts: feeds F, before version 4 racks R.
+    pub fn feeds(&self) -> u8 {
+        if self.version < 4 {
+            self.racks
+        } else {
+            self.feed_byte
+        }
     }
 
     /// The sum of least copies.
@@ -92,6 +102,9 @@ impl Draft {
         let mut bytes = vec![0x42, 0x50, 0x4C];
         bytes.extend(self.version.to_be_bytes());
         bytes.extend([self.racks, self.per_rack]);
+        if self.version >= 4 {
+            bytes.push(self.feed_byte);
+        }
         bytes.extend(self.capacity.to_be_bytes());
         bytes.extend(self.budget.to_be_bytes());
         bytes.extend((self.records.len() as u16).to_be_bytes());
@@ -126,6 +139,15 @@ impl Draft {
         Draft {
             version: 3,
             ..draft
+        }
+    }
+
+    /// The same plan in version 4 with so many feeds.
+    pub fn fed(&self, feeds: u8) -> Draft {
+        Draft {
+            version: 4,
+            feed_byte: feeds,
+            ..self.wide()
         }
     }
 
@@ -170,6 +192,11 @@ impl Size {
     /// The same in version 3, mostly with pairs, and with popularities of 4 bytes.
     pub const fn wide(self) -> Size {
         Size { version: 3, ..self }
+    }
+
+    /// The same in version 4, with any number of feeds that divides the racks.
+    pub const fn fed(self) -> Size {
+        Size { version: 4, ..self }
     }
 }
 
@@ -233,11 +260,11 @@ fn popularity(rng: &mut Rng, manner: u64, i: u64) -> u32 {
     number as u32
 }
 
-/// A manner of popularities; the first five are coarse, those from 10 on are for version 3.
+/// A manner of popularities; the first five are coarse, those from 10 on are for 4 bytes.
 fn manner(rng: &mut Rng, size: Size) -> u64 {
     if size.coarse {
         rng.below(5)
-    } else if size.version == 3 && !rng.once_in(3) {
+    } else if size.version >= 3 && !rng.once_in(3) {
         rng.from_to(10, 15)
     } else if rng.once_in(30) {
         9
@@ -246,10 +273,24 @@ fn manner(rng: &mut Rng, size: Size) -> u64 {
     }
 }
 
+/// The numbers of feeds that so many racks can have, rising from one to a feed for each rack.
+pub fn divisors(racks: u8) -> Vec<u8> {
+    (1..=racks).filter(|f| racks.is_multiple_of(*f)).collect()
+}
+
+/// The feed byte of a plan: one that row 22 accepts. Before version 4 there is none, and nothing is drawn.
+fn feed_byte(rng: &mut Rng, version: u16, racks: u8) -> u8 {
+    if version < 4 {
+        racks
+    } else {
+        rng.one_of(&divisors(racks))
+    }
+}
+
 /// A spread that a block with these least copies may have.
-fn spread(rng: &mut Rng, racks: u8, least: u8, mixed: bool) -> u8 {
+fn spread(rng: &mut Rng, feeds: u8, least: u8, mixed: bool) -> u8 {
     if mixed {
-        rng.from_to(1, u64::from(racks.min(least))) as u8
+        rng.from_to(1, u64::from(feeds.min(least))) as u8
     } else {
         1
     }
@@ -309,7 +350,7 @@ fn records(rng: &mut Rng, draft: &Draft, size: Size, number: u64, mut left: u64)
         let record = Record {
             popularity: popularity(rng, manner, before as u64),
             least,
-            spread: spread(rng, draft.racks, least, mixed),
+            spread: spread(rng, draft.feeds(), least, mixed),
             pair: 0,
         };
         if pair {
@@ -364,6 +405,7 @@ pub fn sized(rng: &mut Rng, size: Size, racks: u8, per_rack: u8, number: u64) ->
         version: size.version,
         racks,
         per_rack,
+        feed_byte: feed_byte(rng, size.version, racks),
         capacity: 1,
         budget: 0,
         records: Vec::new(),
@@ -383,6 +425,7 @@ pub fn filled(rng: &mut Rng, size: Size) -> Draft {
         version: size.version,
         racks,
         per_rack,
+        feed_byte: feed_byte(rng, size.version, racks),
         capacity: capacity as u16,
         budget: 0,
         records: Vec::new(),
@@ -407,6 +450,7 @@ pub fn coarse(rng: &mut Rng) -> Draft {
         version: 1,
         racks,
         per_rack,
+        feed_byte: racks,
         capacity: 1,
         budget: 0,
         records: (0..rng.from_to(200, 1024)).map(|_| record(rng)).collect(),
@@ -429,6 +473,7 @@ pub fn patient(rng: &mut Rng) -> Draft {
         version: 1,
         racks: 1,
         per_rack: 16,
+        feed_byte: 1,
         capacity: 19,
         budget: 304,
         records: (0..76).map(|_| record(rng)).collect(),
@@ -450,6 +495,7 @@ pub fn largest(rng: &mut Rng) -> Draft {
         version: 1,
         racks: 8,
         per_rack: 8,
+        feed_byte: 8,
         capacity: 80,
         budget: 4000,
         records: (0..1024).map(|_| record(rng)).collect(),
@@ -460,14 +506,15 @@ pub fn largest(rng: &mut Rng) -> Draft {
 /// is refused or not.
 pub fn too_long(rng: &mut Rng) -> Vec<u8> {
     let number = rng.one_of(&[0, 3, 1024]);
-    let size = rng.one_of(&[SMALL, SMALL.paired(), SMALL.wide()]);
+    let size = rng.one_of(&[SMALL, SMALL.paired(), SMALL.wide(), SMALL.fed()]);
     let mut bytes = sized(rng, size, 2, 2, number).bytes();
     if rng.once_in(3) {
-        let at = rng.below(15) as usize;
+        let at = rng.below(bytes.len().min(16) as u64) as usize;
         bytes[at] = rng.below(256) as u8;
     }
-    let length = rng.one_of(&[5136, 6160, 7184, 7190, 20_000, 70_000]);
-    bytes.resize(length, rng.below(2) as u8);
+    let length = rng.one_of(&[5136, 6160, 7184, 7185, 7191, 20_000, 70_000]);
+    let wrong = length + usize::from(length == bytes.len());
+    bytes.resize(wrong, rng.below(2) as u8);
     bytes
 }
 

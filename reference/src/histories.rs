@@ -90,7 +90,7 @@ pub fn manner(rng: &mut Rng) -> Manner {
         calls: rng.from_to(1, 40),
         damaged: long || rng.once_in(2),
         dense: long || rng.once_in(3),
-        versions: &[1, 2, 3],
+        versions: &[1, 2, 3, 4],
     }
 }
 

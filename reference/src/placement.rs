@@ -13,11 +13,11 @@ pub fn copies_of(word: u64) -> usize {
     word.count_ones() as usize
 }
 
-/// The number of racks in which the block lies.
-pub fn racks_of(plan: &Plan, word: u64) -> usize {
-    let machines_of = |r: usize| r * plan.per_rack..(r + 1) * plan.per_rack;
-    let lies_in = |r: &usize| machines_of(*r).any(|m| holds(word, m));
-    (0..plan.racks).filter(lies_in).count()
+/// The number of feeds on which the block lies; before version 4 that of its racks. A feed is a bit of a word.
+pub fn feeds_of(plan: &Plan, word: u64) -> usize {
+    let machines = (0..plan.machines()).filter(|m| holds(word, *m));
+    let feeds = machines.fold(0_u64, |feeds, m| feeds | 1 << plan.feed_of(m));
+    feeds.count_ones() as usize
 }
 
 /// The copies that a machine holds.
@@ -62,7 +62,7 @@ pub fn pairs_apart(plan: &Plan, words: &[u64]) -> bool {
 
 /// The placement is lawful (at any lawful counts).
 pub fn feasible(plan: &Plan, words: &[u64]) -> bool {
-    let spread_met = |i: usize| racks_of(plan, words[i]) >= plan.blocks[i].spread;
+    let spread_met = |i: usize| feeds_of(plan, words[i]) >= plan.blocks[i].spread;
     counts_feasible(plan, words)
         && words.iter().all(|w| !outside(plan, *w))
         && (0..words.len()).all(spread_met)
@@ -102,7 +102,7 @@ pub fn broken_rows(plan: &Plan, words: &[u64]) -> [bool; 5] {
         blocks.clone().any(|i| copies_of(words[i]) != counts[i]),
         blocks
             .clone()
-            .any(|i| racks_of(plan, words[i]) < plan.blocks[i].spread),
+            .any(|i| feeds_of(plan, words[i]) < plan.blocks[i].spread),
         (0..plan.machines()).any(|m| held_by(words, m) > plan.capacity),
         !pairs_apart(plan, words),
     ]

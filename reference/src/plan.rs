@@ -1,4 +1,4 @@
-//! The plan file, and why a plan is turned back (refusals 1 to 11, and 17).
+//! The plan file, and why a plan is turned back (refusals 1 to 11, 17 and 22).
 
 /// The number of a row in the table of refusals.
 pub type Refusal = u8;
@@ -12,12 +12,13 @@ pub struct Block {
     pub pair: u8,
 }
 
-/// An accepted plan file.
+/// An accepted plan file. Before version 4 there is a feed for each rack.
 #[derive(Clone, Debug, PartialEq, Eq)]
 pub struct Plan {
     pub version: u64,
     pub racks: usize,
     pub per_rack: usize,
+    pub feeds: usize,
     pub capacity: usize,
     pub budget: u64,
     pub blocks: Vec<Block>,
@@ -32,6 +33,11 @@ impl Plan {
     /// Machine m is in rack m div S.
     pub fn rack_of(&self, machine: usize) -> usize {
         machine / self.per_rack
+    }
+
+    /// Rack r hangs on feed r mod F, and its machines with it.
+    pub fn feed_of(&self, machine: usize) -> usize {
+        self.rack_of(machine) % self.feeds
     }
 
     /// The byte of block i is 1: it is paired with the next one.
@@ -95,7 +101,23 @@ fn field(bytes: &[u8], first: usize, last: usize) -> u64 {
         .fold(0, |value, byte| value * 256 + u64::from(*byte))
 }
 
-/// The bytes of a record: in version 2 there is a sixth, and in version 3 the popularity has one more.
+/// The bytes before the records: in version 4 there is one more.
+fn header_length(version: u64) -> usize {
+    match version {
+        1..=3 => 15,
+        _ => 16,
+    }
+}
+
+/// F, which is byte 7 of version 4. Before it every rack has a feed of its own.
+fn feeds_in(bytes: &[u8], version: u64, racks: usize) -> usize {
+    match version {
+        1..=3 => racks,
+        _ => field(bytes, 7, 7) as usize,
+    }
+}
+
+/// The bytes of a record: in version 2 there is a sixth, and from version 3 on the popularity has one more.
 fn record_length(version: u64) -> usize {
     match version {
         1 => 5,
@@ -104,7 +126,7 @@ fn record_length(version: u64) -> usize {
     }
 }
 
-/// The most copies of a block, where there are machines enough: 8, in version 3 10.
+/// The most copies of a block, where there are machines enough: 8, from version 3 on 10.
 pub fn most_copies(version: u64) -> usize {
     match version {
         1 | 2 => 8,
@@ -112,10 +134,10 @@ pub fn most_copies(version: u64) -> usize {
     }
 }
 
-/// The record of block `i`. The popularity has 3 bytes, in version 3 it has 4.
+/// The record of block `i`. The popularity has 3 bytes, from version 3 on it has 4.
 fn record(bytes: &[u8], version: u64, i: usize) -> Block {
-    let at = 15 + record_length(version) * i;
-    let behind = at + if version == 3 { 4 } else { 3 };
+    let at = header_length(version) + record_length(version) * i;
+    let behind = at + if version >= 3 { 4 } else { 3 };
     Block {
         popularity: field(bytes, at, behind - 1),
         least: bytes[behind] as usize,
@@ -133,7 +155,8 @@ pub(crate) fn refuse_if(condition: bool, row: Refusal) -> Result<(), Refusal> {
     }
 }
 
-/// Rows 1 to 7, in order, and the plan with its records not yet judged. Row 3 refuses all but these versions.
+/// Rows 1 to 7, with 22 after 4, and the plan with its records not yet judged. Row 3 refuses all but these versions. In
+/// version 4 the fields behind F stand one byte later; a file that ends within the last one passes 6 and gets 7.
 fn read_header(bytes: &[u8], versions: &[u64]) -> Result<Plan, Refusal> {
     refuse_if(bytes.len() < 15, 1)?;
     refuse_if(bytes[0..3] != [0x42, 0x50, 0x4C], 2)?;
@@ -142,28 +165,34 @@ fn read_header(bytes: &[u8], versions: &[u64]) -> Result<Plan, Refusal> {
     let racks = field(bytes, 5, 5) as usize;
     let per_rack = field(bytes, 6, 6) as usize;
     refuse_if(racks == 0 || per_rack == 0 || racks * per_rack > 64, 4)?;
-    let capacity = field(bytes, 7, 8) as usize;
+    let header = header_length(version);
+    let later = header - 15;
+    let feeds = feeds_in(bytes, version, racks);
+    refuse_if(feeds == 0 || !racks.is_multiple_of(feeds), 22)?;
+    let capacity = field(bytes, 7 + later, 8 + later) as usize;
     refuse_if(capacity == 0 || capacity > 1024, 5)?;
-    let number = field(bytes, 13, 14) as usize;
+    refuse_if(bytes.len() < header, 7)?;
+    let number = field(bytes, 13 + later, 14 + later) as usize;
     refuse_if(number > 1024, 6)?;
-    refuse_if(bytes.len() != 15 + record_length(version) * number, 7)?;
+    refuse_if(bytes.len() != header + record_length(version) * number, 7)?;
     Ok(Plan {
         version,
         racks,
         per_rack,
+        feeds,
         capacity,
-        budget: field(bytes, 9, 12),
+        budget: field(bytes, 9 + later, 12 + later),
         blocks: (0..number).map(|i| record(bytes, version, i)).collect(),
     })
 }
 
-/// Rows 8 and 9 of one block, 8 first.
+/// Rows 8 and 9 of one block, 8 first. A spread is over feeds.
 fn judge_block(plan: &Plan, i: usize) -> Result<(), Refusal> {
     let block = &plan.blocks[i];
     refuse_if(block.least == 0 || block.least > plan.upper(i), 8)?;
     let spread = block.spread;
     refuse_if(
-        spread == 0 || spread > block.least || spread > plan.racks,
+        spread == 0 || spread > block.least || spread > plan.feeds,
         9,
     )
 }
@@ -185,7 +214,7 @@ fn mispaired(plan: &Plan) -> bool {
 
 /// Reads a plan of any version described: the first row that turns it back, or the plan.
 pub fn read(bytes: &[u8]) -> Result<Plan, Refusal> {
-    read_of(bytes, &[1, 2, 3])
+    read_of(bytes, &[1, 2, 3, 4])
 }
 
 /// Reads a plan of one of these versions; all others are refused 3.

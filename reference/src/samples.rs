@@ -14,6 +14,7 @@ pub fn plan_of(shape: (u8, u8), capacity: u16, budget: u32, records: &[(u32, u8,
         version: 1,
         racks: shape.0,
         per_rack: shape.1,
+        feed_byte: shape.0,
         capacity,
         budget,
         records: records.iter().map(record).collect(),
@@ -241,4 +242,59 @@ pub fn largest_grown() -> Draft {
 /// copies, and in version 3 nine.
 pub fn calibration() -> Draft {
     plan_of((3, 3), 1, 9, &[(7, 1, 1)])
+}
+
+/// Plan H in version 4, each of its two racks on a feed of its own, byte for byte.
+pub const H_4: [u8; 37] = [
+    0x42, 0x50, 0x4C, 0x00, 0x04, 0x02, 0x02, 0x02, 0x00, 0x03, 0x00, 0x00, 0x00, 0x08, 0x00, 0x03,
+    0x00, 0x00, 0x00, 0x0C, 0x02, 0x02, 0x00, 0x00, 0x00, 0x00, 0x06, 0x01, 0x01, 0x00, 0x00, 0x00,
+    0x00, 0x02, 0x01, 0x01, 0x00,
+];
+
+/// Plan K in version 4, each of its two racks on a feed of its own, byte for byte.
+pub const K_4: [u8; 44] = [
+    0x42, 0x50, 0x4C, 0x00, 0x04, 0x02, 0x02, 0x02, 0x00, 0x03, 0x00, 0x00, 0x00, 0x08, 0x00, 0x04,
+    0x00, 0x00, 0x00, 0x0C, 0x02, 0x02, 0x01, 0x00, 0x00, 0x00, 0x0C, 0x02, 0x02, 0x00, 0x00, 0x00,
+    0x00, 0x06, 0x01, 0x01, 0x00, 0x00, 0x00, 0x00, 0x02, 0x01, 0x01, 0x00,
+];
+
+/// Four racks of two machines on two feeds, racks 0 and 2 on the first: a recording with its repeat run and two others on
+/// both feeds, and two of any spread. Counts 2, 2, 2, 3, 1, 3, and three steps to rest.
+pub fn feeds() -> Draft {
+    let pair = [(12, 2, 2, 1), (12, 2, 2, 0)];
+    let others = [(12, 2, 2, 0), (19, 2, 2, 0), (3, 1, 1, 0), (25, 1, 1, 0)];
+    wide_plan((4, 2), 3, 13, &[&pair[..], &others].concat()).fed(2)
+}
+
+/// Four racks of one machine on two feeds, racks 0 and 2 on the first; two blocks that have to lie on both. From words
+/// 3 and 3 the next step is RackMove of block 0 from machine 0 to 2, from one rack to another of the same feed.
+pub fn two_feeds() -> Draft {
+    plan_of((4, 1), 9, 4, &[(4, 2, 2); 2]).fed(2)
+}
+
+pub const TWO_FEEDS_WORDS: [u64; 2] = [3, 3];
+
+/// On the same racks and feeds, from `NO_MOVE_WORDS` at rest: a move of block 0 from machine 0 to 3 would leave it on one
+/// feed, though in two racks. With a feed for each rack it is the next step.
+pub fn no_move_for_feed() -> Draft {
+    plan_of((4, 1), 9, 7, &[(4, 2, 2), (4, 2, 2), (4, 2, 2), (6, 1, 1)]).fed(2)
+}
+
+pub const NO_MOVE_WORDS: [u64; 4] = [3, 3, 9, 4];
+
+/// The same with all machines full, from `NO_SWAP_WORDS` at rest: an exchange of block 0 with block 7 would leave it on
+/// one feed. With a feed for each rack it is the next step.
+pub fn no_swap_for_feed() -> Draft {
+    let mut draft = no_move_for_feed();
+    let idle = plan_of((4, 1), 3, 12, &[(0, 1, 1); 5]);
+    draft.records.extend(idle.records);
+    (draft.capacity, draft.budget) = (idle.capacity, idle.budget);
+    draft
+}
+
+pub const NO_SWAP_WORDS: [u64; 9] = [3, 3, 9, 4, 2, 4, 4, 8, 8];
+
+/// The largest plan of version 4: ten copies of each of 1,024 blocks of the largest popularity, on eight feeds.
+pub fn largest_fed() -> Draft {
+    plan_of((16, 4), 1024, 10_240, &[(u32::MAX, 10, 8); 1024]).fed(8)
 }

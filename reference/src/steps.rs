@@ -1,7 +1,7 @@
 //! Steps and rest: the next step is the first by kind, then m, n, i, j, each lowest first.
 
 use crate::counts::share;
-use crate::placement::{copies_of, feasible, held_by, holds, load, loads, racks_of};
+use crate::placement::{copies_of, feasible, feeds_of, held_by, holds, load, loads};
 use crate::plan::Plan;
 
 /// The kinds of a step, in their order.
@@ -21,7 +21,7 @@ impl Kind {
         matches!(self, Kind::Swap | Kind::RackSwap)
     }
 
-    /// Move and Swap are for one rack, RackMove and RackSwap for different racks.
+    /// Move and Swap are for one rack, RackMove and RackSwap for different racks, also those of one feed.
     pub fn suits(self, plan: &Plan, m: usize, n: usize) -> bool {
         let one_rack = plan.rack_of(m) == plan.rack_of(n);
         one_rack == matches!(self, Kind::Move | Kind::Swap)
@@ -149,7 +149,7 @@ impl Figures<'_> {
     /// Block i still meets its spread after it has passed from m to n.
     fn stays_spread(&self, i: usize, m: usize, n: usize) -> bool {
         let after = passed(self.words[i], m, n);
-        racks_of(self.plan, after) >= self.plan.blocks[i].spread
+        feeds_of(self.plan, after) >= self.plan.blocks[i].spread
     }
 
     /// Block i, come to n, is apart from the other one of its pair, unless that one leaves n in the same step.

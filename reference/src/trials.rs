@@ -1,13 +1,15 @@
 //! The stored trials: the specification's plans and examples first, generated ones after them; then the same for
-//! version 2, for reads, for version 3, for the converter, and for the most copies of a block.
+//! version 2, for reads, for version 3, for the converter, for the most copies of a block, and for version 4.
 
 mod conversions;
 mod copies;
+mod feeds;
 mod pairs;
 mod reads;
 mod wide;
 
 use crate::damage::{broken, flawed, over_budget, over_capacity, over_racks, two_records};
+use crate::damage::{PLAN_ROWS, ROWS_BEFORE_FEEDS};
 use crate::gen::*;
 use crate::plan::{read, Plan};
 use crate::samples::*;
@@ -305,9 +307,13 @@ fn call_list(w: &mut Writer, rng: &mut Rng, draft: &Draft) {
     }
 }
 
-/// Other bytes that are refused: a flaw of rows 1 to 7.
+/// Other bytes that are refused: a flaw of rows 1 to 7, in version 4 of row 22 too.
 fn flawed_surely(rng: &mut Rng, bytes: &[u8]) -> Vec<u8> {
-    let row = rng.from_to(1, 7) as u8;
+    let rows = match bytes[4] {
+        4 => &PLAN_ROWS[..8],
+        _ => &ROWS_BEFORE_FEEDS[..7],
+    };
+    let row = rng.one_of(rows);
     let other = flawed(rng, bytes.to_vec(), row);
     assert!(read(&other).is_err());
     other
@@ -465,6 +471,7 @@ pub fn stream() -> Vec<u8> {
     wide::all(&mut w, &mut Rng::new(4));
     conversions::all(&mut w, &mut Rng::new(5));
     copies::all(&mut w, &mut Rng::new(6));
+    feeds::all(&mut w, &mut Rng::new(7));
     w.calls("E");
     w.bytes
 }

@@ -1,8 +1,10 @@
 //! Why the bound at rest reads as it does. For a placement at rest with hottest load X and largest share s, and any
 //! lawful placement of the plan with hottest load Y, M × X is at most M × Y + k × (M - 1) × s: with k = 1 if every
-//! spread is one, and with k = 3 for larger spreads if no machine is full. Here are plans on which less is false.
+//! spread is one, and with k = 3 for larger spreads if no machine is full. Here are plans on which less is false, with
+//! spreads over racks, and the same ones in version 4 with spreads over feeds.
 
 use placement_reference::calls::{enter_check, enter_report, enter_step};
+use placement_reference::gen::Draft;
 use placement_reference::placement::{feasible, first, held_by, loads};
 use placement_reference::plan::{read, Plan};
 use placement_reference::samples::{full_machines, plan_of};
@@ -57,12 +59,41 @@ fn bound(bytes: &[u8], words: &[u64], other: &[u64]) -> (Plan, Bound) {
     (plan, bound)
 }
 
+/// The plan in version 4: each machine is a rack of its own, and those of one rack before hang on one feed.
+fn on_feeds(draft: &Draft) -> Draft {
+    let mut fed = draft.fed(draft.racks);
+    (fed.racks, fed.per_rack) = (draft.racks * draft.per_rack, 1);
+    fed
+}
+
+/// The words with the machines' new numbers.
+fn renumbered(draft: &Draft, words: &[u64]) -> Vec<u64> {
+    let (racks, per_rack) = (u64::from(draft.racks), u64::from(draft.per_rack));
+    let place = |m: u64| m % per_rack * racks + m / per_rack;
+    let moved = |word: &u64| {
+        let held = (0..racks * per_rack).filter(|m| word >> m & 1 == 1);
+        held.fold(0, |w, m| w | 1 << place(m))
+    };
+    words.iter().map(moved).collect()
+}
+
+/// The plan's bound, which is the same on feeds. Answers the plan and the bound's numbers.
+fn bound_of_both(draft: &Draft, words: &[u64], other: &[u64]) -> (Plan, Bound) {
+    let (plan, by_rack) = bound(&draft.bytes(), words, other);
+    let [moved, other] = [words, other].map(|words| renumbered(draft, words));
+    let (fed, by_feed) = bound(&on_feeds(draft).bytes(), &moved, &other);
+    assert!(1 < fed.feeds && fed.feeds < fed.racks);
+    assert_eq!(full(&fed, &moved), full(&plan, words));
+    assert_eq!(by_feed, by_rack);
+    (plan, by_rack)
+}
+
 /// "No machine full" is needed. Every machine is full, so that only exchanges could be steps, and none is: three machines
 /// with 45,360 each rest beside three with 30,240, though 37,800 on each is lawful. Three shares are not enough.
 #[test]
 fn full_machines_break_three_shares() {
     let (draft, rest, even) = full_machines();
-    let (plan, bound) = bound(&draft.bytes(), &rest, &even);
+    let (plan, bound) = bound_of_both(&draft, &rest, &even);
     assert_eq!(full(&plan, &rest), 6);
     let [hot, cool] = [45_360, 30_240];
     assert_eq!(loads(&plan, &rest), [hot, hot, hot, cool, cool, cool]);
@@ -84,7 +115,7 @@ fn one_share_is_too_few() {
     let draft = plan_of((2, 2), 10, 12, &records);
     let rest = [5, 5, 6, 11, 11];
     let even = first(&draft.plan().expect("an accepted plan"));
-    let (plan, bound) = bound(&draft.bytes(), &rest, &even);
+    let (plan, bound) = bound_of_both(&draft, &rest, &even);
     assert_eq!(full(&plan, &rest), 0);
     assert_eq!(loads(&plan, &even), [7560; 4]);
     let expected = Bound {
@@ -110,7 +141,7 @@ fn two_shares_are_too_few() {
     ]
     .concat();
     let begin = first(&draft.plan().expect("an accepted plan"));
-    let (plan, bound) = bound(&draft.bytes(), &rest, &begin);
+    let (plan, bound) = bound_of_both(&draft, &rest, &begin);
     assert_eq!(full(&plan, &rest), 0);
     let expected = Bound {
         machines: 15,

@@ -249,7 +249,7 @@ fn wider_popularity() {
     assert_eq!(report.sum, 2520 * 1024 * 4_294_967_295);
 }
 
-/// Least copies up to 8, in version 3 up to 10, where there are as many machines.
+/// Least copies up to 8, from version 3 on up to 10, where there are as many machines.
 #[test]
 fn row_eight_of_each_version() {
     for machines in [7, 8, 9, 10, 11, 64] {
@@ -259,6 +259,7 @@ fn row_eight_of_each_version() {
             assert_eq!(plan_row(&draft), row(8));
             assert_eq!(plan_row(&draft.unpaired()), row(8));
             assert_eq!(plan_row(&draft.wide()), row(10));
+            assert_eq!(plan_row(&draft.fed(1)), row(10));
         }
     }
     for machines in [15, 16, 17, 18, 19, 20, 21, 64] {
@@ -268,6 +269,7 @@ fn row_eight_of_each_version() {
             let row = |most: u8| (least > most.min(machines / 2)).then_some(8);
             assert_eq!(plan_row(&draft), row(8));
             assert_eq!(plan_row(&draft.wide()), row(10));
+            assert_eq!(plan_row(&draft.fed(1)), row(10));
         }
     }
 }
@@ -291,6 +293,7 @@ fn ten_copies() {
         assert_eq!(counts(&draft), before);
         assert_eq!(counts(&draft.unpaired()), before);
         assert_eq!(counts(&draft.wide()), now);
+        assert_eq!(counts(&draft.fed(1)), now);
     }
     let pair = [(7, 1, 1, 1), (7, 1, 1, 0)];
     for (machines, before, now) in [(16, 8, 8), (17, 8, 8), (18, 8, 9), (19, 8, 9), (20, 8, 10)] {
@@ -346,6 +349,219 @@ fn row_seventeen_of_version_three() {
     assert_eq!(row(29, 1), None, "a block without a pair");
 }
 
+/// What each version has: the bytes before the records and of a record, and the most copies. Others are never described.
+#[test]
+fn the_versions() {
+    for version in 0..=9 {
+        let on_64 = |least: u8, number: usize| Draft {
+            version,
+            ..plan_of((8, 8), 9, 99, &vec![(7, least, 1); number])
+        };
+        let described = match version {
+            1 => (15, 5, 8),
+            2 => (15, 6, 8),
+            3 => (15, 7, 10),
+            4 => (16, 7, 10),
+            _ => {
+                assert_eq!(plan_row(&on_64(1, 2)), Some(3));
+                continue;
+            }
+        };
+        let (header, record, most) = described;
+        assert_eq!(on_64(1, 0).bytes().len(), header);
+        assert_eq!(on_64(1, 2).bytes().len(), header + 2 * record);
+        assert_eq!(plan_row(&on_64(1, 0)), None);
+        assert_eq!(plan_row(&on_64(most, 2)), None);
+        assert_eq!(plan_row(&on_64(most + 1, 2)), Some(8));
+    }
+}
+
+/// With a feed for each rack version 4 is version 3.
+#[test]
+fn version_four() {
+    for (draft, bytes, listing) in [(h(), &H_4[..], H_LISTING), (k(), &K_4, K_LISTING)] {
+        assert_eq!(draft.fed(2).bytes(), bytes);
+        assert_eq!(
+            enter_plan(bytes),
+            in_version(4, enter_plan(&draft.wide().bytes()))
+        );
+        assert_eq!(text(bytes, 100_000), listing);
+        assert_eq!(enter_plan(&bytes[..bytes.len() - 1]).err(), Some(7));
+        assert_eq!(enter_plan(&[bytes, &[0]].concat()).err(), Some(7));
+    }
+    let bytes = largest_fed().bytes();
+    assert_eq!(bytes.len(), 7184);
+    let plan = enter_plan(&bytes).unwrap();
+    assert_eq!(
+        (plan.feeds, plan.blocks[1023].popularity),
+        (8, 4_294_967_295)
+    );
+    assert_eq!(enter_plan(&bytes[..7183]).err(), Some(7));
+    assert_eq!(enter_plan(&[&bytes[..], &[0]].concat()).err(), Some(7));
+    assert_eq!(chosen(&feeds().plan().unwrap()), [2, 2, 2, 3, 1, 3]);
+}
+
+/// Row 22: F is 0 or does not divide R.
+#[test]
+fn row_twenty_two() {
+    assert_eq!(plan_row(&h().fed(0)), Some(22), "no feed");
+    assert_eq!(plan_row(&h().fed(3)), Some(22), "more feeds than racks");
+    assert_eq!(
+        plan_row(&h().fed(1)),
+        Some(9),
+        "a divisor; block 0 has spread 2"
+    );
+    assert_eq!(plan_row(&h().fed(2)), None);
+    for racks in 1..=64 {
+        for feeds in 0..=255 {
+            let divides =
+                (1..=racks).any(|quotient| feeds as u32 * quotient as u32 == racks.into());
+            let row = plan_row(&plan_of((racks, 1), 1, 0, &[]).fed(feeds));
+            assert_eq!(
+                row,
+                (!divides).then_some(22),
+                "{racks} racks, {feeds} feeds"
+            );
+        }
+    }
+}
+
+/// Row 22 directly after 4, before 5 and all later ones.
+#[test]
+fn the_place_of_row_twenty_two() {
+    let with = |changes: &[(usize, u8)]| {
+        let mut bytes = K_4;
+        for (at, byte) in changes {
+            bytes[*at] = *byte;
+        }
+        enter_plan(&bytes).err()
+    };
+    for feeds in [0, 3, 255] {
+        let wrong = (7, feeds);
+        assert_eq!(with(&[wrong]), Some(22));
+        for (earlier, row) in [
+            ((0, 0), 2),
+            ((4, 5), 3),
+            ((5, 0), 4),
+            ((6, 0), 4),
+            ((6, 33), 4),
+        ] {
+            assert_eq!(with(&[wrong, earlier]), Some(row));
+        }
+        for (later, row) in [
+            ((9, 0), 5),
+            ((8, 4), 5),
+            ((14, 4), 6),
+            ((15, 5), 7),
+            ((20, 5), 8),
+            ((21, 3), 9),
+            ((22, 2), 17),
+            ((13, 5), 10),
+        ] {
+            assert_eq!(with(&[later]), Some(row));
+            assert_eq!(with(&[wrong, later]), Some(22));
+        }
+    }
+    assert_eq!(plan_row(&row_eleven(1).fed(1)), Some(11));
+    assert_eq!(plan_row(&row_eleven(1).fed(2)), Some(22));
+}
+
+/// A file of version 4 in 15 bytes lacks the last byte of the number of blocks: it passes 6 and gets 7, whatever the byte
+/// before it says; 1 to 5 and 22 come first. In 16 bytes it is a plan without blocks.
+#[test]
+fn version_four_in_fifteen_bytes() {
+    for last in 0..=255 {
+        let with = |at: usize, byte: u8| {
+            let mut bytes = H_4[..15].to_vec();
+            (bytes[14], bytes[at]) = (last, byte);
+            enter_plan(&bytes).err()
+        };
+        assert_eq!(with(14, last), Some(7));
+        for (at, byte, row) in [
+            (0, 0, 2),
+            (4, 5, 3),
+            (5, 0, 4),
+            (6, 33, 4),
+            (7, 0, 22),
+            (7, 3, 22),
+            (5, 3, 22),
+            (9, 0, 5),
+            (8, 4, 5),
+        ] {
+            assert_eq!(with(at, byte), Some(row));
+        }
+        let whole = [&H_4[..14], &[last, 0]].concat();
+        let row = match last {
+            0 => None,
+            1..=4 => Some(7),
+            _ => Some(6),
+        };
+        assert_eq!(enter_plan(&whole).err(), row);
+    }
+    assert_eq!(enter_plan(&H_4[..14]).err(), Some(1));
+    for feeds in [1, 3] {
+        let bytes = empty().fed(feeds).bytes();
+        assert_eq!((bytes.len(), enter_plan(&bytes).err()), (16, None));
+        assert_eq!(text(&bytes, 9), "plan 3 2 0\nrest 0 0 0 0 0\n");
+    }
+}
+
+/// In version 4 rows 9 and 15 count feeds: rack r hangs on feed r mod F.
+#[test]
+fn spread_over_feeds() {
+    let on_six = |feeds: u8, spread: u8| plan_of((6, 1), 9, 3, &[(1, 3, spread)]).fed(feeds);
+    for (feeds, most) in [(1, 1), (2, 2), (3, 3), (6, 3)] {
+        for spread in 1..=4 {
+            let row = plan_row(&on_six(feeds, spread));
+            assert_eq!(row, (spread > most).then_some(9));
+        }
+    }
+    // Two feeds: racks 0, 2 and 4, racks 1, 3 and 5. Three feeds: racks 0 and 3, 1 and 4, 2 and 5.
+    for (feeds, spread, word, row) in [
+        (2, 2, 0b010101, Some(15)),
+        (2, 2, 0b101010, Some(15)),
+        (2, 2, 0b000111, None),
+        (2, 2, 0b110001, None),
+        (3, 2, 0b010101, None),
+        (3, 3, 0b000111, None),
+        (3, 3, 0b010101, None),
+        (3, 3, 0b110001, None),
+        (3, 3, 0b001011, Some(15)),
+        (3, 3, 0b011010, Some(15)),
+        (6, 3, 0b001011, None),
+    ] {
+        assert_eq!(check_row(&on_six(feeds, spread), &[word]), row);
+    }
+    assert_eq!(check_row(&two_feeds(), &[3, 5]), Some(15));
+    assert_eq!(check_row(&two_feeds().fed(4), &[3, 5]), None);
+    assert_eq!(check_row(&two_feeds().wide(), &[3, 5]), None);
+}
+
+/// The kinds of steps go by rack, also between racks of one feed; a step may not leave a block on too few feeds, though
+/// the racks would suffice.
+#[test]
+fn steps_on_feeds() {
+    let next = |draft: &Draft, words: &[u64]| {
+        assert_eq!(check_row(draft, words), None);
+        let plan = draft.plan().unwrap();
+        let next = step_plain(&plan, words);
+        assert_eq!(step_literal(&plan, words), next);
+        next
+    };
+    let moved = step(Kind::RackMove, 0, 2, 0, None);
+    assert_eq!(next(&two_feeds(), &TWO_FEEDS_WORDS), Some(moved));
+    let moved = step(Kind::RackMove, 0, 3, 0, None);
+    let swapped = step(Kind::RackSwap, 0, 3, 0, Some(7));
+    for (draft, words, forbidden) in [
+        (no_move_for_feed(), &NO_MOVE_WORDS[..], moved),
+        (no_swap_for_feed(), &NO_SWAP_WORDS, swapped),
+    ] {
+        assert_eq!(next(&draft, words), None);
+        assert_eq!(next(&draft.fed(4), words), Some(forbidden));
+        assert_eq!(next(&draft.wide(), words), Some(forbidden));
+    }
+}
+
 #[test]
 fn the_converter() {
     let mut buffer = [9; 40];
@@ -381,6 +597,11 @@ fn refusals_of_the_converter() {
         &later,
         &H_3[..35],
         &h_budget(3).wide().bytes(),
+        &H_4,
+        &K_4,
+        &H_4[..15],
+        &h().fed(0).bytes(),
+        &plan_of((0, 0), 0, 0, &[]).fed(0).bytes(),
     ] {
         assert_eq!(convert_row(bytes, 99), Some(3));
         assert_eq!(convert_row(bytes, 0), Some(3));
@@ -389,6 +610,8 @@ fn refusals_of_the_converter() {
     let mut marked = H_3;
     marked[0] = 0;
     assert_eq!(convert_row(&marked, 99), Some(2));
+    assert_eq!(convert_row(&H_4[..14], 99), Some(1));
+    assert_eq!(convert_row(&[&[0], &H_4[1..]].concat(), 99), Some(2));
     for length in [0, 30, 35] {
         assert_eq!(convert_row(&H, length), Some(12));
         assert_eq!(convert_row(&h_budget(3).bytes(), length), Some(10));

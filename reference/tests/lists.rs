@@ -154,14 +154,16 @@ fn what_is_claimed_after_a_list() {
     lists(25, 500, SMALL.paired());
     lists(26, 1000, TINY.wide());
     lists(27, 200, SMALL.wide());
+    lists(28, 2000, TINY.fed());
+    lists(29, 400, SMALL.fed());
 }
 
 /// A run in a list is its steps, each found word for word as the specification says.
 #[test]
 fn a_run_is_the_steps_of_a_list() {
     let rng = &mut Rng::new(23);
-    for number in 0..600 {
-        let size = [TINY, TINY.paired(), TINY.wide()][number / 200];
+    for number in 0..800 {
+        let size = [TINY, TINY.paired(), TINY.wide(), TINY.fed()][number / 200];
         let draft = draft(rng, size);
         let (bytes, plan) = (draft.bytes(), draft.plan().expect("an accepted plan"));
         let begin = leaning(rng, &plan);

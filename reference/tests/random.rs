@@ -41,7 +41,7 @@ fn plans(seed: u64, number: u64, size: Size) -> Vec<Plan> {
 
 /// So many plans of each version.
 fn plans_of_all(seed: u64, number: u64, size: Size) -> Vec<Plan> {
-    [size, size.paired(), size.wide()]
+    [size, size.paired(), size.wide(), size.fed()]
         .into_iter()
         .flat_map(|size| plans(seed, number, size))
         .collect()
@@ -50,7 +50,12 @@ fn plans_of_all(seed: u64, number: u64, size: Size) -> Vec<Plan> {
 /// The generators draw least copies up to the limit of each version, for pairs too.
 #[test]
 fn least_copies_reach_the_limit() {
-    for (size, most) in [(ROOMY, 8), (ROOMY.paired(), 8), (ROOMY.wide(), 10)] {
+    for (size, most) in [
+        (ROOMY, 8),
+        (ROOMY.paired(), 8),
+        (ROOMY.wide(), 10),
+        (ROOMY.fed(), 10),
+    ] {
         let plans = plans(30, 2000, size);
         let least = |of_pairs: bool| {
             let blocks = |p: &Plan| -> Vec<usize> {
@@ -151,7 +156,7 @@ fn all_counts(plan: &Plan) -> Vec<Vec<usize>> {
 
 #[test]
 fn chosen_counts_by_brute_force() {
-    let mut largest = [0; 3];
+    let mut largest = [0; 4];
     for plan in [plans_of_all(5, 400, TINY), plans_of_all(5, 60, ROOMY)]
         .concat()
         .into_iter()
@@ -169,7 +174,7 @@ fn chosen_counts_by_brute_force() {
         let largest = &mut largest[plan.version as usize - 1];
         *largest = expected.into_iter().fold(*largest, usize::max);
     }
-    assert_eq!(largest, [8, 8, 10]);
+    assert_eq!(largest, [8, 8, 10, 10]);
 }
 
 /// Every lawful placement, at any lawful counts.
@@ -192,11 +197,54 @@ fn maximum(plan: &Plan, words: &[u64]) -> u64 {
     *loads(plan, words).iter().max().unwrap()
 }
 
+/// The plan with fewer feeds than racks and more than one, if the racks can have them, and the largest spreads.
+fn stretched(rng: &mut Rng, mut draft: Draft) -> Draft {
+    let feeds = divisors(draft.racks);
+    if feeds.len() > 2 {
+        draft.feed_byte = rng.one_of(&feeds[1..feeds.len() - 1]);
+    }
+    for record in &mut draft.records {
+        record.spread = record.least.min(draft.feed_byte);
+    }
+    draft
+}
+
+/// So many plans like that.
+fn stretched_plans(seed: u64, number: u64, size: Size) -> Vec<Plan> {
+    let mut rng = Rng::new(seed);
+    let mut plan = || {
+        let draft = draft(&mut rng, size.fed());
+        stretched(&mut rng, draft).plan().expect("accepted")
+    };
+    (0..number).map(|_| plan()).collect()
+}
+
+/// A plan of version 4 on racks of one machine: on four racks with up to `blocks` blocks, or on six with two at most.
+fn on_feeds(rng: &mut Rng, blocks: u64) -> Draft {
+    let (racks, most) = rng.one_of(&[(4, blocks), (4, blocks), (6, 2)]);
+    let number = rng.from_to(1, most);
+    let draft = sized(rng, QUARTER.fed(), racks, 1, number);
+    if rng.once_in(3) {
+        draft
+    } else {
+        stretched(rng, draft)
+    }
+}
+
+/// Larger spreads than one over fewer feeds than racks.
+fn counts_feeds(plan: &Plan) -> bool {
+    plan.feeds < plan.racks && plan.blocks.iter().any(|b| b.spread > 1)
+}
+
 #[test]
 fn bound_at_rest_by_brute_force() {
+    let mut rng = Rng::new(31);
+    let fed = (0..300).map(|_| on_feeds(&mut rng, 4).plan().expect("accepted"));
     let some = [plans(6, 300, QUARTER), plans(6, 300, PAIRED_QUARTER)].concat();
+    let some: Vec<Plan> = some.into_iter().chain(fed).collect();
     let with_pairs = some.iter().filter(|plan| plan.pairs().next().is_some());
     assert!(with_pairs.count() > 60);
+    assert!(some.iter().filter(|plan| counts_feeds(plan)).count() > 30);
     for plan in some {
         let all = all_placements(&plan);
         let best = all.iter().map(|w| maximum(&plan, w)).min().unwrap();
@@ -214,11 +262,11 @@ fn bound_at_rest_by_brute_force() {
     }
 }
 
-fn ten_and_eleven(seed: u64, size: Size) {
+fn ten_and_eleven(seed: u64, drawn: impl Fn(&mut Rng) -> Draft) {
     let mut rng = Rng::new(seed);
     let mut refused = [0; 12];
     for _ in 0..600 {
-        let mut draft = draft(&mut rng, size);
+        let mut draft = drawn(&mut rng);
         draft.capacity = rng.from_to(1, 2) as u16;
         draft.budget = rng.below(14) as u32;
         let mut roomy = draft.clone();
@@ -231,29 +279,34 @@ fn ten_and_eleven(seed: u64, size: Size) {
             refused[usize::from(row)] += 1;
         }
     }
-    assert!(refused[10] > 20 && refused[11] > 20);
+    assert!(refused[10] > 20 && refused[11] > 20, "{refused:?}");
 }
 
 /// For plans past 17: no lawful placement exists exactly if 10 or 11 is given.
 #[test]
 fn ten_and_eleven_are_exact() {
-    ten_and_eleven(15, QUARTER);
-    ten_and_eleven(18, PAIRED_QUARTER);
+    ten_and_eleven(15, |rng| draft(rng, QUARTER));
+    ten_and_eleven(18, |rng| draft(rng, PAIRED_QUARTER));
+    ten_and_eleven(32, |rng| draft(rng, PAIRED_QUARTER.fed()));
+    ten_and_eleven(33, |rng| on_feeds(rng, 4));
 }
 
-/// Random bytes, budgets and capacities over tiny plans of versions 2 and 3: the definition's own words, row by row.
+/// Random bytes, budgets and capacities over tiny plans of versions 2 to 4, whose feeds may be any too: the definition's
+/// own words, row by row.
 #[test]
-fn rows_8_to_11_and_17_of_any_bytes() {
+fn rows_8_to_11_17_and_22_of_any_bytes() {
     rows_of_any_bytes(19, PAIRED_QUARTER, 3, 14);
     rows_of_any_bytes(21, PAIRED_QUARTER.wide(), 3, 14);
     rows_of_any_bytes(28, ROOMY.paired(), 12, 50);
     rows_of_any_bytes(29, ROOMY.wide(), 12, 50);
+    rows_of_any_bytes(34, PAIRED_QUARTER.fed(), 3, 14);
+    rows_of_any_bytes(35, ROOMY.fed(), 12, 50);
 }
 
 /// Least copies up to `most` and budgets below `budget`.
 fn rows_of_any_bytes(seed: u64, size: Size, most: u64, budget: u64) {
     let mut rng = Rng::new(seed);
-    let mut seen = [0; 18];
+    let mut seen = [0; 23];
     for _ in 0..60_000 {
         let mut draft = draft(&mut rng, size);
         draft.capacity = rng.from_to(1, 3) as u16;
@@ -269,6 +322,9 @@ fn rows_of_any_bytes(seed: u64, size: Size, most: u64, budget: u64) {
                 record.popularity ^= 1;
             }
         }
+        if size.version == 4 && rng.once_in(4) {
+            draft.feed_byte = rng.below(u64::from(draft.racks) + 2) as u8;
+        }
         let row = read(&draft.bytes()).err().unwrap_or(0);
         assert_eq!(row, row_by_words(&draft));
         seen[usize::from(row)] += 1;
@@ -276,19 +332,27 @@ fn rows_of_any_bytes(seed: u64, size: Size, most: u64, budget: u64) {
     for row in [0, 8, 9, 17, 10, 11] {
         assert!(seen[row] > 100, "{seen:?}");
     }
+    assert_eq!(seen[22] > 100, size.version == 4, "{seen:?}");
 }
 
-/// The row of a plan whose header is in order, from its fields.
+/// The row of a plan whose header is in order but for its feeds, from its fields.
 fn row_by_words(draft: &Draft) -> u8 {
     let (records, machines) = (&draft.records, draft.machines());
-    let most = if draft.version == 3 { 10 } else { 8 };
+    let (most, feeds) = match draft.version {
+        1 | 2 => (8, draft.racks),
+        3 => (10, draft.racks),
+        _ => (10, draft.feed_byte),
+    };
+    if !(1..=64).any(|of_each| of_each * u32::from(feeds) == u32::from(draft.racks)) {
+        return 22;
+    }
     for (i, r) in records.iter().enumerate() {
         let paired = r.pair == 1 || i > 0 && records[i - 1].pair == 1;
         let upper = if paired { machines / 2 } else { machines };
         if r.least == 0 || u64::from(r.least) > upper.min(most) {
             return 8;
         }
-        if r.spread == 0 || r.spread > r.least || r.spread > draft.racks {
+        if r.spread == 0 || r.spread > r.least || r.spread > feeds {
             return 9;
         }
     }
@@ -328,12 +392,16 @@ fn first_row(rng: &mut Rng, size: Size, number: u64) {
             pair: 0,
         });
         (plan.capacity, plan.budget) = (1024, u32::MAX);
-        for a in 1..=7 {
-            let flaw = flawed(rng, plan.bytes(), a);
-            assert_eq!(read(&flaw), Err(a));
-            for b in a + 1..=7 {
-                let flaw = flawed(rng, plan.bytes(), b);
-                assert_eq!(read(&flawed(rng, flaw, a)), Err(a));
+        let rows = match size.version {
+            4 => &PLAN_ROWS[..8],
+            _ => &ROWS_BEFORE_FEEDS[..7],
+        };
+        for (at, a) in rows.iter().enumerate() {
+            let flaw = flawed(rng, plan.bytes(), *a);
+            assert_eq!(read(&flaw), Err(*a));
+            for b in &rows[at + 1..] {
+                let flaw = flawed(rng, plan.bytes(), *b);
+                assert_eq!(read(&flawed(rng, flaw, *a)), Err(*a));
             }
         }
         for a in [8, 9, 17] {
@@ -363,6 +431,50 @@ fn damaged_plans_get_the_first_row() {
     first_row(&mut rng, SMALL, 200);
     first_row(&mut rng, SMALL.paired(), 200);
     first_row(&mut rng, SMALL.wide(), 200);
+    first_row(&mut rng, SMALL.fed(), 200);
+}
+
+/// Row 22 in each of its ways is met by the flaws: no feed, too few or too many to divide the racks. And for several racks
+/// the plans have one feed, a feed for each rack, and numbers between.
+#[test]
+fn feeds_of_all_kinds() {
+    let mut rng = Rng::new(36);
+    let (mut refused, mut accepted) = ([0; 3], [0; 3]);
+    for _ in 0..1000 {
+        let good = draft(&mut rng, SMALL.fed());
+        let racks = good.racks;
+        match good.feed_byte {
+            _ if racks == 1 => {}
+            1 => accepted[0] += 1,
+            feeds => accepted[1 + usize::from(feeds == racks)] += 1,
+        }
+        let bytes = flawed(&mut rng, good.bytes(), 22);
+        assert_eq!(read(&bytes), Err(22));
+        match bytes[7] {
+            0 => refused[0] += 1,
+            feeds => refused[1 + usize::from(feeds > racks)] += 1,
+        }
+    }
+    assert!(refused.iter().all(|n| *n > 100), "{refused:?}");
+    assert!(accepted.iter().all(|n| *n > 100), "{accepted:?}");
+}
+
+/// The first 15 bytes of a plan of version 4 get 7, unless one of the rows before 6 refuses them.
+#[test]
+fn fifteen_bytes_of_version_4() {
+    let mut rng = Rng::new(37);
+    for _ in 0..2000 {
+        let good = draft(&mut rng, SMALL.fed()).bytes();
+        assert_eq!(read(&cut_short(&mut rng, good.clone())), Err(7));
+        for row in [2, 3, 4, 22, 5] {
+            let flaw = flawed(&mut rng, good.clone(), row);
+            assert_eq!(read(&cut_short(&mut rng, flaw)), Err(row));
+        }
+        for row in [6, 7, 8, 9, 17, 10] {
+            let flaw = flawed(&mut rng, good.clone(), row);
+            assert_eq!(read(&cut_short(&mut rng, flaw)), Err(7));
+        }
+    }
 }
 
 /// Row 17 in each of its ways: alone, after a flaw of 8 or 9 at any block, before one of 10 or 11.
@@ -371,7 +483,7 @@ fn mispaired_plans_get_row_17() {
     let mut rng = Rng::new(20);
     for (how, size) in MISPAIRINGS
         .into_iter()
-        .flat_map(|how| [(how, SMALL.paired()), (how, SMALL.wide())])
+        .flat_map(|how| [SMALL.paired(), SMALL.wide(), SMALL.fed()].map(|size| (how, size)))
     {
         let mut number = 0;
         while number < 60 {
@@ -424,6 +536,7 @@ fn written(plan: &Plan, version: u16) -> Vec<u8> {
         version,
         racks: plan.racks as u8,
         per_rack: plan.per_rack as u8,
+        feed_byte: plan.feeds as u8,
         capacity: plan.capacity as u16,
         budget: plan.budget as u32,
         records: plan.blocks.iter().map(record).collect(),
@@ -482,12 +595,12 @@ fn same_answers(rng: &mut Rng, plan: &Plan, old: &[u8], new: &[u8]) {
     assert_eq!(text(old, 1000), text(new, 1000));
 }
 
-/// Damaged bytes of any version: the converter gives the plan's own row, and 3 for version 3 before 4.
+/// Damaged bytes of any version: the converter gives the plan's own row, and 3 for versions 3 and 4 before 4.
 #[test]
 fn a_conversion_is_refused_as_the_plan() {
     let mut rng = Rng::new(23);
-    for k in 0..6000 {
-        let version = 1 + k % 3;
+    for k in 0..8000 {
+        let version = 1 + k % 4;
         let size = Size { version, ..SMALL };
         let row = any_row(&mut rng, version);
         let good = draft(&mut rng, size).bytes();
@@ -495,9 +608,172 @@ fn a_conversion_is_refused_as_the_plan() {
         let row = read(&once).err();
         let expected = match row {
             Some(1..=3) => row,
-            _ if version == 3 => Some(3),
+            _ if version >= 3 => Some(3),
             _ => row,
         };
         assert_eq!(converted(&once).err(), expected);
     }
+}
+
+/// A plan of version 4 with a feed for each rack answers as the same plan in version 3. So do both where every spread is
+/// one, whatever the feeds.
+#[test]
+fn a_feed_for_each_rack_is_version_3() {
+    let mut rng = Rng::new(38);
+    for (size, number) in [(TINY, 150), (SMALL, 150), (MEDIUM, 20)] {
+        for _ in 0..number {
+            let mut wide = draft(&mut rng, size.wide());
+            let each = wide.fed(wide.racks);
+            assert_eq!(each.bytes(), written(&each.plan().expect("accepted"), 4));
+            same_everywhere(&mut rng, &wide, &each);
+            for record in &mut wide.records {
+                record.spread = 1;
+            }
+            for feeds in divisors(wide.racks) {
+                same_everywhere(&mut rng, &wide, &wide.fed(feeds));
+            }
+        }
+    }
+}
+
+/// Both plans have the same counts, first placement, runs and listing, and the same check of placements of all kinds.
+fn same_everywhere(rng: &mut Rng, one: &Draft, other: &Draft) {
+    let (plan, bytes) = (one.plan().expect("accepted"), one.bytes());
+    same_answers(rng, &plan, &bytes, &other.bytes());
+    let set = rng.from_to(1, 31);
+    let rows = [0, 1, 2, 3, 4].map(|r| set >> r & 1 == 1);
+    if let Some(words) = broken(rng, &plan, rows) {
+        let other = other.plan().expect("accepted");
+        assert_eq!(check(&plan, &words), check(&other, &words));
+    }
+}
+
+/// The feeds of a block, counted as the document says: machine m is in rack m div S, rack r hangs on feed r mod F.
+fn feeds_by_words(plan: &Plan, word: u64) -> usize {
+    let held = (0..plan.machines()).filter(|m| word >> m & 1 == 1);
+    let feeds: std::collections::BTreeSet<usize> =
+        held.map(|m| m / plan.per_rack % plan.feeds).collect();
+    feeds.len()
+}
+
+/// A word with so many copies, on any machines.
+fn any_word(rng: &mut Rng, machines: usize, copies: usize) -> u64 {
+    let mut word = 0;
+    while copies_of(word) < copies {
+        word |= 1 << rng.below(machines as u64);
+    }
+    word
+}
+
+/// Row 15 of any words with the chosen counts: some block is on fewer feeds than its spread. Among them are words for
+/// which the racks would suffice.
+#[test]
+fn row_15_counts_feeds() {
+    let mut rng = Rng::new(39);
+    let (mut refused, mut by_racks) = (0, 0);
+    for plan in stretched_plans(40, 4000, SMALL) {
+        let mut words = first(&plan);
+        for word in &mut words {
+            if rng.once_in(4) {
+                *word = any_word(&mut rng, plan.machines(), copies_of(*word));
+            }
+        }
+        let too_few = |plan: &Plan| {
+            let mut blocks = plan.blocks.iter().zip(&words);
+            blocks.any(|(b, w)| feeds_by_words(plan, *w) < b.spread)
+        };
+        let row = check(&plan, &words).err();
+        assert_eq!(row == Some(15), too_few(&plan));
+        let by_rack = Plan {
+            feeds: plan.racks,
+            ..plan.clone()
+        };
+        refused += u64::from(row == Some(15));
+        by_racks += u64::from(row == Some(15) && !too_few(&by_rack));
+    }
+    assert!(refused > 200 && by_racks > 100, "{refused} {by_racks}");
+}
+
+/// Racks of S machines as R × S racks of one machine on R feeds: the machines of a rack become the racks of a feed.
+fn rack_as_feed(draft: &Draft) -> Draft {
+    let mut fed = draft.fed(draft.racks);
+    (fed.racks, fed.per_rack) = (draft.racks * draft.per_rack, 1);
+    fed
+}
+
+/// Machine m after that: the racks of a feed lie as far apart as there are feeds.
+fn renumbered(plan: &Plan, m: usize) -> usize {
+    m % plan.per_rack * plan.racks + m / plan.per_rack
+}
+
+/// A plan of version 3 and the same one with feeds for racks and racks for machines: counts, the first placement, what
+/// is lawful, loads and rest are the same but for the machines' numbers.
+#[test]
+fn feeds_stand_for_racks() {
+    let mut rng = Rng::new(41);
+    let mut several = 0;
+    for (size, number) in [(TINY, 300), (SMALL, 300), (MEDIUM, 20)] {
+        for _ in 0..number {
+            let draft = draft(&mut rng, size.wide());
+            let plan = draft.plan().expect("accepted");
+            let fed = rack_as_feed(&draft).plan().expect("accepted");
+            let moved = |word: &u64| {
+                let held = (0..plan.machines()).filter(|m| holds(*word, *m));
+                held.fold(0, |w, m| w | 1 << renumbered(&plan, m))
+            };
+            let all = |words: &[u64]| -> Vec<u64> { words.iter().map(moved).collect() };
+            several += u64::from(fed.feeds > 1 && fed.feeds < fed.racks);
+            assert_eq!(chosen(&fed), chosen(&plan));
+            assert_eq!(first(&fed), all(&first(&plan)));
+            let (_, _, rest) = run(&plan, &first(&plan), u32::MAX);
+            let set = rng.from_to(1, 15);
+            let rows = [0, 1, 2, 3, 4].map(|r| set << 1 >> r & 1 == 1);
+            let damaged = broken(&mut rng, &plan, rows).unwrap_or_default();
+            for words in [leaning(&mut rng, &plan), rest] {
+                assert!(feasible(&fed, &all(&words)));
+                assert_eq!(
+                    step_plain(&fed, &all(&words)).is_none(),
+                    step_plain(&plan, &words).is_none()
+                );
+                let (before, after) = (loads(&plan, &words), loads(&fed, &all(&words)));
+                for (m, load) in before.iter().enumerate() {
+                    assert_eq!(after[renumbered(&plan, m)], *load);
+                }
+            }
+            assert_eq!(check(&fed, &all(&damaged)), check(&plan, &damaged));
+        }
+    }
+    assert!(several > 100, "{several}");
+}
+
+/// Among the steps to rest on fewer feeds than racks are all kinds, and moves between racks of one feed; beside them are
+/// moves and exchanges that come first by rack and that only the feeds forbid.
+#[test]
+fn random_steps_meet_the_feeds() {
+    let mut rng = Rng::new(42);
+    let (mut kinds, mut one_feed, mut forbidden) = ([0; 4], 0, [0; 2]);
+    for plan in stretched_plans(43, 600, SMALL) {
+        if plan.feeds == plan.racks {
+            continue;
+        }
+        let by_rack = Plan {
+            feeds: plan.racks,
+            ..plan.clone()
+        };
+        let mut words = leaning(&mut rng, &plan);
+        while let Some(step) = step_plain(&plan, &words) {
+            kinds[step.kind as usize] += 1;
+            let between = plan.rack_of(step.m) != plan.rack_of(step.n);
+            one_feed += u64::from(between && plan.feed_of(step.m) == plan.feed_of(step.n));
+            let other = step_plain(&by_rack, &words).expect("a step by rack, too");
+            if other != step {
+                assert!(other.allowed(&by_rack, &words) && !other.allowed(&plan, &words));
+                forbidden[usize::from(other.kind.exchanges())] += 1;
+            }
+            words = step.taken(&words);
+        }
+    }
+    assert!(kinds.iter().all(|n| *n > 100), "{kinds:?}");
+    assert!(one_feed > 100, "{one_feed}");
+    assert!(forbidden.iter().all(|n| *n > 20), "{forbidden:?}");
 }

@@ -1,7 +1,7 @@
 //! Reads counted over two hours: the rows and their order, the edges of the window and of the ticks, and pairs.
 
 use placement_reference::reads::*;
-use placement_reference::samples::{empty, h_budget, H, K};
+use placement_reference::samples::{empty, h, h_budget, H, H_4, K, K_4};
 
 const NONE: Entry = Entry { block: 0, tick: 0 };
 
@@ -167,6 +167,9 @@ fn order_of_the_rows() {
         (vec![], 1),
         (H[..29].to_vec(), 7),
         (h_budget(3).bytes(), 10),
+        (H_4[..15].to_vec(), 7),
+        (h().fed(3).bytes(), 22),
+        (h().fed(1).bytes(), 9),
     ] {
         assert_eq!(refused_for(&bytes, 3, &full, 2, 0), row);
         assert_eq!(enter_popularity(&bytes, 3, &full, 2), Err(row));
@@ -197,4 +200,5 @@ fn popularity_of_a_pair_is_the_larger() {
     assert_eq!(popularity(0), [Ok(0); 4]);
     let first = [entry(0, 1)];
     assert_eq!(enter_popularity(&K, 1, &first, 1), Ok(1));
+    assert_eq!(enter_popularity(&K_4, 1, &first, 1), Ok(1));
 }

@@ -67,7 +67,8 @@ fn relabelled(version: &[u8], plan: &[u8]) -> Vec<u8> {
     [&version[..5], &plan[5..]].concat()
 }
 
-/// Small plans of version 3, one that gets more copies there, and each version in the length of another.
+/// Small plans of versions 3 and 4, one that gets more copies there, each version in the length of another, and files of
+/// version 4 in 15 and 16 bytes.
 fn versions() -> Vec<Named> {
     vec![
         ("h-in-version-3", H_3.to_vec()),
@@ -79,6 +80,18 @@ fn versions() -> Vec<Named> {
         ("version-3-in-the-length-of-2", relabelled(&K_3, &K)),
         ("version-1-in-the-length-of-3", relabelled(&H, &H_3)),
         ("version-2-in-the-length-of-3", relabelled(&K, &K_3)),
+        ("h-in-version-4", H_4.to_vec()),
+        ("k-in-version-4", K_4.to_vec()),
+        ("two-feeds", two_feeds().bytes()),
+        ("one-feed", empty().fed(1).bytes()),
+        ("no-feed", h().fed(0).bytes()),
+        ("three-feeds-for-two-racks", h().fed(3).bytes()),
+        ("spread-above-the-feeds", h().fed(1).bytes()),
+        ("version-4-in-15-bytes", H_4[..15].to_vec()),
+        ("more-blocks-in-15-bytes", [&H_4[..14], &[255]].concat()),
+        ("version-4-in-the-length-of-1", relabelled(&H_4, &H)),
+        ("version-4-in-the-length-of-3", relabelled(&H_4, &H_3)),
+        ("version-3-in-the-length-of-4", relabelled(&H_3, &H_4)),
     ]
 }
 
@@ -93,7 +106,8 @@ fn wrong_lengths(largest: &[u8], garbage: &[u8]) -> [Named; 4] {
     ]
 }
 
-/// Inputs that are tried whatever the seed. The largest plan with pairs is tried in version 3 as its conversion.
+/// Inputs that are tried whatever the seed. The largest plan with pairs is tried in version 3 as its conversion, and in
+/// version 4 with two racks on each feed.
 fn named() -> Vec<Named> {
     let rng = &mut Rng::new(1024);
     let draft = largest(rng);
@@ -107,8 +121,10 @@ fn named() -> Vec<Named> {
         ("long-listing-of-pairs", pairs_listed.bytes()),
         ("largest-popularities", largest_wide().bytes()),
         ("ten-copies-of-pairs", ten_of_pairs.bytes()),
+        ("largest-on-feeds", largest_fed().bytes()),
         ("largest", draft.bytes()),
         ("largest-of-pairs", paired.bytes()),
+        ("largest-of-pairs-on-feeds", paired.fed(4).bytes()),
         ("garbage-behind-a-plan", [&H[..], &garbage].concat()),
         (
             "garbage-behind-a-refused-header",
@@ -116,7 +132,7 @@ fn named() -> Vec<Named> {
         ),
     ];
     inputs.extend(versions());
-    for draft in [&draft, &paired, &paired.wide()] {
+    for draft in [&draft, &paired, &paired.wide(), &paired.fed(8)] {
         inputs.extend(wrong_lengths(&draft.bytes(), &garbage));
     }
     inputs
@@ -145,20 +161,29 @@ fn damaged(rng: &mut Rng, size: Size) -> Vec<u8> {
         _ => None,
     };
     let bytes = draft.unwrap_or_else(|| placement_reference::gen::draft(rng, size));
+    let mut bytes = bytes.bytes();
     if rng.once_in(2) {
-        bytes.bytes()
-    } else {
-        let row = any_row(rng, size.version);
-        flawed(rng, bytes.bytes(), row)
+        let row = match size.version {
+            4 if rng.once_in(4) => 22,
+            version => any_row(rng, version),
+        };
+        bytes = flawed(rng, bytes, row);
     }
+    if size.version == 4 && bytes.len() > 15 && rng.once_in(8) {
+        bytes = cut_short(rng, bytes);
+    }
+    bytes
 }
 
 /// The input of one trial, of any version.
 fn input(rng: &mut Rng) -> Vec<u8> {
-    let version = rng.from_to(1, 3) as u16;
+    let version = rng.from_to(1, 4) as u16;
     let of = |size: Size| Size { version, ..size };
     match rng.below(200) {
-        0 => in_version(coarse(rng), version).bytes(),
+        0 => {
+            let draft = coarse(rng);
+            in_version(rng, draft, version).bytes()
+        }
         1..=3 => too_long(rng),
         4..=13 => noise(rng, version as u8),
         14..=49 => damaged(rng, of(SMALL)),
@@ -169,8 +194,11 @@ fn input(rng: &mut Rng) -> Vec<u8> {
     }
 }
 
-/// The plan in this version, from version 2 on with pairs back to back.
-fn in_version(draft: Draft, version: u16) -> Draft {
+/// The plan in this version, from version 2 on with pairs back to back, in version 4 on so many feeds as its spreads allow.
+fn in_version(rng: &mut Rng, draft: Draft, version: u16) -> Draft {
+    let spread = draft.records.iter().map(|r| r.spread).max().unwrap_or(1);
+    let feeds = divisors(draft.racks).into_iter();
+    let feeds: Vec<u8> = feeds.filter(|feeds| *feeds >= spread).collect();
     let paired = if draft.machines() < 2 {
         draft.unpaired()
     } else {
@@ -179,14 +207,15 @@ fn in_version(draft: Draft, version: u16) -> Draft {
     match version {
         1 => draft,
         2 => paired,
-        _ => paired.wide(),
+        3 => paired.wide(),
+        _ => paired.fed(rng.one_of(&feeds)),
     }
 }
 
 /// How many trials ended in which way.
 #[derive(Default)]
 struct Tally {
-    refused: [u64; 18],
+    refused: [u64; 23],
     rest: u64,
     spent: u64,
     converted: u64,
@@ -297,8 +326,9 @@ fn main() -> Result<()> {
     for k in 0..count {
         let mut rng = Rng::new(seed.wrapping_mul(1 << 32).wrapping_add(k));
         let bytes = if k % 3000 == 2999 {
-            let version = rng.from_to(1, 3) as u16;
-            in_version(patient(&mut rng), version).bytes()
+            let version = rng.from_to(1, 4) as u16;
+            let draft = patient(&mut rng);
+            in_version(&mut rng, draft, version).bytes()
         } else {
             input(&mut rng)
         };

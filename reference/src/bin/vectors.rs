@@ -3,7 +3,7 @@
 use placement_reference::convert::converted;
 use placement_reference::gen::{patient, sized, Draft, Rng, SMALL};
 use placement_reference::listing::{text, STEP_BUDGET};
-use placement_reference::samples::{calibration, empty, h_budget, video, y, H};
+use placement_reference::samples::{calibration, empty, feeds, h_budget, video, y, H, H_4};
 use placement_reference::stream::replay;
 use placement_reference::trials::stream;
 use std::fs::{create_dir_all, write};
@@ -55,6 +55,8 @@ fn examples() -> Vec<(&'static str, Vec<u8>)> {
         ("calibration", calibration().bytes()),
         ("calibration-3", in_version_3(&calibration().bytes())),
         ("wide", video().bytes()),
+        ("h-4", H_4.to_vec()),
+        ("feeds", feeds().bytes()),
         // It needs 100,036 steps to rest, so the program's budget ends a little before.
         ("spent", patient(&mut Rng::new(0)).bytes()),
     ]

@@ -1,7 +1,7 @@
 //! Trials of the converter: plans of versions 1 and 2 as version 3, and its refusals.
 
 use super::*;
-use crate::damage::{mispaired, with_sum_flaw, MISPAIRINGS, PLAN_ROWS};
+use crate::damage::{mispaired, with_sum_flaw, MISPAIRINGS, ROWS_BEFORE_FEEDS};
 use crate::reads::Entry;
 
 /// All trials of the converter.
@@ -59,7 +59,7 @@ fn version_3(w: &mut Writer, rng: &mut Rng) {
     }
     w.title("version 3 with the flaw of each row");
     for plan in [sized(rng, SMALL.wide(), 2, 3, 6), k().wide()] {
-        for row in PLAN_ROWS {
+        for row in ROWS_BEFORE_FEEDS {
             w.plan(&flawed(rng, plan.bytes(), row));
             w.convert(0);
             w.convert(8000);
@@ -115,14 +115,14 @@ fn damaged(w: &mut Writer, rng: &mut Rng) {
     w.title("conversions of generated plans, damaged at one row, in version 2 at two");
     for size in [SMALL, SMALL.paired(), SMALL.wide()] {
         let good = sized(rng, size, 3, 3, 8).bytes();
-        for (at, a) in PLAN_ROWS.into_iter().enumerate() {
+        for (at, a) in ROWS_BEFORE_FEEDS.into_iter().enumerate() {
             w.plan(&flawed(rng, good.clone(), a));
             w.convert(0);
             w.convert(80);
             if size.version != 2 {
                 continue;
             }
-            for b in &PLAN_ROWS[at + 1..] {
+            for b in &ROWS_BEFORE_FEEDS[at + 1..] {
                 let two = flawed(rng, good.clone(), *b);
                 w.plan(&flawed(rng, two, a));
                 w.convert(rng.one_of(&[0, 60, 80]));

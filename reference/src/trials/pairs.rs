@@ -2,7 +2,7 @@
 
 use super::*;
 use crate::counts::chosen;
-use crate::damage::{mispaired, with_block_flaw, with_sum_flaw, MISPAIRINGS, PLAN_ROWS};
+use crate::damage::{mispaired, with_block_flaw, with_sum_flaw, MISPAIRINGS, ROWS_BEFORE_FEEDS};
 use crate::plan::most_copies;
 use crate::steps::{step_plain, Step};
 
@@ -215,10 +215,10 @@ fn damaged(w: &mut Writer, rng: &mut Rng) {
     w.lend(40);
     for _ in 0..2 {
         let good = draft(rng, SMALL.paired()).bytes();
-        for (at, a) in PLAN_ROWS.into_iter().enumerate() {
+        for (at, a) in ROWS_BEFORE_FEEDS.into_iter().enumerate() {
             let one = flawed(rng, good.clone(), a);
             refused_plan(w, &one);
-            for b in &PLAN_ROWS[at + 1..] {
+            for b in &ROWS_BEFORE_FEEDS[at + 1..] {
                 let two = flawed(rng, good.clone(), *b);
                 w.plan(&flawed(rng, two, a));
                 w.calls("ps");

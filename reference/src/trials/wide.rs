@@ -3,7 +3,7 @@
 use super::pairs::handed_in;
 use super::reads::random_histories;
 use super::*;
-use crate::damage::{mispaired, with_block_flaw, with_sum_flaw, MISPAIRINGS, PLAN_ROWS};
+use crate::damage::{mispaired, with_block_flaw, with_sum_flaw, MISPAIRINGS, ROWS_BEFORE_FEEDS};
 use crate::reads::{Entry, WINDOW};
 
 /// All trials of version 3.
@@ -208,9 +208,9 @@ fn damaged(w: &mut Writer, rng: &mut Rng) {
     w.lend(40);
     let size = SMALL.wide();
     let good = sized(rng, size, 3, 4, 9).bytes();
-    for (at, a) in PLAN_ROWS.into_iter().enumerate() {
+    for (at, a) in ROWS_BEFORE_FEEDS.into_iter().enumerate() {
         refused_plan(w, &flawed(rng, good.clone(), a));
-        for b in &PLAN_ROWS[at + 1..] {
+        for b in &ROWS_BEFORE_FEEDS[at + 1..] {
             let two = flawed(rng, good.clone(), *b);
             w.plan(&flawed(rng, two, a));
             w.calls("ps");
