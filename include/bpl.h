@@ -5,34 +5,43 @@
  *
  * Results
  *   0         done: what is written below is written.
- *   1 to 21   refused, by the table below: nothing is written to any buffer.
+ *   1 to 22   refused, by the table below: nothing is written to any buffer.
  *   255       a lent buffer for results is too short (`out`, or the text of bpl_listing): nothing is written. A short
  *             `out` is judged first of all, before the plan is looked at.
  *   No other value is returned (proved: crates/capi/specs/Codes.antt, and for bpl_play by its contract).
  *
  *    1  the plan is shorter than 15 bytes           10  the sum of least copies is above the budget
  *    2  its mark differs from 42 50 4C              11  the sum of least copies is above M * C
- *    3  its version is none of 1, 2 and 3; for      12  fewer than B counts or words are lent, or for
+ *    3  its version is none of 1 to 4; for          12  fewer than B counts or words are lent, or for
  *       bpl_convert it is neither 1 nor 2               bpl_convert fewer than 15 + 7 * B bytes
  *    4  R or S is 0, or M is above 64               13  a bit at or above M is set
  *    5  C is 0 or above 1,024                       14  a block's copies are not its chosen count
- *    6  B is above 1,024                            15  a block lies in fewer racks than its spread
- *    7  its length is not that of its version:      16  a machine holds more than C copies
- *       15 + 5 * B, 15 + 6 * B or 15 + 7 * B        17  a pair byte is neither 0 nor 1, or the last block has
+ *    6  B is above 1,024                            15  a block lies in fewer racks than its spread, in
+ *    7  its length is not that of its version:          version 4 in fewer feeds
+ *       15 + 5 * B, 15 + 6 * B, 15 + 7 * B or       16  a machine holds more than C copies
+ *       16 + 7 * B                                  17  a pair byte is neither 0 nor 1, or the last block has
  *    8  least copies 0 or above min(L, M), of a         1, or two successive blocks have, or a pair differs
  *       paired block above min(L, M / 2), where L       in popularity, least copies or spread
- *       is 8, and in version 3 it is 10             18  a machine holds both blocks of a pair
+ *       is 8, and in versions 3 and 4 it is 10      18  a machine holds both blocks of a pair
  *    9  a spread is 0, above the least copies, or   19  the block is not in the plan: its number is B or above
- *       above R                                     20  the last entry's tick has an age of 2^31 or more
+ *       above R, in version 4 above F               20  the last entry's tick has an age of 2^31 or more
  *                                                   21  the list is full after the dropping
+ *                                                   22  F, in version 4, is 0 or does not divide R
  *
- *   The checks go in numerical order, but 8 and 9 are made block by block, 8 first, and 17 directly after them. 13 to
- *   16 and 18 are made on a placement handed in (bpl_check, bpl_report, bpl_step, bpl_run, the calls of bpl_play), each
- *   over all blocks or machines before the next. 19 is made by bpl_read and bpl_popularity, after 1 to 11 and 17, and
- *   then 20 and 21 by bpl_read.
- *   A record has the popularity in 3 bytes, in version 3 in 4, then the least copies and the spread in one each and, in
- *   versions 2 and 3, a pair byte: 1 pairs the block with the next one, and no machine holds copies of both.
+ *   The checks go in numerical order, but 22 stands directly after 4; 8 and 9 are made block by block, 8 first, and 17
+ *   directly after them. 13 to 16 and 18 are made on a placement handed in (bpl_check, bpl_report, bpl_step, bpl_run,
+ *   the calls of bpl_play), each over all blocks or machines before the next. 19 is made by bpl_read and
+ *   bpl_popularity, after 1 to 11, 17 and 22, and then 20 and 21 by bpl_read.
+ *
+ * The plan file, versions 1 to 4
+ *   All fields are unsigned, high byte first. The header has the mark in 3 bytes, the version in 2, the racks R and the
+ *   machines per rack S in one each, the capacity C in 2, the budget in 4 and the number of blocks B in 2: 15 bytes. In
+ *   version 4 it has 16: the number of mains feeds F stands in a byte behind S. M is R * S, machine m is in rack m / S.
+ *   Rack r hangs on feed r mod F. A spread counts racks, and in version 4 feeds: with F = R that is the same.
+ *   A record has the popularity in 3 bytes, in versions 3 and 4 in 4, then the least copies and the spread in one each
+ *   and, from version 2 on, a pair byte: 1 pairs the block with the next one, and no machine holds copies of both.
  *   M / 2 is rounded down. Both of a pair are paired for 8, and so is every block behind a byte of 1.
+ *   A version 4 plan of 15 bytes has no whole B: it passes 6 and gets 7.
  *
  * Buffers
  *   A buffer is a pointer and then the number of its items (bytes for uint8_t, words for uint64_t, records for struct
@@ -65,9 +74,9 @@
 extern "C" {
 #endif
 
-/* The largest plan of any version: 1,024 blocks in version 3. */
+/* The largest plan of any version: 1,024 blocks in version 4. */
 #define BPL_MAX_BLOCKS 1024
-#define BPL_MAX_PLAN_BYTES (15 + 7 * BPL_MAX_BLOCKS)
+#define BPL_MAX_PLAN_BYTES (16 + 7 * BPL_MAX_BLOCKS)
 
 /* The records of a list that are used at most, and the milliseconds that a read counts: two hours. */
 #define BPL_MAX_ENTRIES 4096
@@ -89,7 +98,7 @@ extern "C" {
 /* The result for a buffer of results that is too short. */
 #define BPL_SHORT_BUFFER 255
 
-/* The kinds of a step. */
+/* The kinds of a step: in one rack, and between racks. They go by rack in every version. */
 #define BPL_MOVE 0
 #define BPL_SWAP 1
 #define BPL_RACK_MOVE 2
@@ -116,23 +125,23 @@ extern "C" {
 #define BPL_LEND(number) ((uint64_t)(number) << 35)
 #define BPL_LEND_ALL BPL_LEND(0x1FFFFFFF)
 
-/* Judges a plan: refusals 1 to 11 and 17. Writes nothing. */
+/* Judges a plan: refusals 1 to 11, 17 and 22. Writes nothing. */
 uint32_t bpl_plan(const uint8_t *plan, size_t plan_len);
 
 /*
- * The chosen counts: refusals 1 to 12 and 17. Writes the B counts to the first B items of `counts`; the others stay.
- * Each is from the block's least copies to its limit by check 8, so at most 8, and in version 3 at most 10.
+ * The chosen counts: refusals 1 to 12, 17 and 22. Writes the B counts to the first B items of `counts`; the others
+ * stay. Each is from the block's least copies to its limit by check 8, so at most 8, in versions 3 and 4 at most 10.
  */
 uint32_t bpl_counts(const uint8_t *plan, size_t plan_len, uint8_t *counts, size_t counts_len);
 
-/* The first placement: refusals 1 to 12 and 17. Writes the first B words. */
+/* The first placement: refusals 1 to 12, 17 and 22. Writes the first B words. */
 uint32_t bpl_first(const uint8_t *plan, size_t plan_len, uint64_t *words, size_t words_len);
 
-/* Checks a placement: refusals 1 to 18. Writes nothing. */
+/* Checks a placement: refusals 1 to 18 and 22. Writes nothing. */
 uint32_t bpl_check(const uint8_t *plan, size_t plan_len, const uint64_t *words, size_t words_len);
 
 /*
- * Reports on a placement: refusals 1 to 18, and 255 where out_len is below 4.
+ * Reports on a placement: refusals 1 to 18 and 22, and 255 where out_len is below 4.
  * Writes out[0] the largest load of a machine, out[1] the smallest, out[2] the sum of all loads, out[3] the largest
  * share of a copy (0 if B is 0). All are in 2520ths of a read, so that the shares of 1 to 10 copies are whole.
  */
@@ -140,7 +149,7 @@ uint32_t bpl_report(const uint8_t *plan, size_t plan_len, const uint64_t *words,
                     uint64_t *out, size_t out_len);
 
 /*
- * Takes the next step of a placement: refusals 1 to 18, and 255 where out_len is below 6.
+ * Takes the next step of a placement: refusals 1 to 18 and 22, and 255 where out_len is below 6.
  * Writes the placement after the step to the first B words, and out[0] 1, out[1] the kind, out[2] m, out[3] n,
  * out[4] i, out[5] j: the copy of block i passes from machine m to n and, for a swap, that of block j from n to m
  * (j is 0 for a move). At rest there is no step: the words stay as they were and out[0] to out[5] are 0.
@@ -149,7 +158,7 @@ uint32_t bpl_step(const uint8_t *plan, size_t plan_len, uint64_t *words, size_t 
                   uint64_t *out, size_t out_len);
 
 /*
- * Takes next steps of a placement until rest or until `budget` steps are taken: refusals 1 to 18, and 255 where
+ * Takes next steps of a placement until rest or until `budget` steps are taken: refusals 1 to 18 and 22, and 255 where
  * out_len is below 2.
  * Writes the placement after the last step to the first B words, out[0] 1 for rest and 0 where the budget is spent
  * and a step is still left, and out[1] the number of steps taken.
@@ -158,8 +167,8 @@ uint32_t bpl_run(const uint8_t *plan, size_t plan_len, uint64_t *words, size_t w
                  uint32_t budget, uint64_t *out, size_t out_len);
 
 /*
- * The listing of a plan, of a run from its first placement with step budget `budget`: refusals 1 to 11 and 17, and 255
- * where out_len is below 1 or text_len below BPL_LISTING_ROOM.
+ * The listing of a plan, of a run from its first placement with step budget `budget`: refusals 1 to 11, 17 and 22, and
+ * 255 where out_len is below 1 or text_len below BPL_LISTING_ROOM.
  * Writes the listing's bytes (ASCII, no 0 at the end) to the start of `text`, and their number to out[0]; the text
  * behind them stays.
  */
@@ -176,7 +185,7 @@ uint32_t bpl_listing(const uint8_t *plan, size_t plan_len, uint32_t budget, uint
  * so many of the words as it is lent, as the calls before it left them. A refused call writes nothing, and the next
  * one is made all the same. `other` may be empty: a call that gets it is refused with 1.
  * The words are as the last call left them. Writes that call's reply to out[0] to out[6]: out[0] its kind, and then
- *   BPL_REFUSED   out[1] the refusal, 1 to 18;
+ *   BPL_REFUSED   out[1] the refusal, 1 to 18 or 22;
  *   BPL_CHECKED   nothing: the check passed, or the script is empty;
  *   BPL_STEPPED   out[1] to out[6] as bpl_step writes out[0] to out[5];
  *   BPL_RAN       out[1] and out[2] as bpl_run writes out[0] and out[1];
@@ -199,7 +208,7 @@ struct bpl_entry {
 };
 
 /*
- * Enters a read of a block at a millisecond tick of 32 bits, which starts over: refusals 1 to 11, 17 and 19 to 21, and
+ * Enters a read of a block at a millisecond tick of 32 bits, which starts over: refusals 1 to 11, 17 and 19 to 22, and
  * 255 where out_len is below 1. 12 is not tested.
  * The age of an entry is `tick` minus its own, modulo 2^32. Entries of age BPL_READ_WINDOW_MS and more are dropped,
  * those kept move to the front in order, the new one follows, and the later records of the usable length become 0.
@@ -216,7 +225,7 @@ uint32_t bpl_read(const uint8_t *plan, size_t plan_len, uint32_t block, uint32_t
                   struct bpl_entry *list, size_t list_len, uint64_t count, uint64_t *out, size_t out_len);
 
 /*
- * The popularity of a block, for the next plan file: refusals 1 to 11, 17 and 19, and 255 where out_len is below 1.
+ * The popularity of a block, for the next plan file: refusals 1 to 11, 17, 19 and 22, and 255 where out_len is below 1.
  * Writes the number of the block's entries to out[0], for both blocks of a pair the larger of their numbers. The list
  * is not written: only bpl_read drops entries.
  */
@@ -224,8 +233,9 @@ uint32_t bpl_popularity(const uint8_t *plan, size_t plan_len, uint32_t block,
                         const struct bpl_entry *list, size_t list_len, uint64_t count, uint64_t *out, size_t out_len);
 
 /*
- * Converts a plan of version 1 or 2 to version 3: refusals 1 to 12 and 17, 3 also for version 3, and 255 where out_len
- * is below 1. 12, after all other checks, where buffer_len is below 15 + 7 * B: BPL_MAX_PLAN_BYTES are always enough.
+ * Converts a plan of version 1 or 2 to version 3: refusals 1 to 12 and 17, 3 also for versions 3 and 4, and 255 where
+ * out_len is below 1. 12, after all other checks, where buffer_len is below 15 + 7 * B: BPL_MAX_PLAN_BYTES are always
+ * enough.
  * Writes the plan in version 3 to the start of `buffer` and its length, 15 + 7 * B, to out[0]; the bytes behind it
  * stay. It has the same fields, with pair bytes of 0 for version 1. Its counts, placements and listing are sure to be
  * the same only where M is at most 8: above, version 3 may give a block 9 or 10 copies.

@@ -7,14 +7,15 @@
  * It makes the calls one by one, as a store would: judge the plan, choose the counts, make the first placement, take
  * steps until rest, report. It puts the listing together from their answers, and compares it with bpl_listing's. Then
  * it makes the steps anew as one script, and compares the placements. It converts an old plan to version 3 and, with
- * at most 8 machines, compares the listings. Last it counts reads of the blocks, and makes the next plan file of their
+ * at most 8 machines, compares the listings. It writes a plan of version 3 as version 4, with a mains feed for each
+ * rack, and compares the listings. Last it counts reads of the blocks, and makes the next plan file of their
  * popularities.
  * scripts/c-example compiles, runs and tests it. The status is 0 for a listing, 1 for a refused plan, 2 for a failure.
  *
  * How every call is used here:
  * - All memory is the caller's. A buffer is passed as a pointer and its number of items, not its size in bytes.
  * - The code that a call answers is looked at before anything else. Only with code 0 has the call written something;
- *   with a refusal, 1 to 21, every buffer is as it was.
+ *   with a refusal, 1 to 22, every buffer is as it was.
  * - BPL_SHORT_BUFFER is no property of the plan but a mistake of the caller: a buffer for results is too short.
  */
 #include "bpl.h"
@@ -34,10 +35,12 @@
 /* With so many machines or fewer, a plan has the same listing in version 3. With more, blocks may get 9 or 10 copies. */
 #define MACHINES_ALIKE 8
 
-/* Where the fields of a plan file begin. */
+/* Where the fields of a plan file begin. In version 4 the number of mains feeds stands behind the machines per rack,
+ * and the later fields begin a byte later. */
 #define VERSION_AT 3
 #define RACKS_AT 5
 #define RACK_SIZE_AT 6
+#define FEEDS_AT 7
 #define BLOCKS_AT 13
 #define RECORDS_AT 15
 
@@ -52,25 +55,26 @@ static const char *reason(uint32_t code)
         [0] = "done",
         [1] = "the plan is shorter than 15 bytes",
         [2] = "the mark differs",
-        [3] = "the version is none of 1, 2 and 3, or is 3 already where it is converted",
+        [3] = "the version is none of 1 to 4, or is 3 or 4 already where it is converted",
         [4] = "R or S is 0, or there are more than 64 machines",
         [5] = "C is 0 or above 1,024",
         [6] = "there are more than 1,024 blocks",
-        [7] = "the length is not 15 + 5 * B in version 1, 15 + 6 * B in version 2, or 15 + 7 * B in version 3",
-        [8] = "a block's least copies are 0, above 8 (in version 3 above 10), or above M, in a pair half of M",
-        [9] = "a block's spread is 0, above its least copies, or above R",
+        [7] = "the length is not that of the version: 15 + 5 * B, 15 + 6 * B, 15 + 7 * B, or 16 + 7 * B",
+        [8] = "a block's least copies are 0, above 8 (from version 3 on above 10), or above M, in a pair half of M",
+        [9] = "a block's spread is 0, above its least copies, or above R (in version 4 above F)",
         [10] = "the sum of least copies is above the budget",
         [11] = "the sum of least copies is above M * C",
         [12] = "fewer than B counts or words are lent, or fewer bytes than a converted plan has",
         [13] = "a bit at or above M is set",
         [14] = "a block's copies are not its chosen count",
-        [15] = "a block lies in fewer racks than its spread",
+        [15] = "a block lies in fewer racks (in version 4 in fewer feeds) than its spread",
         [16] = "a machine holds more than C copies",
         [17] = "a pair byte is neither 0 nor 1, marks no pair, or marks two blocks that differ",
         [18] = "a machine holds both blocks of a pair",
         [19] = "the block is not in the plan",
         [20] = "the last entry's tick has an age of 2^31 or more",
         [21] = "the list is full of reads that still count",
+        [22] = "F is 0 or does not divide R",
     };
     if (code < sizeof reasons / sizeof reasons[0])
         return reasons[code];
@@ -102,16 +106,40 @@ static uint32_t field(const uint8_t *plan, size_t at, size_t bytes)
     return number;
 }
 
-/* The bytes of a popularity, which a record begins with: one more in version 3. */
+/* The version of a plan. */
+static uint32_t version_of(const uint8_t *plan)
+{
+    return field(plan, VERSION_AT, 2);
+}
+
+/* The bytes that the fields behind the machines per rack begin later than in version 1: one in version 4. */
+static size_t later_by(const uint8_t *plan)
+{
+    return version_of(plan) == 4 ? 1 : 0;
+}
+
+/* The number of blocks B. */
+static uint32_t blocks_of(const uint8_t *plan)
+{
+    return field(plan, BLOCKS_AT + later_by(plan), 2);
+}
+
+/* The bytes of a popularity, which a record begins with: one more from version 3 on. */
 static size_t popularity_bytes(const uint8_t *plan)
 {
-    return field(plan, VERSION_AT, 2) == 3 ? 4 : 3;
+    return version_of(plan) >= 3 ? 4 : 3;
 }
 
 /* The bytes of a record: least copies and spread follow, and from version 2 on a pair byte. */
 static size_t record_bytes(const uint8_t *plan)
 {
-    return popularity_bytes(plan) + (field(plan, VERSION_AT, 2) == 1 ? 2 : 3);
+    return popularity_bytes(plan) + (version_of(plan) == 1 ? 2 : 3);
+}
+
+/* Where the record of block i begins. */
+static size_t record_at(const uint8_t *plan, uint32_t i)
+{
+    return RECORDS_AT + later_by(plan) + record_bytes(plan) * i;
 }
 
 /* Makes plan H with a budget of copies: 2 racks of 2 machines, 3 copies on each, three blocks. Answers its length. */
@@ -137,6 +165,16 @@ static size_t make_plan_h(uint8_t *plan, uint32_t budget)
         at = put_field(plan, at, 1, blocks[i].spread);
     }
     return at;
+}
+
+/* Writes a plan of version 3 as version 4, its racks on so many mains feeds. Answers its length, a byte more. */
+static size_t put_on_feeds(uint8_t *plan, const uint8_t *old, size_t old_len, uint32_t feeds)
+{
+    memcpy(plan, old, FEEDS_AT);
+    put_field(plan, VERSION_AT, 2, 4);
+    const size_t at = put_field(plan, FEEDS_AT, 1, feeds);
+    memcpy(plan + at, old + FEEDS_AT, old_len - FEEDS_AT);
+    return old_len + 1;
 }
 
 /* Reads at most `room` bytes of a file. False where that fails; else their number is in *size. */
@@ -227,11 +265,11 @@ static uint32_t list(struct store *store, struct text *text)
     /* The plan was accepted, so all its records are there. */
     const uint32_t racks = field(plan, RACKS_AT, 1);
     const uint32_t rack_size = field(plan, RACK_SIZE_AT, 1);
-    const uint32_t blocks = field(plan, BLOCKS_AT, 2);
+    const uint32_t blocks = blocks_of(plan);
     text->size = 0;
     add(text, "plan %" PRIu32 " %" PRIu32 " %" PRIu32 "\n", racks, rack_size, blocks);
     for (uint32_t i = 0; i < blocks; i++) {
-        const uint64_t popularity = field(plan, RECORDS_AT + record_bytes(plan) * i, popularity_bytes(plan));
+        const uint64_t popularity = field(plan, record_at(plan, i), popularity_bytes(plan));
         const uint64_t share = popularity * UNITS_PER_READ / store->counts[i];
         add(text, "block %" PRIu32 " %u %" PRIu64, i, (unsigned)store->counts[i], share);
         for (uint32_t m = 0; m < racks * rack_size; m++)
@@ -275,9 +313,26 @@ static bool plays_alike(const struct store *store)
     return code == 0 && reply[0] == BPL_CHECKED && memcmp(words, store->words, sizeof words) == 0;
 }
 
+/* Whether the two texts are the same. */
+static bool same_text(const struct text *text, const struct text *other)
+{
+    return text->size == other->size && memcmp(text->bytes, other->bytes, text->size) == 0;
+}
+
+/* Whether a plan of version 3 has the same listing in version 4 with a mains feed for each rack: a spread over feeds is
+ * then one over racks. A store whose racks share feeds would write their number. */
+static bool spreads_alike(const struct store *store, const struct text *text)
+{
+    static uint8_t plan[BPL_MAX_PLAN_BYTES];
+    static struct store on_feeds = {.plan = plan};
+    static struct text listed;
+    on_feeds.plan_len = put_on_feeds(plan, store->plan, store->plan_len, field(store->plan, RACKS_AT, 1));
+    return list(&on_feeds, &listed) == 0 && is_listing(&on_feeds, &listed) && same_text(&listed, text);
+}
+
 /* Whether the plan in version 3, as a store would keep an old one from now on, has the same listing; with more than
- * MACHINES_ALIKE machines, whether the calls make bpl_listing's listing of it. A plan that is of version 3 already is
- * refused with 3. */
+ * MACHINES_ALIKE machines, whether the calls make bpl_listing's listing of it. A plan that is of version 3 or 4 already
+ * is refused with 3. What is of version 3 in the end is listed in version 4, too. */
 static bool converts_well(const struct store *store, const struct text *text)
 {
     static uint8_t plan[BPL_MAX_PLAN_BYTES];
@@ -286,16 +341,16 @@ static bool converts_well(const struct store *store, const struct text *text)
     uint64_t length[BPL_CONVERT_NUMBERS];
     const uint32_t code =
         bpl_convert(store->plan, store->plan_len, plan, sizeof plan, length, BPL_CONVERT_NUMBERS);
-    if (field(store->plan, VERSION_AT, 2) == 3)
-        return code == 3;
+    if (version_of(store->plan) >= 3)
+        return code == 3 && (version_of(store->plan) == 4 || spreads_alike(store, text));
     if (code != 0)
         return false;
     converted.plan_len = (size_t)length[0];
     if (list(&converted, &listed) != 0)
         return false;
     if (field(plan, RACKS_AT, 1) * field(plan, RACK_SIZE_AT, 1) > MACHINES_ALIKE)
-        return is_listing(&converted, &listed);
-    return listed.size == text->size && memcmp(listed.bytes, text->bytes, text->size) == 0;
+        return is_listing(&converted, &listed) && spreads_alike(&converted, &listed);
+    return same_text(&listed, text) && spreads_alike(&converted, &listed);
 }
 
 /* The reads that count, which a store keeps from call to call; without entries at first. */
@@ -320,7 +375,7 @@ static bool makes_next_plan(const struct store *store)
 {
     static uint8_t next[BPL_MAX_PLAN_BYTES];
     static struct reads reads;
-    const uint32_t blocks = field(store->plan, BLOCKS_AT, 2);
+    const uint32_t blocks = blocks_of(store->plan);
 
     /* Each block is read once, twice or three times, a millisecond apart, while the tick starts over. */
     uint32_t tick = UINT32_MAX - 1;
@@ -336,7 +391,7 @@ static bool makes_next_plan(const struct store *store)
                                              popularity, BPL_POPULARITY_NUMBERS);
         if (code != 0 || popularity[0] < i % 3 + 1) /* above that where the other block of a pair is read more often */
             return false;
-        put_field(next, RECORDS_AT + record_bytes(next) * i, popularity_bytes(next), (uint32_t)popularity[0]);
+        put_field(next, record_at(next, i), popularity_bytes(next), (uint32_t)popularity[0]);
     }
     return bpl_plan(next, store->plan_len) == 0;
 }
@@ -358,7 +413,7 @@ static bool show_refused_reads(const struct store *store)
 static bool show_refused_conversions(const struct store *store)
 {
     static uint8_t plan[BPL_MAX_PLAN_BYTES], again[BPL_MAX_PLAN_BYTES];
-    const size_t need = RECORDS_AT + 7 * field(store->plan, BLOCKS_AT, 2);
+    const size_t need = RECORDS_AT + 7 * blocks_of(store->plan);
     uint64_t length[BPL_CONVERT_NUMBERS];
     const uint32_t narrow = bpl_convert(store->plan, store->plan_len, plan, need - 1, length, BPL_CONVERT_NUMBERS);
     say_refused("plan H converted into a buffer a byte too short", narrow);
@@ -367,6 +422,23 @@ static bool show_refused_conversions(const struct store *store)
     const uint32_t newest = bpl_convert(plan, need, again, sizeof again, length, BPL_CONVERT_NUMBERS);
     say_refused("plan H converted twice", newest);
     return narrow == 12 && newest == 3 && length[0] == need;
+}
+
+/* Two refusals of plan H in version 4: three mains feeds do not divide its two racks; and where both racks hang on one
+ * feed, a block cannot be spread over two. */
+static bool show_refused_feeds(const struct store *store)
+{
+    static uint8_t wide[BPL_MAX_PLAN_BYTES], plan[BPL_MAX_PLAN_BYTES];
+    uint64_t length[BPL_CONVERT_NUMBERS];
+    if (bpl_convert(store->plan, store->plan_len, wide, sizeof wide, length, BPL_CONVERT_NUMBERS) != 0)
+        return false;
+    size_t plan_len = put_on_feeds(plan, wide, (size_t)length[0], 3);
+    const uint32_t uneven = bpl_plan(plan, plan_len);
+    say_refused("plan H on three feeds", uneven);
+    plan_len = put_on_feeds(plan, wide, (size_t)length[0], 1);
+    const uint32_t narrow = bpl_plan(plan, plan_len);
+    say_refused("plan H on one feed", narrow);
+    return uneven == 22 && narrow == 9;
 }
 
 /* Two refusals, as a caller meets them: a plan that has no lawful placement, and a placement with a copy too few. */
@@ -402,7 +474,8 @@ int main(int argc, char **argv)
     }
     if (argc < 2) {
         store.plan_len = make_plan_h(plan, 8);
-        if (!show_refusals() || !show_refused_reads(&store) || !show_refused_conversions(&store)) {
+        if (!show_refusals() || !show_refused_reads(&store) || !show_refused_conversions(&store) ||
+            !show_refused_feeds(&store)) {
             fprintf(stderr, "place: the refusals are not as they should be\n");
             return FAILED;
         }
@@ -432,7 +505,7 @@ int main(int argc, char **argv)
         return FAILED;
     }
     if (!converts_well(&store, &text)) {
-        fprintf(stderr, "place: the plan converted to version 3 is not listed as it should be\n");
+        fprintf(stderr, "place: the plan in version 3 or 4 is not listed as it should be\n");
         return FAILED;
     }
     if (!makes_next_plan(&store)) {

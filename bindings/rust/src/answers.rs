@@ -4,7 +4,7 @@ use crate::raw::{PLAY_NUMBERS, REPORT_NUMBERS, RUN_NUMBERS, STEP_NUMBERS};
 use std::error::Error;
 use std::fmt;
 
-/// Why a plan, a placement or a read is turned back: the number of the check, 1 to 21.
+/// Why a plan, a placement or a read is turned back: the number of the check, 1 to 22.
 #[derive(Clone, Copy, Debug, PartialEq, Eq, Hash)]
 pub struct Refusal(u8);
 
@@ -19,27 +19,30 @@ impl Refusal {
         match self.0 {
             1 => "the plan is shorter than 15 bytes",
             2 => "the plan's mark differs",
-            3 => "the plan's version is none of 1, 2 and 3, or is 3 already where it is converted",
+            3 => {
+                "the plan's version is none of 1 to 4, or is 3 or 4 already where it is converted"
+            }
             4 => "racks or machines per rack 0, or more than 64 machines",
             5 => "the capacity is 0 or above 1,024",
             6 => "more than 1,024 blocks",
             7 => "the plan's length does not fit its version and number of blocks",
             8 => {
-                "least copies 0, above 8 (in version 3 above 10), or above the machines, of a pair half of them"
+                "least copies 0, above 8 (from version 3 on above 10), or above the machines, of a pair half of them"
             }
-            9 => "a spread of 0, above the least copies, or above the racks",
+            9 => "a spread of 0, above the least copies, or above the racks (in version 4 the feeds)",
             10 => "the sum of least copies is above the budget",
             11 => "the sum of least copies is above what the machines hold",
             12 => "a lent buffer is too short for the plan's blocks",
             13 => "a bit at or above the number of machines is set",
             14 => "a block's copies are not its chosen count",
-            15 => "a block lies in fewer racks than its spread",
+            15 => "a block lies in fewer racks (in version 4 in fewer feeds) than its spread",
             16 => "a machine holds more copies than its capacity",
             17 => "a pair byte is neither 0 nor 1, marks no pair, or marks two blocks that differ",
             18 => "a machine holds both blocks of a pair",
             19 => "the block is not in the plan",
             20 => "the last entry's tick has an age of 2^31 or more",
             21 => "the list is full of reads that still count",
+            22 => "the number of feeds is 0 or does not divide the number of racks",
             _ => "no check has this number",
         }
     }
@@ -82,7 +85,7 @@ impl Report {
 }
 
 /// A step: the copy of block i passes from machine m to n and, in a swap, that of block j from n to m.
-/// `RackMove` and `RackSwap` are between racks.
+/// `RackMove` and `RackSwap` are between racks, in version 4 too.
 #[derive(Clone, Copy, Debug, PartialEq, Eq, Hash)]
 pub enum Step {
     Move {

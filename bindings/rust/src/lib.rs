@@ -1,9 +1,9 @@
 //! Block placement for a recording store: safe functions over the proved archive `libcapi.a`.
 //!
-//! A plan is the bytes of a plan file, of version 1, 2 or 3. A placement is one word per block; bit m of a word is set
-//! where machine m holds a copy. Words past the plan's first B are never read or written. Reads of blocks are counted
-//! in a lent list of entries, for the next plan file. A refused call writes nothing, and answers the number of the
-//! check that refused it.
+//! A plan is the bytes of a plan file, of version 1, 2, 3 or 4. A placement is one word per block; bit m of a word is
+//! set where machine m holds a copy. Words past the plan's first B are never read or written. Reads of blocks are
+//! counted in a lent list of entries, for the next plan file. A refused call writes nothing, and answers the number of
+//! the check that refused it.
 //!
 //! ```
 //! // One rack of two machines, three blocks of one copy.
@@ -31,6 +31,16 @@
 //! assert_eq!(bpl::listing(&wide[..length], 100)?, bpl::listing(&plan, 100)?);
 //! wide[29] = 1;
 //! assert_eq!(bpl::report(&wide, &words)?.max_share, 2520 * (9 + (1 << 24)));
+//!
+//! // Version 4 has the number of mains feeds behind the machines per rack. Here racks 0 and 2 hang on feed 0, and racks
+//! // 1 and 3 on feed 1: a block with spread 2 may not lie in racks 0 and 2 alone.
+//! let mut plan = vec![0x42, 0x50, 0x4C, 0, 4, 4, 1, 2, 0, 1, 0, 0, 0, 2, 0, 1];
+//! plan.extend([0, 0, 0, 7, 2, 2, 0]);
+//! bpl::first(&plan, &mut words)?;
+//! assert_eq!(words[0], 0b0011);
+//! assert_eq!(bpl::check(&plan, &[0b0101]).unwrap_err().number(), 15);
+//! plan[7] = 3;
+//! assert_eq!(bpl::plan(&plan).unwrap_err().number(), 22);
 //! # Ok::<(), bpl::Refusal>(())
 //! ```
 #![deny(unsafe_op_in_unsafe_fn)]
@@ -46,14 +56,14 @@ pub use script::{Call, Request, Source};
 
 use answers::settled;
 
-/// Judges a plan: refusals 1 to 11, and 17.
+/// Judges a plan: refusals 1 to 11, 17 and 22.
 pub fn plan(plan: &[u8]) -> Result<(), Refusal> {
     // SAFETY: the pointer and the length are those of a slice that is borrowed for the whole call.
     settled(unsafe { raw::bpl_plan(plan.as_ptr(), plan.len()) })
 }
 
-/// Writes the plan's B chosen counts into the first B items of `counts`: refusals 1 to 12, and 17. Each is at most 8,
-/// in version 3 at most 10.
+/// Writes the plan's B chosen counts into the first B items of `counts`: refusals 1 to 12, 17 and 22. Each is at most
+/// 8, in versions 3 and 4 at most 10.
 pub fn counts(plan: &[u8], counts: &mut [u8]) -> Result<(), Refusal> {
     // SAFETY: each pointer and length are those of a slice that is borrowed for the whole call; `counts` is borrowed
     // alone, so it overlaps no other buffer.
@@ -62,19 +72,19 @@ pub fn counts(plan: &[u8], counts: &mut [u8]) -> Result<(), Refusal> {
     })
 }
 
-/// Writes the first placement into the first B words: refusals 1 to 12, and 17.
+/// Writes the first placement into the first B words: refusals 1 to 12, 17 and 22.
 pub fn first(plan: &[u8], words: &mut [u64]) -> Result<(), Refusal> {
     // SAFETY: as in `counts`, for `words`.
     settled(unsafe { raw::bpl_first(plan.as_ptr(), plan.len(), words.as_mut_ptr(), words.len()) })
 }
 
-/// Checks a placement: refusals 1 to 18.
+/// Checks a placement: refusals 1 to 18, and 22.
 pub fn check(plan: &[u8], words: &[u64]) -> Result<(), Refusal> {
     // SAFETY: as in `plan`; neither slice is written.
     settled(unsafe { raw::bpl_check(plan.as_ptr(), plan.len(), words.as_ptr(), words.len()) })
 }
 
-/// Reports on a placement: refusals 1 to 18.
+/// Reports on a placement: refusals 1 to 18, and 22.
 pub fn report(plan: &[u8], words: &[u64]) -> Result<Report, Refusal> {
     let mut out = [0; raw::REPORT_NUMBERS];
     // SAFETY: as in `check`; `out` is a local of its own with the length that is passed.
@@ -91,7 +101,7 @@ pub fn report(plan: &[u8], words: &[u64]) -> Result<Report, Refusal> {
     Ok(Report::from_numbers(out))
 }
 
-/// Takes the next step of a placement, or leaves it as it is and answers `None` at rest: refusals 1 to 18.
+/// Takes the next step of a placement, or leaves it as it is and answers `None` at rest: refusals 1 to 18, and 22.
 pub fn step(plan: &[u8], words: &mut [u64]) -> Result<Option<Step>, Refusal> {
     let mut out = [0; raw::STEP_NUMBERS];
     // SAFETY: as in `first`; `out` is a local of its own with the length that is passed.
@@ -108,7 +118,7 @@ pub fn step(plan: &[u8], words: &mut [u64]) -> Result<Option<Step>, Refusal> {
     Ok(Step::from_numbers(out))
 }
 
-/// Takes next steps of a placement until rest or until the step budget is used: refusals 1 to 18.
+/// Takes next steps of a placement until rest or until the step budget is used: refusals 1 to 18, and 22.
 pub fn run(plan: &[u8], words: &mut [u64], budget: u32) -> Result<RunEnd, Refusal> {
     let mut out = [0; raw::RUN_NUMBERS];
     // SAFETY: as in `first`; `out` is a local of its own with the length that is passed.
@@ -126,7 +136,7 @@ pub fn run(plan: &[u8], words: &mut [u64], budget: u32) -> Result<RunEnd, Refusa
     Ok(RunEnd::from_numbers(out))
 }
 
-/// The listing of a plan, of a run from its first placement with the step budget: refusals 1 to 11, and 17.
+/// The listing of a plan, of a run from its first placement with the step budget: refusals 1 to 11, 17 and 22.
 pub fn listing(plan: &[u8], budget: u32) -> Result<String, Refusal> {
     let mut text = vec![0; raw::LISTING_ROOM];
     let mut out = [0; raw::LISTING_NUMBERS];
@@ -147,7 +157,7 @@ pub fn listing(plan: &[u8], budget: u32) -> Result<String, Refusal> {
 }
 
 /// Writes a plan of version 1 or 2 as version 3 to the start of `buffer`, and answers its length, 15 + 7 × B: refusals 1
-/// to 12, 3 also for version 3, and 17. The bytes behind it stay.
+/// to 12, 3 also for versions 3 and 4, and 17. The bytes behind it stay.
 ///
 /// The plan written has the same fields, with pair bytes of 0 for version 1. Its counts, placements and listing are
 /// sure to be the same only where there are at most 8 machines: above, version 3 may give a block 9 or 10 copies.

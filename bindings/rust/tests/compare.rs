@@ -7,23 +7,51 @@ mod entries;
 
 use bpl::{RunEnd, Step};
 use common::*;
-use placement_reference::gen::{coarse, largest, leaning, sized, Draft, Rng, LARGE};
-use placement_reference::plan::read;
+use placement_reference::gen::{coarse, divisors, largest, leaning, sized, Draft, Rng, LARGE};
+use placement_reference::placement;
+use placement_reference::plan::{read, Plan};
+use placement_reference::steps::step_plain;
 
 /// The number of blocks that the bytes tell, if they are a plan.
 fn blocks_of(bytes: &[u8]) -> usize {
     read(bytes).map_or(0, |plan| plan.blocks.len())
 }
 
-/// What the cases met: checks by number (0 is passed), steps by kind, ends of runs.
+/// What the cases met: checks by number (0 is passed), steps by kind, ends of runs. And of accepted plans of version 4:
+/// one feed for several racks, several feeds for more racks, and a feed for each rack; placements that 15 refuses though
+/// the racks suffice; steps that are others than with a feed for each rack.
 #[derive(Debug, Default)]
 struct Met {
-    checks: [u64; 19],
+    checks: [u64; 23],
     steps: [u64; 5],
     ends: [u64; 2],
+    feeds: [u64; 3],
+    too_few_feeds: u64,
+    other_steps: u64,
 }
 
 impl Met {
+    /// The words of an accepted plan of version 4, beside the same plan with a feed for each rack.
+    fn on_feeds(&mut self, plan: &Plan, words: &[u64]) {
+        let (feeds, racks) = (plan.feeds, plan.racks);
+        let kind = if feeds == racks {
+            2
+        } else {
+            usize::from(feeds > 1)
+        };
+        self.feeds[kind] += 1;
+        let by_rack = Plan {
+            feeds: racks,
+            ..plan.clone()
+        };
+        let said = [plan, &by_rack].map(|plan| placement::check(plan, words));
+        self.too_few_feeds += u64::from(said[0] == Err(15) && said[1] != Err(15));
+        if let [Ok(number), Ok(_)] = said {
+            let [next, other] = [plan, &by_rack].map(|plan| step_plain(plan, &words[..number]));
+            self.other_steps += u64::from(next != other);
+        }
+    }
+
     fn check(&mut self, said: Result<(), u8>) {
         self.checks[said.err().unwrap_or(0) as usize] += 1;
     }
@@ -48,10 +76,13 @@ impl Met {
         }
     }
 
-    /// Every check, kind and end was met.
+    /// Every check, kind and end was met, and all of feeds. 19 to 21 are of reads.
     fn all(&self) -> bool {
-        let mut numbers = self.checks.iter().chain(&self.steps).chain(&self.ends);
-        numbers.all(|number| *number > 0)
+        let checks = self.checks[..=18].iter().chain(&self.checks[22..]);
+        let others = [self.too_few_feeds, self.other_steps];
+        let mut numbers = checks.chain(&self.steps).chain(&self.ends);
+        let of_feeds = self.feeds.iter().chain(&others).all(|number| *number > 0);
+        numbers.all(|number| *number > 0) && of_feeds
     }
 }
 
@@ -59,7 +90,7 @@ impl Met {
 #[test]
 fn each_entry() {
     let mut met = Met::default();
-    for case in 0..cases(20_000) {
+    for case in 0..cases(28_000) {
         let rng = &mut Rng::new(case);
         let bytes = any_bytes(rng);
         let words = lent_words(rng, &bytes);
@@ -69,6 +100,9 @@ fn each_entry() {
         entries::counts(&bytes, blocks + 3);
         entries::counts(&bytes, blocks.saturating_sub(1));
         met.check(entries::check(&bytes, &words));
+        if let Some(plan) = read(&bytes).ok().filter(|plan| plan.version == 4) {
+            met.on_feeds(&plan, &words);
+        }
         entries::report(&bytes, &words);
         met.step(entries::step(&bytes, &mut words.clone()));
         met.run(entries::run(&bytes, &mut words.clone(), budget(rng)));
@@ -80,7 +114,7 @@ fn each_entry() {
         }
     }
     assert!(
-        cases(20_000) < 5000 || met.all(),
+        cases(28_000) < 5000 || met.all(),
         "not all was met: {met:?}"
     );
     println!("{met:?}");
@@ -128,16 +162,35 @@ fn lists_of_calls() {
     }
 }
 
-/// The largest plan of version 3, with popularities near the end of 32 bits.
+/// The largest plan of version 3 or 4, with popularities near the end of 32 bits.
 fn widest(rng: &mut Rng) -> Draft {
-    let mut draft = sized(rng, LARGE.wide(), 8, 8, 1024);
+    let size = rng.one_of(&[LARGE.wide(), LARGE.fed()]);
+    let mut draft = sized(rng, size, 8, 8, 1024);
     for record in &mut draft.records {
         record.popularity = u32::MAX - record.popularity;
     }
     draft
 }
 
-/// A few large plans: all entries, with few steps.
+/// All entries on a large plan, with few steps.
+fn large_plan(rng: &mut Rng, draft: &Draft) {
+    let bytes = draft.bytes();
+    let mut words = patterned(draft.records.len() + 5);
+    entries::plan(&bytes);
+    entries::counts(&bytes, draft.records.len() + 5);
+    entries::first(&bytes, &mut words);
+    assert!(entries::check(&bytes, &words).is_ok());
+    assert!(entries::step(&bytes, &mut words).is_ok());
+    assert!(entries::run(&bytes, &mut words, 2).is_ok());
+    entries::report(&bytes, &words);
+    entries::listing(&bytes, 1);
+    entries::listing(&bytes[..bytes.len() - 1], 1);
+    for lent in buffer_lengths(rng, &bytes) {
+        let _ = entries::convert(&bytes, lent);
+    }
+}
+
+/// A few large plans of any version.
 #[test]
 fn large_plans() {
     for case in 0..cases(2000).div_ceil(100) {
@@ -151,20 +204,21 @@ fn large_plans() {
                 sized(rng, size, 8, 8, 1024)
             }
         };
-        let bytes = draft.bytes();
-        let mut words = patterned(draft.records.len() + 5);
-        entries::plan(&bytes);
-        entries::counts(&bytes, draft.records.len() + 5);
-        entries::first(&bytes, &mut words);
-        assert!(entries::check(&bytes, &words).is_ok());
-        assert!(entries::step(&bytes, &mut words).is_ok());
-        assert!(entries::run(&bytes, &mut words, 2).is_ok());
-        entries::report(&bytes, &words);
-        entries::listing(&bytes, 1);
-        entries::listing(&bytes[..bytes.len() - 1], 1);
-        for lent in buffer_lengths(rng, &bytes) {
-            let _ = entries::convert(&bytes, lent);
+        large_plan(rng, &draft);
+    }
+}
+
+/// The largest plan of version 4 with every number of feeds that its racks can have.
+#[test]
+fn large_plans_on_feeds() {
+    let rng = &mut Rng::new(14 << 32);
+    for feeds in divisors(8) {
+        let mut draft = largest(rng).coupled(512).fed(feeds);
+        for record in &mut draft.records {
+            record.spread = record.spread.min(feeds);
         }
+        assert_eq!(draft.bytes().len(), 7184);
+        large_plan(rng, &draft);
     }
 }
 

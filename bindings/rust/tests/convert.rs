@@ -16,12 +16,6 @@ use placement_reference::samples::{H, K};
 /// With so many machines or fewer a plan answers alike in version 3. With more, a block may have more copies there.
 const MACHINES_ALIKE: usize = 8;
 
-/// The version that the bytes tell, if they reach so far.
-fn version_of(bytes: &[u8]) -> Option<u16> {
-    let field = bytes.get(3..5)?;
-    Some(u16::from_be_bytes([field[0], field[1]]))
-}
-
 /// What those entries answer and leave of a plan that do not look at its counts.
 #[derive(Debug, PartialEq)]
 struct OfTheFields {
@@ -119,8 +113,8 @@ fn judge_written(old: &[u8], new: &[u8], words: &[u64], budget: u32) -> bool {
 /// Bytes of any sort with buffers of any length: every refusal, both versions that are converted, and other counts.
 #[test]
 fn any_plan() {
-    let (mut refused, mut version_3, mut written, mut other_counts) = ([0; 18], 0, [0; 2], 0);
-    for case in 0..cases(20_000) {
+    let (mut refused, mut newer, mut written, mut other_counts) = ([0; 18], [0; 2], [0; 2], 0);
+    for case in 0..cases(30_000) {
         let rng = &mut Rng::new(12 << 32 | case);
         let bytes = any_bytes(rng);
         let version = version_of(&bytes);
@@ -128,7 +122,8 @@ fn any_plan() {
             match entries::convert(&bytes, lent) {
                 Err(row) => {
                     refused[usize::from(row)] += 1;
-                    version_3 += u64::from(version == Some(3) && row == 3);
+                    newer[0] += u64::from(version == Some(3) && row == 3);
+                    newer[1] += u64::from(version == Some(4) && row == 3);
                 }
                 Ok(new) => {
                     written[usize::from(version == Some(2))] += 1;
@@ -139,11 +134,11 @@ fn any_plan() {
             }
         }
     }
-    println!("refused {refused:?}, of version 3 {version_3}, written {written:?}, other counts {other_counts}");
+    println!("refused {refused:?}, of versions 3 and 4 {newer:?}, written {written:?}, other counts {other_counts}");
     let rows = [1, 2, 3, 4, 5, 6, 7, 8, 9, 17, 10, 11, 12].map(|row: usize| refused[row]);
-    let others = [version_3, other_counts];
-    let mut met = rows.iter().chain(&written).chain(&others);
-    assert!(cases(20_000) < 5000 || met.all(|number| *number > 0));
+    let others = rows.iter().chain(&newer).chain([&other_counts]);
+    let mut met = others.chain(&written);
+    assert!(cases(30_000) < 5000 || met.all(|number| *number > 0));
 }
 
 /// The largest plans, into a buffer of just their length, one byte shorter and one longer.
@@ -153,9 +148,10 @@ fn largest_plans() {
         let rng = &mut Rng::new(13 << 32 | case);
         let size = any_version(rng, LARGE);
         let bytes = sized(rng, size, 8, 8, 1024).bytes();
-        if size.version == 3 {
-            assert_eq!(bytes.len(), 7183);
+        if size.version >= 3 {
+            assert_eq!(bytes.len(), if size.version == 3 { 7183 } else { 7184 });
             assert_eq!(entries::convert(&bytes, 7183), Err(3));
+            assert_eq!(entries::convert(&bytes, 7184), Err(3));
             continue;
         }
         assert_eq!(entries::convert(&bytes, 7182), Err(12));
@@ -180,6 +176,8 @@ fn order_of_the_rows() {
         (H[..14].to_vec(), 1),
         (set(&of_version(3, &H), 0, 0), 2),
         (set(&of_version(3, &H), 5, 0), 3),
+        (set(&of_version(4, &H), 5, 0), 3),
+        (set(&of_version(4, &H), 7, 3), 3),
         (of_version(0, &H), 3),
         (set(&H, 3, 1), 3),
         (set(&H, 5, 0), 4),

@@ -98,12 +98,14 @@ fn plans_converted() {
     assert_eq!(listing.as_deref(), Ok(samples::K_LISTING));
 }
 
-/// The converter's refusals: version 3 itself, and a buffer one byte too short. Nothing is written.
+/// The converter's refusals: versions 3 and 4, and a buffer one byte too short. Nothing is written.
 #[test]
 fn conversions_refused() {
     let mut buffer = [0xEE; 36];
     let again = bpl::convert(&samples::H_3, &mut buffer).unwrap_err();
     assert_eq!(again.number(), 3);
+    let on_feeds = bpl::convert(&samples::H_4, &mut buffer).unwrap_err();
+    assert_eq!(on_feeds.number(), 3);
     let short = bpl::convert(&samples::H, &mut buffer[..35]).unwrap_err();
     assert_eq!(
         short.to_string(),
@@ -141,17 +143,17 @@ fn judged(version: u16, draft: &Draft) -> Result<(), u8> {
     bpl::plan(&in_version(version, draft)).map_err(bpl::Refusal::number)
 }
 
-/// Row 8 by version: eight least copies at most, in version 3 ten.
+/// Row 8 by version: eight least copies at most, in versions 3 and 4 ten.
 #[test]
 fn least_copies_by_version() {
     for (least, rows) in [
-        (8, [Ok(()), Ok(()), Ok(())]),
-        (9, [Err(8), Err(8), Ok(())]),
-        (10, [Err(8), Err(8), Ok(())]),
-        (11, [Err(8), Err(8), Err(8)]),
+        (8, [Ok(()), Ok(()), Ok(()), Ok(())]),
+        (9, [Err(8), Err(8), Ok(()), Ok(())]),
+        (10, [Err(8), Err(8), Ok(()), Ok(())]),
+        (11, [Err(8), Err(8), Err(8), Err(8)]),
     ] {
         let draft = samples::plan_of((4, 3), 1, 12, &[(1, least, 1)]);
-        let said = [1, 2, 3].map(|version| judged(version, &draft));
+        let said = [1, 2, 3, 4].map(|version| judged(version, &draft));
         assert_eq!(said, rows, "{least} least copies");
     }
 }
@@ -160,23 +162,23 @@ fn least_copies_by_version() {
 #[test]
 fn least_copies_of_a_pair() {
     for (machines, least, rows) in [
-        (20, 8, [Ok(()), Ok(())]),
-        (20, 9, [Err(8), Ok(())]),
-        (20, 10, [Err(8), Ok(())]),
-        (22, 11, [Err(8), Err(8)]),
-        (19, 9, [Err(8), Ok(())]),
-        (19, 10, [Err(8), Err(8)]),
-        (8, 4, [Ok(()), Ok(())]),
-        (8, 5, [Err(8), Err(8)]),
+        (20, 8, [Ok(()), Ok(()), Ok(())]),
+        (20, 9, [Err(8), Ok(()), Ok(())]),
+        (20, 10, [Err(8), Ok(()), Ok(())]),
+        (22, 11, [Err(8), Err(8), Err(8)]),
+        (19, 9, [Err(8), Ok(()), Ok(())]),
+        (19, 10, [Err(8), Err(8), Err(8)]),
+        (8, 4, [Ok(()), Ok(()), Ok(())]),
+        (8, 5, [Err(8), Err(8), Err(8)]),
     ] {
         let pair = [(1, least, 1, 1), (1, least, 1, 0)];
         let draft = samples::paired_plan((1, machines), 2, 22, &pair);
-        let said = [2, 3].map(|version| judged(version, &draft));
+        let said = [2, 3, 4].map(|version| judged(version, &draft));
         assert_eq!(said, rows, "{least} least copies of a pair, M {machines}");
     }
 }
 
-/// A block read once, on twelve machines with room for it: eight copies, in version 3 ten, and whole shares.
+/// A block read once, on twelve machines with room for it: eight copies, in versions 3 and 4 ten, and whole shares.
 #[test]
 fn ten_copies() {
     let draft = samples::plan_of((3, 4), 1, 12, &[(1, 1, 1)]);
@@ -185,6 +187,10 @@ fn ten_copies() {
         (2, "block 0 8 315 0 1 2 4 5 6 8 9\nrest 0 315 0 2520 315\n"),
         (
             3,
+            "block 0 10 252 0 1 2 3 4 5 6 8 9 10\nrest 0 252 0 2520 252\n",
+        ),
+        (
+            4,
             "block 0 10 252 0 1 2 3 4 5 6 8 9 10\nrest 0 252 0 2520 252\n",
         ),
     ] {
@@ -212,6 +218,163 @@ fn one_copy_more_when_converted() {
         let report = bpl::report(bytes, &words);
         assert_eq!(report.map(|report| report.max_share), Ok(max_share));
     }
+}
+
+/// A plan's row, if one refuses it.
+fn row_of(bytes: &[u8]) -> u8 {
+    bpl::plan(bytes).map_or_else(bpl::Refusal::number, |()| 0)
+}
+
+/// Plan H in version 4 with a feed for each of its two racks: counts, placement, report and listing are plan H's.
+#[test]
+fn plan_h_on_two_feeds() {
+    let (mut counts, mut words) = ([0; 3], [0; 3]);
+    assert_eq!(bpl::counts(&samples::H_4, &mut counts), Ok(()));
+    assert_eq!(counts, [4, 2, 1]);
+    assert_eq!(bpl::first(&samples::H_4, &mut words), Ok(()));
+    assert_eq!(words, [15, 5, 2]);
+    assert_eq!(bpl::check(&samples::H_4, &words), Ok(()));
+    assert_eq!(
+        bpl::report(&samples::H_4, &words),
+        bpl::report(&samples::H, &words)
+    );
+    assert_eq!(bpl::step(&samples::H_4, &mut words), Ok(None));
+    let listing = bpl::listing(&samples::H_4, 100_000);
+    assert_eq!(listing.as_deref(), Ok(samples::H_LISTING));
+    let listing = bpl::listing(&samples::K_4, 100_000);
+    assert_eq!(listing.as_deref(), Ok(samples::K_LISTING));
+}
+
+/// Four racks of two machines on two feeds: counts, first placement, reports before and after the run, and its steps.
+/// Words whose block 0 lies in racks 0 and 2, both on the first feed, get 15, and pass with a feed for each rack.
+#[test]
+fn plan_on_two_feeds() {
+    let bytes = samples::feeds().bytes();
+    let (mut counts, mut words) = ([0; 6], [0; 6]);
+    assert_eq!(bpl::counts(&bytes, &mut counts), Ok(()));
+    assert_eq!(counts, [2, 2, 2, 3, 1, 3]);
+    assert_eq!(bpl::first(&bytes, &mut words), Ok(()));
+    assert_eq!(words, [5, 80, 10, 161, 4, 82]);
+    let report = |max_load, min_load| Report {
+        max_load,
+        min_load,
+        total_load: 209_160,
+        max_share: 21_000,
+    };
+    assert_eq!(bpl::report(&bytes, &words), Ok(report(36_120, 15_120)));
+    let near = [17, 68, 10, 161, 4, 82];
+    assert_eq!(bpl::check(&bytes, &near).unwrap_err().number(), 15);
+    let by_rack = samples::feeds().fed(4).bytes();
+    assert_eq!(bpl::check(&by_rack, &near), Ok(()));
+    let steps = [0; 4].map(|_| bpl::step(&bytes, &mut words).expect("a placement"));
+    assert_eq!(
+        steps,
+        [
+            Some(Step::Move { m: 4, n: 5, i: 1 }),
+            Some(Step::Move { m: 6, n: 7, i: 1 }),
+            Some(Step::RackMove { m: 7, n: 3, i: 1 }),
+            None
+        ]
+    );
+    assert_eq!(words, [5, 40, 10, 161, 4, 82]);
+    assert_eq!(bpl::report(&bytes, &words), Ok(report(36_120, 15_960)));
+}
+
+/// A step between racks is a `RackMove` also where both hang on one feed.
+#[test]
+fn step_on_one_feed() {
+    let bytes = samples::two_feeds().bytes();
+    let mut words = samples::TWO_FEEDS_WORDS;
+    let step = Step::RackMove { m: 0, n: 2, i: 0 };
+    assert_eq!(bpl::step(&bytes, &mut words), Ok(Some(step)));
+    assert_eq!(words, [6, 3]);
+}
+
+/// A step that would leave a block on too few feeds is none; with a feed for each rack it is the next one.
+#[test]
+fn steps_that_feeds_forbid() {
+    let [m, n, i, j] = [0, 3, 0, 7];
+    for (draft, before, next) in [
+        (
+            samples::no_move_for_feed(),
+            &samples::NO_MOVE_WORDS[..],
+            Step::RackMove { m, n, i },
+        ),
+        (
+            samples::no_swap_for_feed(),
+            &samples::NO_SWAP_WORDS,
+            Step::RackSwap { m, n, i, j },
+        ),
+    ] {
+        let mut words = before.to_vec();
+        assert_eq!(bpl::step(&draft.bytes(), &mut words), Ok(None));
+        let by_rack = draft.fed(draft.racks).bytes();
+        assert_eq!(bpl::step(&by_rack, &mut words), Ok(Some(next)));
+        let near = bpl::check(&draft.bytes(), &words).unwrap_err();
+        assert_eq!(near.number(), 15);
+    }
+}
+
+/// Row 22, of plan H on so many feeds; and row 9, which compares with feeds: with one, block 0 may not have spread 2.
+#[test]
+fn feeds_of_plan_h() {
+    let on_feeds = |feeds| row_of(&samples::h().fed(feeds).bytes());
+    assert_eq!([0, 1, 2, 3, 4, 255].map(on_feeds), [22, 9, 0, 22, 22, 22]);
+    let uneven = bpl::plan(&samples::h().fed(3).bytes()).unwrap_err();
+    assert_eq!(
+        uneven.to_string(),
+        "refused 22: the number of feeds is 0 or does not divide the number of racks"
+    );
+}
+
+/// Row 22 stands after 4 and before 5, where all that come later hold as well. Versions 1 to 3 have no F.
+#[test]
+fn order_of_row_22() {
+    let header = |version, racks, feeds, capacity| {
+        let mut bytes = samples::H_4;
+        (bytes[4], bytes[5], bytes[7], bytes[9]) = (version, racks, feeds, capacity);
+        row_of(&bytes)
+    };
+    assert_eq!(header(0, 0, 0, 0), 3);
+    assert_eq!(header(5, 0, 0, 0), 3);
+    assert_eq!(header(4, 0, 0, 0), 4);
+    assert_eq!(header(4, 33, 0, 0), 4);
+    assert_eq!(header(4, 2, 0, 0), 22);
+    assert_eq!(header(4, 2, 3, 0), 22);
+    assert_eq!(header(4, 2, 2, 0), 5);
+    assert_eq!(header(4, 2, 1, 3), 9);
+    assert_eq!(header(4, 2, 2, 3), 0);
+    for old in [samples::H.to_vec(), samples::H_3.to_vec()] {
+        let without_capacity = [&old[..7], &[0, 0], &old[9..]].concat();
+        assert_eq!(row_of(&without_capacity), 5);
+    }
+}
+
+/// A version 4 file of 15 bytes gets 7, whatever its last byte would say of B alone, but 4, 22 and 5 come first.
+#[test]
+fn fifteen_bytes_of_version_4() {
+    let mut cut = samples::H_4;
+    for last in 0..=255 {
+        cut[14] = last;
+        assert_eq!(row_of(&cut[..15]), 7, "{last}");
+    }
+    for (at, byte, row) in [
+        (0, 0, 2),
+        (4, 5, 3),
+        (5, 0, 4),
+        (7, 0, 22),
+        (7, 3, 22),
+        (9, 0, 5),
+    ] {
+        let mut wrong = cut;
+        wrong[at] = byte;
+        assert_eq!(row_of(&wrong[..15]), row, "byte {at} is {byte}");
+    }
+    assert_eq!(row_of(&cut[..14]), 1);
+    cut[14..16].copy_from_slice(&[4, 1]);
+    assert_eq!(row_of(&cut[..16]), 6, "16 bytes have the whole B");
+    cut[14..16].copy_from_slice(&[0, 0]);
+    assert_eq!(row_of(&cut[..16]), 0, "no block at all");
 }
 
 /// A step that would bring a pair together is none; without the pair it is the next one.
@@ -323,7 +486,7 @@ fn refusals() {
     strange[4] = 5;
     assert_eq!(
         bpl::plan(&strange).unwrap_err().to_string(),
-        "refused 3: the plan's version is none of 1, 2 and 3, or is 3 already where it is converted"
+        "refused 3: the plan's version is none of 1 to 4, or is 3 or 4 already where it is converted"
     );
     let mut differing = samples::k();
     differing.records[1].popularity += 1;

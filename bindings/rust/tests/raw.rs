@@ -152,15 +152,15 @@ fn short_text() {
 /// With `out` long enough: a refused call writes to no buffer, an answered one not past its numbers.
 #[test]
 fn out_past_the_numbers() {
-    let mut met = [0; 22];
-    for case in 0..cases(6000) {
+    let mut met = [0; 23];
+    for case in 0..cases(8000) {
         let rng = &mut Rng::new(5 << 32 | case);
         let bytes = any_bytes(rng);
         let call = any_call(rng);
         let before = before(rng, &bytes, LISTING_ROOM + 3);
         let exact = call.made(&bytes, &before, call.need());
         assert_eq!(call.made(&bytes, &before, before.out.len()), exact);
-        assert!(exact.code <= 21, "{call:?}: code {}", exact.code);
+        assert!(exact.code <= 22, "{call:?}: code {}", exact.code);
         met[exact.code as usize] += 1;
         if exact.code != 0 {
             let expected = Left {
@@ -182,7 +182,7 @@ fn out_past_the_numbers() {
         assert_eq!(exact.text[written..], before.text[written..], "{call:?}");
     }
     assert!(
-        cases(6000) < 3000 || met.iter().all(|seen| *seen > 0),
+        cases(8000) < 3000 || met.iter().all(|seen| *seen > 0),
         "{met:?}"
     );
 }

@@ -8,7 +8,7 @@ use common::*;
 use placement_reference::gen::Rng;
 use placement_reference::histories::{history, manner, Event};
 use placement_reference::reads::{enter_popularity, enter_read};
-use placement_reference::samples::{empty, h_budget, H, K};
+use placement_reference::samples::{empty, h, h_budget, H, K};
 use std::mem::{align_of, offset_of, size_of};
 
 /// A read on both: the same answer, and the same whole list afterwards. A refused one writes nothing, and none past the
@@ -70,7 +70,7 @@ impl Caller {
 /// Random histories: each call is handed the list and the count that the one before it left, or damaged ones.
 #[test]
 fn histories() {
-    let mut met = [0; 22];
+    let mut met = [0; 23];
     for case in 0..cases(40_000) {
         let rng = &mut Rng::new(7 << 32 | case);
         let manner = manner(rng);
@@ -81,7 +81,7 @@ fn histories() {
             }
         }
     }
-    let rows = [0, 1, 2, 3, 4, 5, 6, 7, 8, 9, 17, 10, 11, 19, 20, 21];
+    let rows = [0, 1, 2, 3, 4, 22, 5, 6, 7, 8, 9, 17, 10, 11, 19, 20, 21];
     assert!(
         cases(40_000) < 5000 || rows.iter().all(|row| met[*row] > 0),
         "not all was met: {met:?}"
@@ -173,6 +173,7 @@ fn order_of_the_rows() {
     wrong_pair[20] = 2;
     for (plan, block, tick, row) in [
         (&[][..], 9, 8, 1),
+        (&h().fed(3).bytes(), 9, 8, 22),
         (&h_budget(3).bytes(), 9, 8, 10),
         (&wrong_pair, 9, 8, 17),
         (&empty().bytes(), 0, 8, 19),
@@ -184,7 +185,7 @@ fn order_of_the_rows() {
     ] {
         assert_eq!(read(plan, block, tick, &mut list, 2), Err(row));
         let asked = popularity(plan, block, &list, 2);
-        assert_eq!(asked.err(), (row < 20).then_some(row));
+        assert_eq!(asked.err(), (row != 20 && row != 21).then_some(row));
     }
 }
 

@@ -5,7 +5,8 @@ use bpl::{Entry, Refusal, Report, RunEnd, Step};
 use placement_reference::calls;
 use placement_reference::damage::*;
 use placement_reference::gen::{
-    draft, filled, leaning, noise, placement, too_long, Draft, Rng, Size, MEDIUM, SMALL, TINY,
+    draft, filled, leaning, noise, placement, sized, too_long, Draft, Rng, Size, MEDIUM, SMALL,
+    TINY,
 };
 use placement_reference::plan::{read, Plan};
 use placement_reference::reads;
@@ -33,7 +34,7 @@ const LONG: Size = Size {
 /// The same size in any version.
 pub fn any_version(rng: &mut Rng, size: Size) -> Size {
     Size {
-        version: rng.from_to(1, 3) as u16,
+        version: rng.from_to(1, 4) as u16,
         ..size
     }
 }
@@ -49,13 +50,27 @@ pub fn size(rng: &mut Rng) -> Size {
     any_version(rng, size)
 }
 
+/// A plan of version 4 with two or three feeds and twice or three times as many racks, every spread as large as it may
+/// be: racks often suffice where feeds do not.
+fn on_few_feeds(rng: &mut Rng) -> Draft {
+    let feeds = rng.from_to(2, 3) as u8;
+    let racks = feeds * rng.from_to(2, 3) as u8;
+    let (per_rack, number) = (rng.from_to(1, 2) as u8, rng.from_to(1, 12));
+    let mut draft = sized(rng, SMALL.fed(), racks, per_rack, number);
+    draft.feed_byte = feeds;
+    for record in &mut draft.records {
+        record.spread = record.least.min(feeds);
+    }
+    draft
+}
+
 /// A plan that the checks accept.
 pub fn accepted(rng: &mut Rng) -> Draft {
     let size = size(rng);
-    if rng.once_in(5) {
-        filled(rng, size)
-    } else {
-        draft(rng, size)
+    match rng.below(10) {
+        0 => on_few_feeds(rng),
+        1 | 2 => filled(rng, size),
+        _ => draft(rng, size),
     }
 }
 
@@ -89,7 +104,8 @@ fn over_limits(rng: &mut Rng, size: Size) -> Option<Draft> {
 pub fn damaged(rng: &mut Rng) -> Vec<u8> {
     let size = size(rng);
     let whole = accepted(rng);
-    match rng.below(9) {
+    let kind = rng.below(11);
+    match kind {
         0..=4 => {
             if let Some(draft) = over_limits(rng, size) {
                 return draft.bytes();
@@ -97,9 +113,13 @@ pub fn damaged(rng: &mut Rng) -> Vec<u8> {
         }
         5 => return noise(rng, size.version as u8),
         6 => return too_long(rng),
+        7 if whole.version == 4 => return cut_short(rng, whole.bytes()),
         _ => {}
     }
-    let row = any_row(rng, whole.version);
+    let row = match kind {
+        8 if whole.version == 4 => 22,
+        _ => any_row(rng, whole.version),
+    };
     let once = flawed(rng, whole.bytes(), row);
     if once.len() >= 15 && rng.once_in(3) {
         let row = any_row(rng, whole.version);
@@ -119,12 +139,16 @@ pub fn any_bytes(rng: &mut Rng) -> Vec<u8> {
 
 /// B words for a plan: a good placement, a damaged one, or random words.
 pub fn any_placement(rng: &mut Rng, plan: &Plan) -> Vec<u64> {
-    match rng.below(8) {
+    match rng.below(9) {
         0 | 1 => placement(rng, plan),
         2..=4 => leaning(rng, plan),
         5 | 6 => {
             let rows = [(); 5].map(|()| rng.once_in(3));
             broken(rng, plan, rows).unwrap_or_else(|| placement(rng, plan))
+        }
+        7 => {
+            let too_near = [false, false, true, false, false];
+            broken(rng, plan, too_near).unwrap_or_else(|| placement(rng, plan))
         }
         _ => plan.blocks.iter().map(|_| rng.word()).collect(),
     }
@@ -146,10 +170,17 @@ pub fn lent_words(rng: &mut Rng, bytes: &[u8]) -> Vec<u64> {
     words
 }
 
+/// The version that the bytes tell, if they reach so far.
+pub fn version_of(bytes: &[u8]) -> Option<u16> {
+    let field = bytes.get(3..5)?;
+    Some(u16::from_be_bytes([field[0], field[1]]))
+}
+
 /// Lengths for a converted plan's buffer: two at random, near to what the plan needs, and what it needs.
 pub fn buffer_lengths(rng: &mut Rng, bytes: &[u8]) -> [usize; 3] {
+    let at = if version_of(bytes) == Some(4) { 14 } else { 13 };
     let blocks = bytes
-        .get(13..15)
+        .get(at..at + 2)
         .map_or(0, |b| usize::from(b[0]) << 8 | usize::from(b[1]));
     let need = 15 + 7 * blocks;
     let near = need - 3 + rng.below(7) as usize;
