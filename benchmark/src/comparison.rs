@@ -280,7 +280,7 @@ fn version_rows(table: &mut Table, size: Size, popularities: &str, bound: u64) {
     let blocks = usize::from(size.blocks);
     let counts = compared("counts", |side| several_timed(&plans, blocks, side.counts));
     add("counts", counts.0);
-    if !size.wide {
+    if size.version() < 3 {
         let convert = compared("convert", |side| {
             several_timed(&plans, CONVERTED, side.convert)
         });
@@ -288,11 +288,12 @@ fn version_rows(table: &mut Table, size: Size, popularities: &str, bound: u64) {
     }
 }
 
-/// The same plans in versions 2 and 3, and what the wider popularity costs; conversions.
+/// The same plans in versions 2 to 4, and what the wider popularity costs; conversions.
 pub fn versions() {
     println!("## Versions\n");
-    println!("64 machines, 1,024 blocks. {PLANS} plans of a kind, one after the other: the mean time for one plan. In versions 2 and 3 half");
-    println!("of the blocks are in pairs, and with 24 bits they are the same plans. A conversion writes version 3.\n");
+    println!("64 machines, 1,024 blocks. {PLANS} plans of a kind, one after the other: the mean time for one plan. In versions 2 to 4 half");
+    println!("of the blocks are in pairs, and with 24 bits they are the same plans; version 4 has a feed for each rack. A conversion");
+    println!("writes version 3.\n");
     let narrow = Size {
         pairs: Pairs::Half,
         ..LARGEST
@@ -301,11 +302,17 @@ pub fn versions() {
         wide: true,
         ..narrow
     };
+    let on_feeds = Size {
+        feeds: Some(wide.racks),
+        ..wide
+    };
     let mut table = table(&["call", "version", "popularities"]);
     version_rows(&mut table, LARGEST, "24 bits", 1 << 24);
     version_rows(&mut table, narrow, "24 bits", 1 << 24);
     version_rows(&mut table, wide, "24 bits", 1 << 24);
+    version_rows(&mut table, on_feeds, "24 bits", 1 << 24);
     version_rows(&mut table, wide, "32 bits", 1 << 32);
+    version_rows(&mut table, on_feeds, "32 bits", 1 << 32);
     table.print();
 }
 
@@ -351,6 +358,68 @@ pub fn copies(steps: u32) {
             ..LARGEST
         };
         copies_rows(&mut table, size, steps);
+    }
+    table.print();
+}
+
+/// The calls on one plan on so many feeds, or in version 3. Answers the library's seconds for each.
+fn feeds_rows(table: &mut Table, size: Size, steps: u32) -> [f64; 5] {
+    let (version, feeds) = (size.version(), size.feeds.unwrap_or(size.racks));
+    let mut add = |call: &str, times: [f64; 3]| {
+        let numbers = [version.to_string(), feeds.to_string()];
+        let own = [call, size.spreads(), &numbers[0], &numbers[1]].map(str::to_string);
+        row(table, &own, times);
+        times[2]
+    };
+    let bytes = size.fine();
+    let words = first_words(&bytes, size.blocks);
+    let plan = compared("plan", |side| timed(|| (side.plan)(&bytes)));
+    let check = compared("check", |side| timed(|| (side.check)(&bytes, &words)));
+    let step = compared("step", |side| step_timed(side, &bytes, &words));
+    let run = compared("run", |side| run_timed(side, &bytes, &words, steps));
+    let per_step = run.0.map(|time| time / f64::from(run.1 .1.max(1)));
+    let (bytes, words, _) = rested(size);
+    let rest = compared("rest", |side| step_timed(side, &bytes, &words));
+    [
+        add("plan", plan.0),
+        add("check", check.0),
+        add("step", step.0),
+        add("step of a run", per_step),
+        add("step at rest", rest.0),
+    ]
+}
+
+/// The same plan in version 3 and in version 4 with a feed for each rack, and version 4 with fewer feeds.
+pub fn feeds(steps: u32) {
+    println!("## Feeds\n");
+    println!("64 machines in 8 racks, 1,024 blocks, half of them in pairs. The same plan in version 3, whose spreads are over racks,");
+    println!("and in version 4 with a feed for each rack and with fewer: one is for spreads of one, and where spreads are mixed fewer");
+    println!("feeds allow fewer steps. Time per step of a run of {steps} steps from the first placement, popularities random in 24");
+    println!("bits, and of one step call at rest, popularities from 0 to 9; the other calls are on the first placement.\n");
+    let mut table = table(&["call", "spreads", "version", "feeds"]);
+    for (mixed, fewer) in [(false, &[4, 1][..]), (true, &[4])] {
+        let wide = Size {
+            mixed,
+            pairs: Pairs::Half,
+            wide: true,
+            ..LARGEST
+        };
+        let on_feeds = |feeds| Size {
+            feeds: Some(feeds),
+            ..wide
+        };
+        let by_rack = feeds_rows(&mut table, wide, steps);
+        let each = feeds_rows(&mut table, on_feeds(wide.racks), steps);
+        let more: Vec<String> = each
+            .iter()
+            .zip(by_rack)
+            .map(|(e, r)| ratio(*e, r))
+            .collect();
+        let (spreads, more) = (wide.spreads(), more.join(", "));
+        println!("Spreads {spreads}: with a feed for each rack these calls of the library last {more} times as long as in version 3.\n");
+        for number in fewer {
+            feeds_rows(&mut table, on_feeds(*number), steps);
+        }
     }
     table.print();
 }

@@ -1,9 +1,10 @@
 //! A straightforward optimised version, without proofs: what one writes in an hour from the specification.
 //!
 //! Loads and lists of blocks per machine are carried from step to step, pairs of machines with Lm <= Ln are passed
-//! over, and the racks of a block are counted only where it changes racks and its spread is above one. The other block of
-//! a pair is looked up in a table. Reads are entered in place, and a converted plan's records are copied. Reading a plan,
-//! counts, the first placement and popularities are the reference's, which are quick already.
+//! over, and the feeds of a block are counted only where it changes feeds and its spread is above one; before version 4
+//! the feeds are the racks. The other block of a pair is looked up in a table. Reads are entered in place, and a
+//! converted plan's records are copied. Reading a plan, counts, the first placement and popularities are the
+//! reference's, which are quick already.
 
 use placement_reference::calls::Report;
 use placement_reference::counts::{chosen, share};
@@ -22,19 +23,23 @@ pub struct State<'a> {
     /// The blocks on each machine, in file order.
     blocks_on: Vec<Vec<usize>>,
     rack_of: Vec<usize>,
-    rack_masks: Vec<u64>,
+    feed_of: Vec<usize>,
+    feed_masks: Vec<u64>,
     /// The other block of each block's pair.
     partners: Vec<Option<usize>>,
 }
 
-/// The machines of each rack as bits.
-fn rack_masks(plan: &Plan) -> Vec<u64> {
-    let mask = |r: usize| (0..plan.per_rack).fold(0, |word, k| word | 1 << (r * plan.per_rack + k));
-    (0..plan.racks).map(mask).collect()
+/// The machines of each feed as bits.
+fn feed_masks(plan: &Plan) -> Vec<u64> {
+    let mut masks = vec![0; plan.feeds];
+    for m in 0..plan.machines() {
+        masks[plan.feed_of(m)] |= 1 << m;
+    }
+    masks
 }
 
-/// The number of racks in which a block lies.
-fn racks_used(masks: &[u64], word: u64) -> usize {
+/// The number of feeds on which a block lies.
+fn feeds_used(masks: &[u64], word: u64) -> usize {
     masks.iter().filter(|mask| word & **mask != 0).count()
 }
 
@@ -67,7 +72,8 @@ impl<'a> State<'a> {
             loads: vec![0; plan.machines()],
             blocks_on: vec![Vec::new(); plan.machines()],
             rack_of: (0..plan.machines()).map(|m| plan.rack_of(m)).collect(),
-            rack_masks: rack_masks(plan),
+            feed_of: (0..plan.machines()).map(|m| plan.feed_of(m)).collect(),
+            feed_masks: feed_masks(plan),
             partners: (0..words.len()).map(|i| plan.partner(i)).collect(),
         };
         for (i, word) in words.iter().enumerate() {
@@ -91,8 +97,8 @@ impl<'a> State<'a> {
     fn stays_spread(&self, i: usize, from: usize, to: usize) -> bool {
         let spread = self.plan.blocks[i].spread;
         spread == 1
-            || self.rack_of[from] == self.rack_of[to]
-            || racks_used(&self.rack_masks, passed(self.words[i], from, to)) >= spread
+            || self.feed_of[from] == self.feed_of[to]
+            || feeds_used(&self.feed_masks, passed(self.words[i], from, to)) >= spread
     }
 
     /// Block i may come to machine n: the other one of its pair is not there, or is `leaving`.
@@ -230,7 +236,7 @@ pub fn check(plan: &Plan, lent: &[u64]) -> Result<(), Refusal> {
         return Err(12);
     }
     let words = &lent[..number];
-    let masks = rack_masks(plan);
+    let masks = feed_masks(plan);
     let all = masks.iter().fold(0, |word, mask| word | mask);
     if words.iter().any(|w| w & !all != 0) {
         return Err(13);
@@ -243,7 +249,7 @@ pub fn check(plan: &Plan, lent: &[u64]) -> Result<(), Refusal> {
         return Err(14);
     }
     let mut blocks = plan.blocks.iter().zip(words);
-    if blocks.any(|(b, w)| racks_used(&masks, *w) < b.spread) {
+    if blocks.any(|(b, w)| feeds_used(&masks, *w) < b.spread) {
         return Err(15);
     }
     let mut copies = vec![0; plan.machines()];

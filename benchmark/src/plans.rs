@@ -14,6 +14,8 @@ pub struct Size {
     pub pairs: Pairs,
     /// The plan is in version 3.
     pub wide: bool,
+    /// The plan is in version 4, its racks on so many feeds.
+    pub feeds: Option<u8>,
     /// Twice as many copies, in the budget and on the machines: many blocks have as many as their version allows.
     pub doubled: bool,
 }
@@ -38,6 +40,7 @@ pub const LARGEST: Size = Size {
     mixed: false,
     pairs: Pairs::Version1,
     wide: false,
+    feeds: None,
     doubled: false,
 };
 
@@ -57,16 +60,17 @@ impl Size {
 
     /// The version of its plans.
     pub fn version(&self) -> u16 {
-        match (self.wide, self.pairs) {
-            (true, _) => 3,
-            (_, Pairs::Version1) => 1,
+        match (self.feeds, self.wide, self.pairs) {
+            (Some(_), _, _) => 4,
+            (_, true, _) => 3,
+            (_, _, Pairs::Version1) => 1,
             _ => 2,
         }
     }
 
     /// The most copies of a block that the version allows.
     pub fn most_copies(&self) -> u8 {
-        if self.wide {
+        if self.version() >= 3 {
             10
         } else {
             8
@@ -117,6 +121,7 @@ impl Size {
             version: 1,
             racks: self.racks,
             per_rack: self.per_rack,
+            feed_byte: self.feeds.unwrap_or(self.racks),
             capacity: (5 * times * blocks).div_ceil(self.machines() as u32) as u16,
             records: records.collect(),
             budget: times * blocks * 4000 / 1024,
@@ -141,7 +146,7 @@ impl Size {
         self.plan(SEED, |rng| rng.below(10) as u32)
     }
 
-    /// Several plans with popularities below a bound; above 24 bits for version 3 alone.
+    /// Several plans with popularities below a bound; above 24 bits from version 3 on.
     pub fn several(&self, number: u64, bound: u64) -> Vec<Vec<u8>> {
         (1..=number)
             .map(|seed| self.plan(seed, |rng| rng.below(bound) as u32))

@@ -40,8 +40,8 @@ fn same_run(bytes: &[u8], words: &[u64], budget: u32) {
 }
 
 /// A size in all versions.
-fn all_versions(size: Size) -> [Size; 3] {
-    [1, 2, 3].map(|version| Size { version, ..size })
+fn all_versions(size: Size) -> [Size; 4] {
+    [1, 2, 3, 4].map(|version| Size { version, ..size })
 }
 
 #[test]
@@ -72,6 +72,22 @@ fn steps_that_a_pair_forbids() {
     }
 }
 
+/// Blocks that may change racks on one feed, and not to the racks of another one.
+#[test]
+fn steps_that_feeds_forbid() {
+    let two = two_feeds().plan().expect("accepted");
+    assert!(same_steps(&two, &TWO_FEEDS_WORDS, 9) > 0);
+    for (draft, words) in [
+        (no_move_for_feed(), &NO_MOVE_WORDS[..]),
+        (no_swap_for_feed(), &NO_SWAP_WORDS),
+    ] {
+        let plan = draft.plan().expect("accepted");
+        let by_rack = draft.fed(draft.racks).plan().expect("accepted");
+        assert_eq!(same_steps(&plan, words, 9), 0);
+        assert!(same_steps(&by_rack, words, 9) > 0);
+    }
+}
+
 #[test]
 fn steps_with_full_machines() {
     let mut rng = Rng::new(2);
@@ -93,6 +109,8 @@ fn steps_of_the_largest_plans() {
         (64, 1, LARGE),
         (8, 8, all_versions(LARGE)[1]),
         (8, 8, all_versions(LARGE)[2]),
+        (8, 8, all_versions(LARGE)[3]),
+        (32, 2, all_versions(LARGE)[3]),
     ] {
         let plan = sized(&mut rng, size, racks, per_rack, 1024)
             .plan()
@@ -103,11 +121,12 @@ fn steps_of_the_largest_plans() {
     }
 }
 
-/// The largest plans with room for ten copies of every block: in version 2 it has at most eight, in version 3 ten.
+/// The largest plans with room for ten copies of every block: in version 2 it has at most eight, in versions 3 and 4
+/// ten.
 #[test]
 fn steps_of_ten_copies() {
     let mut rng = Rng::new(8);
-    for (size, most) in all_versions(LARGE)[1..].iter().zip([8, 10]) {
+    for (size, most) in all_versions(LARGE)[1..].iter().zip([8, 10, 10]) {
         let draft = Draft {
             capacity: 1024,
             budget: 10_240,
@@ -160,7 +179,7 @@ fn rest_is_answered_at_rest() {
 #[test]
 fn checks_and_single_steps() {
     let mut rng = Rng::new(5);
-    for k in 0..1200 {
+    for k in 0..1600 {
         let size = all_versions(SMALL)[k / 400];
         let draft = draft(&mut rng, size);
         let plan = draft.plan().expect("accepted");
@@ -188,10 +207,10 @@ fn checks_and_single_steps() {
 #[test]
 fn listings() {
     let mut rng = Rng::new(6);
-    for draft in [h(), y(), z(), k(), empty(), one_machine()] {
+    for draft in [h(), y(), z(), k(), empty(), one_machine(), feeds()] {
         assert_eq!(listing(&draft.bytes(), 100), text(&draft.bytes(), 100));
     }
-    for k in 0..450 {
+    for k in 0..600 {
         let size = all_versions(SMALL)[k / 150];
         let bytes = draft(&mut rng, size).bytes();
         let row = any_row(&mut rng, size.version);
@@ -220,7 +239,7 @@ fn same_conversion(bytes: &[u8], lent: usize) {
 #[test]
 fn conversions() {
     let mut rng = Rng::new(7);
-    for k in 0..1500 {
+    for k in 0..2000 {
         let size = all_versions(SMALL)[k / 500];
         let draft = draft(&mut rng, size);
         let need = 15 + 7 * draft.records.len();
