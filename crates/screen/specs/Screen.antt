@@ -9,7 +9,6 @@ use Rattle.model.specs.Placement.{bit}
 use Rattle.theory.specs.Widths.{loadBound}
 use Rattle.cluster.specs.declared.Cluster.{Cluster}
 use Rattle.cluster.specs.Cluster.{InRange}
-use Rattle.index.specs.declared.Route.{Route}
 use Rattle.index.specs.Index.{indexLength, byRank, spot, shareAt}
 use Rattle.screen.specs.declared.Sweep.{Sweep}
 
@@ -17,13 +16,13 @@ use Rattle.screen.specs.declared.Sweep.{Sweep}
 abbrev pub Rising : List ℕ → ℕ → Type 0
 Rising index blocks = (r q : ℕ) → r ≤ q → q < blocks → shareAt index r ≤ shareAt index q
 
--- An index with the blocks by rising share, and a route of its machines.
-pub record ScreenAsked (c : Cluster) (index : List ℕ) (route : Route) : Type 0 where
+-- An index with the blocks by rising share, two of its machines, and what the first has more in load.
+pub record ScreenAsked (c : Cluster) (index : List ℕ) (m n margin : ℕ) : Type 0 where
   pub sized : length index ≡ indexLength
   pub in-range : InRange c
-  pub m-below : route .m < maxMachines
-  pub n-below : route .n < maxMachines
-  pub margin-narrow : route .margin < loadBound
+  pub m-below : m < maxMachines
+  pub n-below : n < maxMachines
+  pub margin-narrow : margin < loadBound
   pub rising : Rising index (c .blocks)
 
 -- The block at rank k is on the first machine alone.
@@ -36,22 +35,21 @@ abbrev pub rankedOn : List ℕ → ℕ → ℕ → ℕ
 rankedOn index m = spot index byRank m
 
 -- No block on m alone has a share above 0 and below the margin.
-abbrev pub NoMove : Cluster → List ℕ → Route → Type 0
-NoMove c index route =
-    (k : ℕ) → k < c .blocks → Alone (rankedOn index (route .m)) (rankedOn index (route .n)) k → 0 < shareAt index k
-    → route .margin ≤ shareAt index k
+abbrev pub NoMove : Cluster → List ℕ → ℕ → ℕ → ℕ → Type 0
+NoMove c index m n margin =
+    (k : ℕ) → k < c .blocks → Alone (rankedOn index m) (rankedOn index n) k → 0 < shareAt index k → margin ≤ shareAt index k
 
 -- No block on m alone has a share above that of one on n alone by less than the margin.
-abbrev pub NoExchange : Cluster → List ℕ → Route → Type 0
-NoExchange c index route =
-    (k q : ℕ) → k < c .blocks → q < c .blocks → Alone (rankedOn index (route .m)) (rankedOn index (route .n)) k
-    → Alone (rankedOn index (route .n)) (rankedOn index (route .m)) q → shareAt index q < shareAt index k
-    → route .margin + shareAt index q ≤ shareAt index k
+abbrev pub NoExchange : Cluster → List ℕ → ℕ → ℕ → ℕ → Type 0
+NoExchange c index m n margin =
+    (k q : ℕ) → k < c .blocks → q < c .blocks → Alone (rankedOn index m) (rankedOn index n) k
+    → Alone (rankedOn index n) (rankedOn index m) q → shareAt index q < shareAt index k
+    → margin + shareAt index q ≤ shareAt index k
 
 -- Nothing of the kind can pass: a move, or an exchange.
-abbrev pub RuledOut : Cluster → List ℕ → Route → Bool → Type 0
-RuledOut c index route false = NoMove c index route
-RuledOut c index route true = NoExchange c index route
+abbrev pub RuledOut : Cluster → List ℕ → ℕ → ℕ → ℕ → Bool → Type 0
+RuledOut c index m n margin false = NoMove c index m n margin
+RuledOut c index m n margin true = NoExchange c index m n margin
 
 -- What is known of n's own blocks below rank k for a block ahead with the share `ahead`: the largest share is `top`, it can be
 -- returned for one below `reach`, and the next smaller one for one below `under`.

@@ -3,7 +3,6 @@
 use cluster::Cluster;
 use index::BY_RANK;
 use index::KEYS_AT;
-use index::Route;
 ghost use mathlib.Core.Path.{_≡_};
 ghost use mathlib.Core.Bool.{Bool};
 ghost use Rattle.screen.specs.Screen.{ScreenAsked, NoMove, NoExchange, RuledOut, BlockAsked, BlockSwept, WordAsked, WordSwept};
@@ -18,17 +17,17 @@ struct Sweep {
 }
 
 // No block of m's that n lacks has a share above 0 and below the margin.
-fn no_move(index: &[u64], cluster: Cluster, route: Route) -> bool
-    requires { ⌜ ScreenAsked cluster (now index) route ⌝ }
-    ensures { λ r. ⌜ (r ≡ Bool.true → NoMove cluster (now (index .entry)) route) ⌝ }
+fn no_move(index: &[u64], cluster: Cluster, m: usize, n: usize, margin: u64) -> bool
+    requires { ⌜ ScreenAsked cluster (now index) m n margin ⌝ }
+    ensures { λ r. ⌜ (r ≡ Bool.true → NoMove cluster (now (index .entry)) m n margin) ⌝ }
 {
-    let mut k = index::next(index, BY_RANK, route.m, route.n, 0, cluster);
+    let mut k = index::next(index, BY_RANK, m, n, 0, cluster);
     while k < cluster.blocks {
         let share = ranking::share_of(index[KEYS_AT + k]);
         if share != 0 {
-            return route.margin <= share;
+            return margin <= share;
         }
-        k = index::next(index, BY_RANK, route.m, route.n, k + 1, cluster);
+        k = index::next(index, BY_RANK, m, n, k + 1, cluster);
     }
     true
 }
@@ -98,12 +97,10 @@ fn sweep_word(a: u64, b: u64, index: &[u64], base: usize, margin: u64, start: Sw
 }
 
 // No block of m's that n lacks has a share above that of one of n's that m lacks by less than the margin.
-fn no_exchange(index: &[u64], cluster: Cluster, route: Route) -> bool
-    requires { ⌜ ScreenAsked cluster (now index) route ⌝ }
-    ensures { λ r. ⌜ (r ≡ Bool.true → NoExchange cluster (now (index .entry)) route) ⌝ }
+fn no_exchange(index: &[u64], cluster: Cluster, m: usize, n: usize, margin: u64) -> bool
+    requires { ⌜ ScreenAsked cluster (now index) m n margin ⌝ }
+    ensures { λ r. ⌜ (r ≡ Bool.true → NoExchange cluster (now (index .entry)) m n margin) ⌝ }
 {
-    let m = route.m;
-    let n = route.n;
     let mut sweep = Sweep {
         found: false,
         top: 0,
@@ -118,7 +115,7 @@ fn no_exchange(index: &[u64], cluster: Cluster, route: Route) -> bool
             index[at + n * 16],
             index,
             base,
-            route.margin,
+            margin,
             sweep,
         );
         if sweep.found {
@@ -129,13 +126,20 @@ fn no_exchange(index: &[u64], cluster: Cluster, route: Route) -> bool
     true
 }
 
-// Whether the shares rule out every move from m to n, or every exchange between them.
-pub fn rules_out(index: &[u64], cluster: Cluster, route: Route, swapping: bool) -> bool
-    requires { ⌜ ScreenAsked cluster (now index) route ⌝ }
-    ensures { λ r. ⌜ (r ≡ Bool.true → RuledOut cluster (now (index .entry)) route swapping) ⌝ }
+// Whether the shares rule out every move from m to n, or every exchange between them, where m has `margin` more load.
+pub fn rules_out(
+    index: &[u64],
+    cluster: Cluster,
+    m: usize,
+    n: usize,
+    margin: u64,
+    swapping: bool,
+) -> bool
+    requires { ⌜ ScreenAsked cluster (now index) m n margin ⌝ }
+    ensures { λ r. ⌜ (r ≡ Bool.true → RuledOut cluster (now (index .entry)) m n margin swapping) ⌝ }
 {
     if swapping {
-        return no_exchange(index, cluster, route);
+        return no_exchange(index, cluster, m, n, margin);
     }
-    no_move(index, cluster, route)
+    no_move(index, cluster, m, n, margin)
 }

@@ -4,7 +4,7 @@ use mathlib.Core.Path.{_≡_, refl, ap, ap₂, sym, _∙_}
 use mathlib.Core.Bool.{Bool, true, false, not, Bool·beq}
 use mathlib.Core.List.{List}
 use Prim.Native.Nat.{ℕ, _+_, _*_, _/_, _%_, _<_, _≤_}
-use native.Mathlib.Nat.{add-zero, mod-lt, div-lt-iff-lt-mul, mul-div-cancel, mul-mod-left, mul-lt-mul-of-pos-right}
+use native.Mathlib.Nat.{add-zero, mod-lt, div-lt-iff-lt-mul, mul-div-cancel, mul-mod-left}
 use native.Mathlib.Decide.{decLt}
 use native.Mathlib.Omega.{arith}
 use borrow.Author.Tests.{eq-eqb, ne-eqb}
@@ -77,9 +77,6 @@ module _ (c : Cluster) (range : InRange c) where
       mod-digits (rack * size) (c .feeds) size (range .feeds-pos) (range .size-pos)
       ∙ ap₂ (λ (q x : ℕ). q % c .feeds * size + x) (mul-div-cancel rack (range .size-pos)) (mul-mod-left rack size)
       ∙ add-zero (domainIn c m * size)
-
-  pub turn-start : (m : ℕ) → domainIn c m * c .«rack_size» < c .feeds * c .«rack_size»
-  turn-start m = mul-lt-mul-of-pos-right (mod-lt (m / c .«rack_size») (range .feeds-pos)) (range .size-pos)
 
 -- ── nextStep ───────────────────────────────────────────────────────────────────────────────────────────────────────────
 

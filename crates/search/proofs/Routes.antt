@@ -17,20 +17,19 @@ use Rattle.theory.specs.Refusal.{Shaped}
 use Rattle.theory.specs.Steps.{LocalMove, LocalSwap}
 use Rattle.theory.proofs.StepsLocal.{canMove-local, canSwap-local}
 use Rattle.cluster.specs.declared.Cluster.{Cluster}
-use Rattle.cluster.specs.Cluster.{machinesIn, domainIn}
+use Rattle.cluster.specs.Cluster.{machinesIn, InRange}
 use Rattle.cluster.specs.Blocks.{PlacementOf}
-use Rattle.cluster.proofs.Laws.{range-turn, cluster-size, cluster-capacity, cluster-blocks, placement-machine, placement-share}
+use Rattle.cluster.proofs.Laws.{cluster-size, cluster-capacity, cluster-blocks, placement-machine, placement-share}
 use Rattle.loads.proofs.Laws.{loads-narrow, copies-used, loads-load}
 use Rattle.index.specs.declared.Route.{Route}
 use Rattle.index.specs.Index.{rankAt, shareAt}
-use Rattle.screen.specs.Screen.{Alone, rankedOn, RuledOut}
+use Rattle.screen.specs.Screen.{ScreenAsked, Alone, rankedOn, RuledOut}
 use Rattle.transfers.specs.declared.Hit.{Hit}
 use Rattle.transfers.specs.declared.Hit.the-variants.{Nothing}
-use Rattle.transfers.specs.Route.{hitOf, routeStep, RouteAsked, RouteScene, HitOf}
+use Rattle.transfers.specs.Route.{hitOf, routeStep, MarginOf, RouteAsked, HitOf}
 use Rattle.transfers.proofs.Searches.{none-found, test-none}
 use Rattle.search.specs.declared.Row.{Row}
-use Rattle.search.specs.Scene.{KindAsked, PartedAsked, PartedOf, routeOf, RouteAt, HitIs}
-use Rattle.search.proofs.Laws.{turn-start}
+use Rattle.search.specs.Scene.{KindAsked, PartedOf, OpenAsked, OpenFound, routeOf, RouteAt, HitIs}
 
 -- ── routeStep ───────────────────────────────────────────────────────────────────────────────────────────────────────────
 
@@ -60,11 +59,25 @@ module _ (p : Plan) (count : ℕ → ℕ) (c : Cluster) (words profiles : List �
       ap isStep (test-none (blockCount p) (canSwap p words m n i) (swap across m n i) (λ j h.
       not-so _ (λ t. barren i j l h (canSwap-local p shaped count words (placement .feasible) m n i j m-in n-in l h .0 t))))))
 
--- ── what the screen rules out ──────────────────────────────────────────────────────────────────────────────────────────
+-- ── OpenAsked: what the screen rules out, and the route that is handed on ───────────────────────────────────────────────
 
-module _ {c : Cluster} {words profiles index : List ℕ} {route : Route} (at : RouteAsked c words profiles index route) where
+module _ {c : Cluster} {words profiles index : List ℕ} {row : Row} {n margin : ℕ} (at : OpenAsked c words profiles index row n margin) where
+  pub range : InRange c
+  range = at .fits .profiles-fit .in-range
+
   in-machines : (m : ℕ) → m < machinesIn c → m < maxMachines
-  in-machines m l = omega (arith, at .route-in .in-range .machines-max)
+  in-machines m l = omega (arith, range .machines-max)
+
+  pub screen-asked : ScreenAsked c index (row .m) n margin
+  screen-asked =
+      record {
+        sized = at .indexed .ordered .sized;
+        in-range = range;
+        m-below = in-machines (row .m) (at .row-in .m-below);
+        n-below = in-machines n (at .n-below);
+        margin-narrow = at .margin-narrow;
+        rising = at .indexed .ordered .rising;
+      }
 
   -- a block on one machine alone is so at its rank
   alone : (a b i : ℕ) → a < machinesIn c → b < machinesIn c → i < c .blocks → held words a i ≡ 1 → held words b i ≡ 0
@@ -75,36 +88,65 @@ module _ {c : Cluster} {words profiles index : List ℕ} {route : Route} (at : R
         lacks = at .indexed .by-rank b i (in-machines b bl) l ∙ off;
       }
 
-  module _ (p : Plan) (count : ℕ → ℕ) (scene : RouteScene p count c words profiles route) where
+  module _ (p : Plan) (count : ℕ → ℕ) (placement : PlacementOf p count c words profiles) (margin-is : MarginOf p words (row .m) n margin) where
     below : (i : ℕ) → i < blockCount p → i < c .blocks
-    below i l = rw (cluster-blocks p c (scene .placement .profiles-of .cluster)) l
+    below i l = rw (cluster-blocks p c (placement .profiles-of .cluster)) l
 
     share-is : (i : ℕ) → i < c .blocks → shareAt index (rankAt index i) ≡ shareOf p words i
-    share-is i l = at .indexed .ordered .rank-share i l ∙ placement-share p count c words profiles (scene .placement) i l
+    share-is i l = at .indexed .ordered .rank-share i l ∙ placement-share p count c words profiles placement i l
 
-    barren-ruled : (swapping : Bool) → RuledOut c index route swapping → Barren p words swapping (route .m) (route .n)
+    barren-ruled : (swapping : Bool) → RuledOut c index (row .m) n margin swapping → Barren p words swapping (row .m) n
     barren-ruled false ruled = λ i il s.
         let l = below i il in
-        let margin = scene .margin-is _ _ .0 (s .lowers) in
+        let lowers = margin-is _ _ .0 (s .lowers) in
         let far = ruled (rankAt index i) (at .indexed .ordered .rank-below i l)
-        (alone (route .m) (route .n) i (at .route-in .m-below) (at .route-in .n-below) l (s .on) (s .off))
-        (rw (share-is i l) (margin .gain)) in
-        omega (arith, share-is i l, margin .below)
+        (alone (row .m) n i (at .row-in .m-below) (at .n-below) l (s .on) (s .off))
+        (rw (share-is i l) (lowers .gain)) in
+        omega (arith, share-is i l, lowers .below)
     barren-ruled true ruled = λ i j il jl s.
         let l = below i il in
         let h = below j jl in
-        let margin = scene .margin-is _ _ .0 (s .lowers) in
+        let lowers = margin-is _ _ .0 (s .lowers) in
         let far = ruled (rankAt index i) (rankAt index j) (at .indexed .ordered .rank-below i l) (at .indexed .ordered .rank-below j h)
-        (alone (route .m) (route .n) i (at .route-in .m-below) (at .route-in .n-below) l (s .i-on) (s .i-off))
-        (alone (route .n) (route .m) j (at .route-in .n-below) (at .route-in .m-below) h (s .j-on) (s .j-off))
-        (rw (share-is j h, share-is i l) (margin .gain)) in
-        omega (arith, share-is i l, share-is j h, margin .below)
+        (alone (row .m) n i (at .row-in .m-below) (at .n-below) l (s .i-on) (s .i-off))
+        (alone n (row .m) j (at .n-below) (at .row-in .m-below) h (s .j-on) (s .j-off))
+        (rw (share-is j h, share-is i l) (lowers .gain)) in
+        omega (arith, share-is i l, share-is j h, lowers .below)
 
-    pub routeStep-ruled : (swapping across : Bool) → RuledOut c index route swapping
-        → none ≡ routeStep p words swapping across (route .m) (route .n)
+    pub routeStep-ruled : (swapping across : Bool) → RuledOut c index (row .m) n margin swapping
+        → none ≡ routeStep p words swapping across (row .m) n
     routeStep-ruled swapping across ruled =
-        routeStep-none p count c words profiles (scene .placement) (route .m) (route .n) (at .route-in .m-below) (at .route-in .n-below)
+        routeStep-none p count c words profiles placement (row .m) n (at .row-in .m-below) (at .n-below)
         swapping across (barren-ruled swapping ruled)
+
+  module _ (parted : Bool) (parted-is : PartedOf c (row .low) n parted) where
+    -- the route as it is handed on
+    abbrev routeHere : Route
+    routeHere = record { parted = parted; m = row .m; n = n; margin = margin }
+
+    pub route-asked : RouteAsked c words profiles index routeHere
+    route-asked =
+        record {
+          fits = at .fits;
+          indexed = at .indexed;
+          route-in =
+              record {
+                in-range = range;
+                m-below = at .row-in .m-below;
+                n-below = at .n-below;
+                parted-is = parted-is (row .m) (at .row-in .low-is);
+                margin-narrow = at .margin-narrow;
+              };
+        }
+
+    pub route-found : (r : Hit)
+        → HitOf c words profiles routeHere (row .swapping) (λ across p. routeStep p words (row .swapping) across (row .m) n) r
+        → OpenFound c words profiles row n margin r
+    route-found r found =
+        record {
+          sound = found .sound;
+          is = λ p count placement margin-is room. found .is p count (record { placement = placement; margin-is = margin-is }) room;
+        }
 
 -- ── the route of a row's machine m and n ────────────────────────────────────────────────────────────────────────────────
 
@@ -120,14 +162,6 @@ module _ {c : Cluster} {words profiles index loads copies : List ℕ} {row : Row
         size-pos = ranges .size-pos;
         low-max = omega (arith, at .row-in .low-is, div-add-mod' (row .m) (c .«rack_size»), m-max);
         size-max = omega (arith, mul-le-mul-right (c .«rack_size») (ranges .racks-pos), ranges .machines-max);
-      }
-
-  pub parted-asked : PartedAsked c (row .base)
-  parted-asked =
-      let ranges = at .all .fits .profiles-fit .in-range in
-      record {
-        in-range = ranges;
-        base-max = omega (arith, at .row-in .base-is, turn-start c ranges (row .m), range-turn c ranges, ranges .machines-max);
       }
 
   -- whether the route is of the row's kind
@@ -180,46 +214,36 @@ module _ {c : Cluster} {words profiles index loads copies : List ℕ} {row : Row
     pub nothing-full : row .swapping ≡ false → c .capacity ≤ getD copies n 0 → HitIs c words profiles (row .across) wanted Nothing
     nothing-full moving l = nothing-barren (λ p count placement. rw moving (λ i h s. omega (arith, n-used p count placement, cluster-capacity p c (placement .profiles-of .cluster), s .room)))
 
-    module _ (more : getD loads n 0 < getD loads (row .m) 0) (parted : Bool) (parted-is : PartedOf c (row .base) n parted) where
-      -- the route as it is handed on: what m has more than n is its margin
-      abbrev pub routeHere : Route
-      routeHere = record { parted = parted; m = row .m; n = n; margin = getD loads (row .m) 0 - getD loads n 0 }
+    module _ (more : getD loads n 0 < getD loads (row .m) 0) where
+      -- what m has more than n is the margin
+      abbrev marginHere : ℕ
+      marginHere = getD loads (row .m) 0 - getD loads n 0
 
-      pub route-asked : RouteAsked c words profiles index routeHere
-      route-asked =
+      pub open-asked : OpenAsked c words profiles index row n marginHere
+      open-asked =
           record {
             fits = at .all .fits;
             indexed = at .all .indexed;
-            route-in =
-                record {
-                  in-range = at .all .fits .profiles-fit .in-range;
-                  m-below = at .row-in .m-below;
-                  n-below = at .n-below;
-                  parted-is = parted-is (domainIn c (row .m)) (at .row-in .base-is);
-                  margin-narrow = omega (arith, loads-narrow c words profiles loads copies (at .all .loads-of) (at .all .fits .profiles-fit) (row .m) m-max);
-                };
+            row-in = at .row-in;
+            n-below = at .n-below;
+            margin-narrow = omega (arith, loads-narrow c words profiles loads copies (at .all .loads-of) (at .all .fits .profiles-fit) (row .m) m-max);
           }
 
-      route-scene : (p : Plan) (count : ℕ → ℕ) → PlacementOf p count c words profiles → RouteScene p count c words profiles routeHere
-      route-scene p count placement =
+      margin-is : (p : Plan) (count : ℕ → ℕ) → PlacementOf p count c words profiles → MarginOf p words (row .m) n marginHere
+      margin-is p count placement given back =
           let d = load-of p count placement (row .m) (at .row-in .m-below) in
-          let e = load-of p count placement n (at .n-below) in
-          record {
-            placement = placement;
-            margin-is = λ given back. (
-              λ h. record { gain = h .0; below = omega (arith, h .1) },
-              λ h. (h .gain, omega (arith, h .below)),
-            );
-          }
+          let e = load-of p count placement n (at .n-below) in (
+            λ h. record { gain = h .0; below = omega (arith, h .1) },
+            λ h. (h .gain, omega (arith, h .below)),
+          )
 
-      pub route-found : (r : Hit) → (row .swapping ≡ false → getD copies n 0 < c .capacity)
-          → HitOf c words profiles routeHere (row .swapping) (λ across p. routeStep p words (row .swapping) across (row .m) n) r
+      pub open-found : (r : Hit) → (row .swapping ≡ false → getD copies n 0 < c .capacity) → OpenFound c words profiles row n marginHere r
           → HitIs c words profiles (row .across) wanted r
-      route-found r room found =
+      open-found r room found =
           record {
             sound = found .sound;
             is = λ p count placement.
-                found .is p count (route-scene p count placement)
+                found .is p count placement (margin-is p count placement)
                 (λ moving. omega (arith, room moving, n-used p count placement, cluster-capacity p c (placement .profiles-of .cluster)))
                 (row .across)
                 ∙ this p count placement;

@@ -6,14 +6,15 @@ use Prim.Native.Nat.{ℕ, _*_, _/_, _%_, _<_, _≤_}
 use lib.Dec.{eqb, leb}
 use Rattle.model.specs.Plan.{Plan, machines}
 use Rattle.model.specs.Refusal.{maxMachines}
+use Rattle.theory.specs.Widths.{loadBound}
 use Rattle.model.specs.Steps.{Step as ModelStep, none, move, swap, acrossRacks, first, nextStep}
 use Rattle.cluster.specs.declared.Cluster.{Cluster}
-use Rattle.cluster.specs.Cluster.{machinesIn, domainIn, InRange}
+use Rattle.cluster.specs.Cluster.{machinesIn, domainIn}
 use Rattle.cluster.specs.Blocks.{PlacementFits, PlacementOf}
 use Rattle.loads.specs.Loads.{LoadsOf}
 use Rattle.index.specs.Index.{Indexed}
 use Rattle.transfers.specs.declared.Hit.{Hit}
-use Rattle.transfers.specs.Route.{hitOf, routeStep, Shift, HitFound}
+use Rattle.transfers.specs.Route.{hitOf, routeStep, Shift, HitFound, MarginOf, HasRoom}
 use Rattle.search.specs.declared.Step.{Step}
 use Rattle.search.specs.declared.Step.the-variants.{Rest, Move, Swap, RackMove, RackSwap}
 use Rattle.search.specs.declared.Row.{Row}
@@ -54,13 +55,9 @@ abbrev pub OfKind : ℕ → ℕ → ℕ → Bool → Bool → Type 0
 OfKind low size n across r =
     (m : ℕ) → low ≡ m / size * size → r ≡ Bool·beq across (not (eqb (m / size) (n / size)))
 
--- Whether n lies in another failure domain than one whose first rack starts at `base`.
-pub record PartedAsked (c : Cluster) (base : ℕ) : Type 0 where
-  pub in-range : InRange c
-  pub base-max : base < maxMachines
-
+-- Whether n lies in another failure domain than m: `low` is the first machine of m's rack.
 abbrev pub PartedOf : Cluster → ℕ → ℕ → Bool → Type 0
-PartedOf c base n r = (d : ℕ) → base ≡ d * c .«rack_size» → r ≡ not (eqb d (domainIn c n))
+PartedOf c low n r = (m : ℕ) → low ≡ m / c .«rack_size» * c .«rack_size» → r ≡ not (eqb (domainIn c m) (domainIn c n))
 
 -- A kind by its number in the order of the steps: 0 Move, 1 Swap, 2 RackMove, 3 RackSwap.
 abbrev pub isExchange : ℕ → Bool
@@ -85,11 +82,10 @@ pub record SearchAsked (c : Cluster) (words profiles index loads copies : List �
   pub indexed : Indexed c words profiles index
   pub loads-of : LoadsOf c words profiles loads copies
 
--- A machine of the cluster, and where its rack starts, and the first rack of its failure domain.
+-- A machine of the cluster, and where its rack starts.
 pub record RowIn (c : Cluster) (row : Row) : Type 0 where
   pub m-below : row .m < machinesIn c
   pub low-is : row .low ≡ row .m / c .«rack_size» * c .«rack_size»
-  pub base-is : row .base ≡ domainIn c (row .m) * c .«rack_size»
 
 pub record RowAsked (c : Cluster) (words profiles index loads copies : List ℕ) (row : Row) : Type 0 where
   pub all : SearchAsked c words profiles index loads copies
@@ -99,6 +95,20 @@ pub record RouteAt (c : Cluster) (words profiles index loads copies : List ℕ) 
   pub all : SearchAsked c words profiles index loads copies
   pub row-in : RowIn c row
   pub n-below : n < machinesIn c
+
+-- The row's machine and n, and what it has more in load.
+pub record OpenAsked (c : Cluster) (words profiles index : List ℕ) (row : Row) (n margin : ℕ) : Type 0 where
+  pub fits : PlacementFits c words profiles
+  pub indexed : Indexed c words profiles index
+  pub row-in : RowIn c row
+  pub n-below : n < machinesIn c
+  pub margin-narrow : margin < loadBound
+
+-- What is found between them is what the definition's search finds.
+pub record OpenFound (c : Cluster) (words profiles : List ℕ) (row : Row) (n margin : ℕ) (r : Hit) : Type 0 where
+  pub sound : HitFound c words r
+  pub is : (p : Plan) (count : ℕ → ℕ) → PlacementOf p count c words profiles → MarginOf p words (row .m) n margin
+      → HasRoom p words (row .swapping) n → (across : Bool) → hitOf across r ≡ routeStep p words (row .swapping) across (row .m) n
 
 -- What a loop finds is what the definition's search finds.
 pub record HitIs (c : Cluster) (words profiles : List ℕ) (across : Bool) (wanted : Plan → ModelStep) (r : Hit) : Type 0 where

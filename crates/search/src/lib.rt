@@ -2,10 +2,10 @@
 use cluster::Cluster;
 use index::Route;
 use transfers::Hit;
-ghost use Rattle.transfers.specs.Route.{routeStep, RouteAsked, HitOf};
 ghost use mathlib.Core.Path.{_≡_};
 ghost use Prim.Native.Nat.{_%_, _≤_};
-ghost use Rattle.search.specs.Scene.{isExchange, isAcross, NextFound, AnswerOf, KindAsked, OfKind, PartedAsked, PartedOf, routeOf, rowOf, kindStep, SearchAsked, RowAsked, RouteAt, HitIs};
+ghost use Rattle.cluster.specs.Cluster.{InRange};
+ghost use Rattle.search.specs.Scene.{isExchange, isAcross, NextFound, AnswerOf, KindAsked, OfKind, PartedOf, OpenAsked, OpenFound, routeOf, rowOf, kindStep, SearchAsked, RowAsked, RouteAt, HitIs};
 
 // A step, or rest. Block i goes from m to n, of an exchange block j from n to m; m and n of a RackMove or RackSwap lie in
 // different racks.
@@ -35,12 +35,11 @@ pub enum Step {
     },
 }
 
-// A kind of step and the machine m that it leaves; its rack starts at `low`, and the first rack of its failure domain at `base`.
+// A kind of step and the machine m that it leaves, whose rack starts at `low`.
 struct Row {
     swapping: bool,
     across: bool,
     low: usize,
-    base: usize,
     m: usize,
 }
 
@@ -90,33 +89,41 @@ fn wrapped(n: usize, turn: usize) -> usize
     n % turn
 }
 
-// Whether n lies in another failure domain than the one whose first rack starts at `base`.
-fn is_parted(cluster: Cluster, base: usize, n: usize) -> bool
-    requires { ⌜ PartedAsked cluster base ⌝ }
-    ensures { λ r. ⌜ PartedOf cluster base n r ⌝ }
+// Whether n lies in another failure domain than the rack that starts at `low`. Racks on one feed are a turn of F racks apart.
+fn is_parted(cluster: Cluster, low: usize, n: usize) -> bool
+    requires { ⌜ InRange cluster ⌝ }
+    ensures { λ r. ⌜ PartedOf cluster low n r ⌝ }
 {
     let size = cluster.rack_size;
-    let at = wrapped(n, cluster.feeds * size);
-    of_kind(base, size, at, true)
+    let turn = cluster.feeds * size;
+    of_kind(wrapped(low, turn), size, wrapped(n, turn), true)
 }
 
-// The first step of the kind between m and n, unless the shares rule it out; n of a move has room.
+// The first step of the row's kind from its machine, which has `margin` more load, to n, unless the shares rule it out; n of a move has
+// room. Whether the two lie in different failure domains is asked only then.
 fn find_open(
     words: &[u64],
     profiles: &[u64],
     index: &[u64],
     cluster: Cluster,
-    route: Route,
-    swapping: bool,
+    row: Row,
+    n: usize,
+    margin: u64,
 ) -> Hit
-    requires { ⌜ RouteAsked cluster (now words) (now profiles) (now index) route ⌝ }
-    ensures { λ r. ⌜ HitOf cluster (now (words .entry)) (now (profiles .entry)) route swapping
-        (λ across p. routeStep p (now (words .entry)) swapping across (route .m) (route .n)) r ⌝ }
+    requires { ⌜ OpenAsked cluster (now words) (now profiles) (now index) row n margin ⌝ }
+    ensures { λ r. ⌜ OpenFound cluster (now (words .entry)) (now (profiles .entry)) row n margin r ⌝ }
 {
-    if screen::rules_out(index, cluster, route, swapping) {
+    let m = row.m;
+    if screen::rules_out(index, cluster, m, n, margin, row.swapping) {
         return Hit::Nothing;
     }
-    transfers::find(words, profiles, index, cluster, route, swapping)
+    let route = Route {
+        parted: is_parted(cluster, row.low, n),
+        m,
+        n,
+        margin,
+    };
+    transfers::find(words, profiles, index, cluster, route, row.swapping)
 }
 
 // The first step of the row's kind from its machine to n.
@@ -146,14 +153,7 @@ fn find_route(
             return Hit::Nothing;
         }
     }
-    let margin = loads[m] - loads[n];
-    let route = Route {
-        parted: is_parted(cluster, row.base, n),
-        m,
-        n,
-        margin,
-    };
-    find_open(words, profiles, index, cluster, route, row.swapping)
+    find_open(words, profiles, index, cluster, row, n, loads[m] - loads[n])
 }
 
 // The first step of the row's kind from its machine.
@@ -207,7 +207,6 @@ fn find_kind(
             swapping,
             across,
             low,
-            base: wrapped(low, cluster.feeds * size),
             m,
         };
         let hit = find_row(words, profiles, index, loads, copies, cluster, row);

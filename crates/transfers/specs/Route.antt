@@ -107,15 +107,14 @@ pub record RouteAsked (c : Cluster) (words profiles index : List ℕ) (route : R
   pub indexed : Indexed c words profiles index
   pub route-in : RouteIn c route
 
--- The route's margin says which transfers lower m's load and keep n's below it.
-abbrev pub MarginOf : Plan → List ℕ → Route → Type 0
-MarginOf p words route =
-    (given back : ℕ) → Lowers p words (route .m) (route .n) given back ↔ InMargin (route .margin) given back
+-- The margin says which transfers lower m's load and keep n's below it.
+abbrev pub MarginOf : Plan → List ℕ → ℕ → ℕ → ℕ → Type 0
+MarginOf p words m n margin = (given back : ℕ) → Lowers p words m n given back ↔ InMargin margin given back
 
 -- The plan and placement that the numbers are of, with the route's margin.
 pub record RouteScene (p : Plan) (count : ℕ → ℕ) (c : Cluster) (words profiles : List ℕ) (route : Route) : Type 0 where
   pub placement : PlacementOf p count c words profiles
-  pub margin-is : MarginOf p words route
+  pub margin-is : MarginOf p words (route .m) (route .n) (route .margin)
 
 -- What is asked about the shares of a route's blocks.
 pub record SharesAsked (c : Cluster) (index : List ℕ) (route : Route) : Type 0 where

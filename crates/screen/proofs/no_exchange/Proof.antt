@@ -12,12 +12,12 @@ use Rattle.screen.proofs.no_exchange.Statement.{statement}
 use Rattle.screen.proofs.no_exchange.Tie as tie
 
 abbrev Inv-loop : tie.InvT-loop
-Inv-loop index cluster route m n sweep₀ base₀ sweep base =
+Inv-loop index cluster m n margin sweep₀ base₀ sweep base =
     (base % 64 ≡ 0)
-    × SweptTo (rankedOn index (route .m)) (rankedOn index (route .n)) index (route .margin) (cluster .blocks) base (sweep .top) (sweep .reach) (sweep .under)
+    × SweptTo (rankedOn index m) (rankedOn index n) index margin (cluster .blocks) base (sweep .top) (sweep .reach) (sweep .under)
 
 abbrev μ-loop : tie.MeasureT-loop
-μ-loop index cluster route m n sweep₀ base₀ sweep base = cluster .blocks - base
+μ-loop index cluster m n margin sweep₀ base₀ sweep base = cluster .blocks - base
 
 loop-holds : tie.Need-loop-holds Inv-loop μ-loop
 loop-holds c = (refl, start _ _ _ _ _)
@@ -81,10 +81,10 @@ loop-again c =
     let inv = at .loop .inv in
     let index = now (a .index) in (
       omega (arith, inv .0),
-      c .before .sweep-word .ensures (rankedOn index (a .route .m)) (rankedOn index (a .route .n)) (a .cluster .blocks) (start .pre .rising)
+      c .before .sweep-word .ensures (rankedOn index (a .m)) (rankedOn index (a .n)) (a .cluster .blocks) (start .pre .rising)
           (record {
-            of-mine = spot-word index (a .route .m) (at .loop .base) (inv .0);
-            of-theirs = spot-word index (a .route .n) (at .loop .base) (inv .0);
+            of-mine = spot-word index (a .m) (at .loop .base) (inv .0);
+            of-theirs = spot-word index (a .n) (at .loop .base) (inv .0);
           })
           (inv .1) (c .if2 .left),
     )

@@ -9,23 +9,22 @@ use native.Mathlib.Omega.{arith}
 use borrow.Author.Needs.{needs}
 use borrow.Author.Tests.{leb-true}
 use Rattle.cluster.specs.declared.Cluster.{Cluster}
-use Rattle.index.specs.declared.Route.{Route}
 use Rattle.index.specs.Index.{byRank, shareAt, NextAsked}
 use Rattle.screen.specs.Screen.{ScreenAsked, rankedOn, Alone}
 use Rattle.screen.proofs.no_move.Statement.{statement}
 use Rattle.screen.proofs.no_move.Tie as tie
 
 abbrev Inv-loop : tie.InvT-loop
-Inv-loop index cluster route k₀ k =
-    (x : ℕ) → x < k → x < cluster .blocks → Alone (rankedOn index (route .m)) (rankedOn index (route .n)) x → shareAt index x ≡ 0
+Inv-loop index cluster m n margin k₀ k =
+    (x : ℕ) → x < k → x < cluster .blocks → Alone (rankedOn index m) (rankedOn index n) x → shareAt index x ≡ 0
 
 abbrev μ-loop : tie.MeasureT-loop
-μ-loop index cluster route k₀ k = cluster .blocks - k
+μ-loop index cluster m n margin k₀ k = cluster .blocks - k
 
 -- a search by rank from a place among the blocks
-asked-from : (c : Cluster) (index : List ℕ) (route : Route) → ScreenAsked c index route → (from : ℕ) → from ≤ c .blocks
-    → NextAsked index byRank (route .m) (route .n) from c
-asked-from c index route asked from l =
+asked-from : (c : Cluster) (index : List ℕ) (m n margin : ℕ) → ScreenAsked c index m n margin → (from : ℕ) → from ≤ c .blocks
+    → NextAsked index byRank m n from c
+asked-from c index m n margin asked from l =
     record {
       sized = asked .sized;
       part-max = omega arith;
@@ -36,7 +35,7 @@ asked-from c index route asked from l =
     }
 
 next-requires : tie.Need-next-requires Inv-loop μ-loop
-next-requires c κs = asked-from _ _ _ (c .before .pre) 0 (omega arith)
+next-requires c κs = asked-from _ _ _ _ _ (c .before .pre) 0 (omega arith)
 
 loop-holds : tie.Need-loop-holds Inv-loop μ-loop
 loop-holds c x l h a = absurd (c .next .ensures .passed x (omega arith) l h (a .holds) (a .lacks))
@@ -58,10 +57,10 @@ share-of-requires c κs = search needs
 -- the first candidate with another share has the smallest share of the rest
 returns : tie.Need-returns Inv-loop μ-loop
 returns c ruled x h alone positive =
-    let called = c .before .before in
+    let called = c .before in
     let at = called .before .before .before .before in
     let start = at .before .before .before in
-    let less = leb-true (start .args .route .margin) (called .share-of .result) ruled in
+    let less = leb-true (start .args .margin) (called .share-of .result) ruled in
     elim (decLt x (at .loop .k)) [
       | yes m ↦ absurd (omega (arith, at .loop .inv x m h alone))
       | no m ↦ omega (arith, less, called .share-of .ensures, start .pre .rising (at .loop .k) x (omega arith) h)
@@ -73,7 +72,7 @@ add-next c = search needs
 next-requires-2 : tie.Need-next-requires-2 Inv-loop μ-loop
 next-requires-2 c κs =
     let inside = c .before .before .before in
-    asked-from _ _ _ (inside .before .before .before .before .before .pre) _ (omega (arith, inside .if1 .taken))
+    asked-from _ _ _ _ _ (inside .before .before .before .before .before .pre) _ (omega (arith, inside .if1 .taken))
 
 loop-less : tie.Need-loop-less Inv-loop μ-loop
 loop-less c = omega (arith, c .before .before .before .before .if1 .taken, c .next2 .ensures .at-least)

@@ -6,9 +6,7 @@ use native.Mathlib.Nat.{div-add-mod'}
 use native.Mathlib.Omega.{arith}
 use borrow.Author.Needs.{needs}
 use Rattle.cluster.specs.Cluster.{machinesIn}
-use Rattle.cluster.proofs.Laws.{range-turn, range-turn-pos}
 use Rattle.search.specs.Scene.{isExchange, isAcross, rowOf, kindStep}
-use Rattle.search.proofs.Laws.{turn-base}
 use Rattle.search.proofs.Loops.{Passed, passed-first, passed-more, passed-found, passed-all}
 use Rattle.search.proofs.find_kind.Statement.{statement}
 use Rattle.search.proofs.find_kind.Tie as tie
@@ -32,26 +30,11 @@ div-low c = omega (arith, c .before .before .before .before .before .before .bef
 mul-low : tie.Need-mul-low Inv-loop μ-loop
 mul-low c = omega (arith, c .loop-test .taken, c .before .before .machines .ensures, div-add-mod' (c .before .loop .m) (c .before .before .before .before .before .before .before .before .args .cluster .«rack_size»))
 
-mul-wrapped : tie.Need-mul-wrapped Inv-loop μ-loop
-mul-wrapped c =
-    let range = c .before .before .before .before .before .before .before .before .before .pre .fits .profiles-fit .in-range in
-    omega (arith, range-turn _ range, range .machines-max)
-
-wrapped-requires : tie.Need-wrapped-requires Inv-loop μ-loop
-wrapped-requires c κs = range-turn-pos _ (c .before .before .before .before .before .before .before .before .before .pre .fits .profiles-fit .in-range)
-
 find-row-requires : tie.Need-find-row-requires Inv-loop μ-loop
 find-row-requires c κs =
-    let at = c .before .before in
-    let asked = at .before .before .before .before .before .before .before .before .pre in
     record {
-      all = asked;
-      row-in =
-          record {
-            m-below = omega (arith, at .before .before .machines .ensures, at .loop-test .taken);
-            low-is = refl;
-            base-is = c .wrapped .ensures ∙ turn-base _ (asked .fits .profiles-fit .in-range) (at .before .loop .m);
-          };
+      all = c .before .before .before .before .before .before .before .before .pre;
+      row-in = record { m-below = omega (arith, c .before .before .machines .ensures, c .loop-test .taken); low-is = refl };
     }
 
 is-found-requires : tie.Need-is-found-requires Inv-loop μ-loop
@@ -60,18 +43,18 @@ is-found-requires c κs = search needs
 returns : tie.Need-returns Inv-loop μ-loop
 unfolding kindStep
 returns c =
-    passed-found (c .before .before .before .before .before .before .loop .inv) (omega (arith, c .before .before .before .before .before .before .before .machines .ensures, c .before .before .before .before .before .loop-test .taken)) (c .before .before .find-row .ensures)
+    passed-found (c .before .before .before .before .loop .inv) (omega (arith, c .before .before .before .before .before .machines .ensures, c .before .before .before .loop-test .taken)) (c .before .before .find-row .ensures)
     (c .before .is-found .ensures _ ∙ c .if1 .taken)
 
 add-m : tie.Need-add-m Inv-loop μ-loop
-add-m c = omega (arith, c .before .before .before .before .before .loop-test .taken)
+add-m c = omega (arith, c .before .before .before .loop-test .taken)
 
 loop-less : tie.Need-loop-less Inv-loop μ-loop
-loop-less c = omega (arith, c .before .before .before .before .before .before .before .machines .ensures, c .before .before .before .before .before .loop-test .taken)
+loop-less c = omega (arith, c .before .before .before .before .before .machines .ensures, c .before .before .before .loop-test .taken)
 
 loop-again : tie.Need-loop-again Inv-loop μ-loop
 loop-again c =
-    passed-more (c .before .before .before .before .before .before .loop .inv) (omega (arith, c .before .before .before .before .before .before .before .machines .ensures, c .before .before .before .before .before .loop-test .taken)) (c .before .before .find-row .ensures)
+    passed-more (c .before .before .before .before .loop .inv) (omega (arith, c .before .before .before .before .before .machines .ensures, c .before .before .before .loop-test .taken)) (c .before .before .find-row .ensures)
     (c .before .is-found .ensures _ ∙ c .if1 .left)
 
 returns-2 : tie.Need-returns-2 Inv-loop μ-loop
@@ -88,8 +71,6 @@ find-kind-spec =
     loop-holds
     div-low
     mul-low
-    mul-wrapped
-    wrapped-requires
     find-row-requires
     is-found-requires
     returns

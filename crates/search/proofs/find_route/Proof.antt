@@ -6,7 +6,7 @@ use mathlib.Core.Logic.{⊎-elim}
 use borrow.Author.Needs.{needs}
 use borrow.Author.Tests.{not-true, not-false}
 use Rattle.order.proofs.Booleans.{no-contradiction}
-use Rattle.search.proofs.Routes.{kind-asked, parted-asked, kindHere, nothing-other, nothing-level, nothing-full, route-asked, route-found}
+use Rattle.search.proofs.Routes.{kind-asked, kindHere, nothing-other, nothing-level, nothing-full, open-asked, open-found}
 use Rattle.search.proofs.find_route.Statement.{statement}
 use Rattle.search.proofs.find_route.Tie as tie
 
@@ -52,38 +52,31 @@ returns-3 c =
     let e = c .before .before .before .before .before .before .before .before in
     nothing-full (e .before .before .before .before .before .before .before .pre) (kind-here e) (not-true _ (c .before .before .before .if3 .taken)) (c .if4 .taken)
 
-mul-margin : tie.Need-mul-margin
-mul-margin c = search needs
+mul-find-open : tie.Need-mul-find-open
+mul-find-open c = search needs
 
-shared-slice-read-margin : tie.Need-shared-slice-read-margin
-shared-slice-read-margin c = search needs
+shared-slice-read-find-open : tie.Need-shared-slice-read-find-open
+shared-slice-read-find-open c = search needs
 
-mul-margin-2 : tie.Need-mul-margin-2
-mul-margin-2 c = search needs
+mul-find-open-2 : tie.Need-mul-find-open-2
+mul-find-open-2 c = search needs
 
-shared-slice-read-margin-2 : tie.Need-shared-slice-read-margin-2
-shared-slice-read-margin-2 c = search needs
+shared-slice-read-find-open-2 : tie.Need-shared-slice-read-find-open-2
+shared-slice-read-find-open-2 c = search needs
 
-sub-margin : tie.Need-sub-margin
-sub-margin c = search needs
-
-is-parted-requires : tie.Need-is-parted-requires
-is-parted-requires c κs =
-    let e = c .before .before .before .before .before .before .before in
-    parted-asked (e .before .before .before .before .before .before .before .pre)
+sub-find-open : tie.Need-sub-find-open
+sub-find-open c = search needs
 
 find-open-requires : tie.Need-find-open-requires
 find-open-requires c κs =
-    let e = c .before .before .before .before .before .before .before .before in
-    route-asked (e .before .before .before .before .before .before .before .pre) (kind-here e) (c .before .before .before .before .before .if2 .left) _
-    (c .is-parted .ensures)
+    let e = c .before .before .before .before .before .before .before in
+    open-asked (e .before .before .before .before .before .before .before .pre) (kind-here e) (c .before .before .before .before .if2 .left)
 
 returns-4 : tie.Need-returns-4
 returns-4 c =
-    let e = c .before .before .before .before .before .before .before .before .before in
-    route-found (e .before .before .before .before .before .before .before .pre) (kind-here e) (c .before .before .before .before .before .before .if2 .left) _
-    (c .before .is-parted .ensures) _
-    (λ moving. ⊎-elim (λ w. w .3 .left) (λ w. no-contradiction (sym (not-false _ (w .left)) ∙ moving)) (c .before .before .before .before .if3 .came))
+    let e = c .before .before .before .before .before .before .before .before in
+    open-found (e .before .before .before .before .before .before .before .pre) (kind-here e) (c .before .before .before .before .before .if2 .left) _
+    (λ moving. ⊎-elim (λ w. w .3 .left) (λ w. no-contradiction (sym (not-false _ (w .left)) ∙ moving)) (c .before .before .before .if3 .came))
     (c .find-open .ensures)
 
 pub find-route-spec : {M : Type 1} → statement M
@@ -100,11 +93,10 @@ find-route-spec =
     mul-if4
     shared-slice-read-if4
     returns-3
-    mul-margin
-    shared-slice-read-margin
-    mul-margin-2
-    shared-slice-read-margin-2
-    sub-margin
-    is-parted-requires
+    mul-find-open
+    shared-slice-read-find-open
+    mul-find-open-2
+    shared-slice-read-find-open-2
+    sub-find-open
     find-open-requires
     returns-4)
