@@ -4,6 +4,7 @@ use mathlib.Core.Path.{_≡_, ap, sym, _∙_}
 use mathlib.Core.Bool.{Bool, true, false}
 use mathlib.Core.List.{List}
 use Prim.Native.Nat.{ℕ, _+_, _≤_, _<_}
+use native.Mathlib.Decide.{decLt}
 use native.Mathlib.Omega.{arith}
 use borrow.Author.Count.{below-more}
 use Rattle.model.specs.Plan.{Plan, machines}
@@ -45,12 +46,23 @@ module _ {c : Cluster} {words profiles : List ℕ} {f : Plan → ℕ → Step} {
               (λ k h. passed .none-at k h p count placement) (sym (found .is p count placement)) e);
         }
 
-  pub passed-all : (across : Bool) → machinesIn c ≤ n → HitIs c words profiles across (λ p. first (machines p) (f p)) Nothing
+  -- nothing at the later machines, or no later ones
+  pub passed-rest : (across : Bool)
+      → ((k : ℕ) → n ≤ k → k < machinesIn c → (p : Plan) (count : ℕ → ℕ) → PlacementOf p count c words profiles → isStep (f p k) ≡ false)
+      → HitIs c words profiles across (λ p. first (machines p) (f p)) Nothing
   unfolding hitOf
-  passed-all across l =
+  passed-rest across later =
       record {
         sound = tt;
         is = λ p count placement.
             sym (none-found (machines p) (f p)
-            (λ k h. let all = cluster-machines p c (placement .profiles-of .cluster) in passed .none-at k (omega arith) p count placement));
+            (λ k h.
+            let below : k < machinesIn c = omega (arith, cluster-machines p c (placement .profiles-of .cluster)) in
+            elim (decLt k n) [
+              | yes l ↦ passed .none-at k l p count placement
+              | no l ↦ later k (omega arith) below p count placement
+            ]));
       }
+
+  pub passed-all : (across : Bool) → machinesIn c ≤ n → HitIs c words profiles across (λ p. first (machines p) (f p)) Nothing
+  passed-all across l = passed-rest across (λ k h below. absurd (omega arith))

@@ -29,7 +29,7 @@ use Rattle.transfers.specs.declared.Hit.the-variants.{Nothing}
 use Rattle.transfers.specs.Route.{hitOf, routeStep, MarginOf, RouteAsked, HitOf}
 use Rattle.transfers.proofs.Searches.{none-found, test-none}
 use Rattle.search.specs.declared.Row.{Row}
-use Rattle.search.specs.Scene.{KindAsked, PartedOf, OpenAsked, OpenFound, routeOf, RouteAt, HitIs}
+use Rattle.search.specs.Scene.{KindAsked, PartedOf, OpenAsked, OpenFound, kindAt, routeOf, RouteAt, HitIs}
 
 -- ── routeStep ───────────────────────────────────────────────────────────────────────────────────────────────────────────
 
@@ -148,6 +148,15 @@ module _ {c : Cluster} {words profiles index : List ℕ} {row : Row} {n margin :
           is = λ p count placement margin-is room. found .is p count (record { placement = placement; margin-is = margin-is }) room;
         }
 
+-- ── kindAt ──────────────────────────────────────────────────────────────────────────────────────────────────────────────
+
+-- at a machine that is not of the row's kind the definition finds nothing
+pub kindAt-other : (c : Cluster) (words profiles : List ℕ) (row : Row) (n : ℕ) → kindAt c row n ≡ false
+    → (p : Plan) (count : ℕ → ℕ) → PlacementOf p count c words profiles
+    → isStep (routeOf p words (row .swapping) (row .across) (row .m) n) ≡ false
+unfolding routeOf
+kindAt-other c words profiles row n e p count placement = rw (sym (cluster-size p c (placement .profiles-of .cluster)), e)
+
 -- ── the route of a row's machine m and n ────────────────────────────────────────────────────────────────────────────────
 
 module _ {c : Cluster} {words profiles index loads copies : List ℕ} {row : Row} {n : ℕ}
@@ -166,7 +175,7 @@ module _ {c : Cluster} {words profiles index loads copies : List ℕ} {row : Row
 
   -- whether the route is of the row's kind
   abbrev pub kindHere : Bool
-  kindHere = Bool·beq (row .across) (not (eqb (row .m / c .«rack_size») (n / c .«rack_size»)))
+  kindHere = kindAt c row n
 
   -- the row's search at n
   abbrev wanted : Plan → Step

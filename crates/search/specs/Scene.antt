@@ -9,7 +9,7 @@ use Rattle.model.specs.Refusal.{maxMachines}
 use Rattle.theory.specs.Widths.{loadBound}
 use Rattle.model.specs.Steps.{Step as ModelStep, none, move, swap, acrossRacks, first, nextStep}
 use Rattle.cluster.specs.declared.Cluster.{Cluster}
-use Rattle.cluster.specs.Cluster.{machinesIn, domainIn}
+use Rattle.cluster.specs.Cluster.{machinesIn, domainIn, InRange}
 use Rattle.cluster.specs.Blocks.{PlacementFits, PlacementOf}
 use Rattle.loads.specs.Loads.{LoadsOf}
 use Rattle.index.specs.Index.{Indexed}
@@ -86,6 +86,19 @@ pub record SearchAsked (c : Cluster) (words profiles index loads copies : List �
 pub record RowIn (c : Cluster) (row : Row) : Type 0 where
   pub m-below : row .m < machinesIn c
   pub low-is : row .low ≡ row .m / c .«rack_size» * c .«rack_size»
+
+-- Whether machine n is of the row's kind: in m's rack, or in another one.
+abbrev pub kindAt : Cluster → Row → ℕ → Bool
+kindAt c row n = Bool·beq (row .across) (not (eqb (row .m / c .«rack_size») (n / c .«rack_size»)))
+
+-- The machines of the row's kind lie from r on, and before r.
+abbrev pub StartsAt : Row → ℕ → Type 0
+StartsAt row r =
+    (c : Cluster) → InRange c → RowIn c row → (r ≤ machinesIn c) × ((n : ℕ) → n < r → kindAt c row n ≡ false)
+
+pub record EndsAt (c : Cluster) (row : Row) (r : ℕ) : Type 0 where
+  pub within : r ≤ machinesIn c
+  pub past : (n : ℕ) → r ≤ n → n < machinesIn c → kindAt c row n ≡ false
 
 pub record RowAsked (c : Cluster) (words profiles index loads copies : List ℕ) (row : Row) : Type 0 where
   pub all : SearchAsked c words profiles index loads copies

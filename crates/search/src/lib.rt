@@ -5,7 +5,7 @@ use transfers::Hit;
 ghost use mathlib.Core.Path.{_≡_};
 ghost use Prim.Native.Nat.{_%_, _≤_};
 ghost use Rattle.cluster.specs.Cluster.{InRange};
-ghost use Rattle.search.specs.Scene.{isExchange, isAcross, NextFound, AnswerOf, KindAsked, OfKind, PartedOf, OpenAsked, OpenFound, routeOf, rowOf, kindStep, SearchAsked, RowAsked, RouteAt, HitIs};
+ghost use Rattle.search.specs.Scene.{isExchange, isAcross, NextFound, AnswerOf, KindAsked, OfKind, PartedOf, OpenAsked, OpenFound, routeOf, rowOf, kindStep, SearchAsked, RowIn, StartsAt, EndsAt, RowAsked, RouteAt, HitIs};
 
 // A step, or rest. Block i goes from m to n, of an exchange block j from n to m; m and n of a RackMove or RackSwap lie in
 // different racks.
@@ -156,6 +156,27 @@ fn find_route(
     find_open(words, profiles, index, cluster, row, n, loads[m] - loads[n])
 }
 
+// The first machine that a step of the row's kind can lead to: its rack's first one, or any.
+fn row_start(row: Row) -> usize
+    ensures { λ r. ⌜ StartsAt row r ⌝ }
+{
+    if row.across {
+        return 0;
+    }
+    row.low
+}
+
+// And past the last one.
+fn row_end(cluster: Cluster, row: Row) -> usize
+    requires { ⌜ InRange cluster × RowIn cluster row ⌝ }
+    ensures { λ r. ⌜ EndsAt cluster row r ⌝ }
+{
+    if row.across {
+        return cluster.machines();
+    }
+    row.low + cluster.rack_size
+}
+
 // The first step of the row's kind from its machine.
 fn find_row(
     words: &[u64],
@@ -170,9 +191,9 @@ fn find_row(
     ensures { λ r. ⌜ HitIs cluster (now (words .entry)) (now (profiles .entry)) (row .across)
         (λ p. rowOf p (now (words .entry)) (row .swapping) (row .across) (row .m)) r ⌝ }
 {
-    let machines = cluster.machines();
-    let mut n: usize = 0;
-    while n < machines {
+    let end = row_end(cluster, row);
+    let mut n = row_start(row);
+    while n < end {
         let hit = find_route(words, profiles, index, loads, copies, cluster, row, n);
         if transfers::is_found(hit) {
             return hit;

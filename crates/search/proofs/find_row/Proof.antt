@@ -1,36 +1,49 @@
 -- `search::find_row` meets its contract. The loop's invariant: the definition finds nothing at the machines passed.
 -- Assumes nothing.
 use mathlib.Core.Path.{_∙_}
-use Prim.Native.Nat.{_-_}
+use Prim.Native.Nat.{_-_, _<_}
 use native.Mathlib.Omega.{arith}
 use borrow.Author.Needs.{needs}
 use Rattle.cluster.specs.Cluster.{machinesIn}
 use Rattle.search.specs.Scene.{routeOf, rowOf}
-use Rattle.search.proofs.Loops.{Passed, passed-first, passed-more, passed-found, passed-all}
+use Rattle.search.proofs.Routes.{kindAt-other}
+use Rattle.search.proofs.Loops.{Passed, passed-more, passed-found, passed-rest}
 use Rattle.search.proofs.find_row.Statement.{statement}
 use Rattle.search.proofs.find_row.Tie as tie
 
 abbrev Inv-loop : tie.InvT-loop
-Inv-loop words profiles index loads copies cluster row machines n₀ n =
+Inv-loop words profiles index loads copies cluster row end n₀ n =
     Passed cluster words profiles (λ p. routeOf p words (row .swapping) (row .across) (row .m)) n
 
 abbrev μ-loop : tie.MeasureT-loop
-μ-loop words profiles index loads copies cluster row machines n₀ n = machinesIn cluster - n
+μ-loop words profiles index loads copies cluster row end n₀ n = end - n
 
-machines-requires : tie.Need-machines-requires Inv-loop μ-loop
-machines-requires c κs = c .before .before .before .before .before .pre .all .fits .profiles-fit .in-range
+row-end-requires : tie.Need-row-end-requires Inv-loop μ-loop
+row-end-requires c κs =
+    let asked = c .before .before .before .before .before .pre in
+    (asked .all .fits .profiles-fit .in-range, asked .row-in)
 
+row-start-requires : tie.Need-row-start-requires Inv-loop μ-loop
+row-start-requires c κs = search needs
+
+-- before the row's first machine none is of its kind
 loop-holds : tie.Need-loop-holds Inv-loop μ-loop
-loop-holds c = passed-first
+loop-holds c =
+    let start = c .before .before .before .before .before .before .before in
+    let a = start .args in
+    let asked = start .pre in
+    let from = c .row-start .ensures (a .cluster) (asked .all .fits .profiles-fit .in-range) (asked .row-in) in
+    record { within = from .0; none-at = λ k l. kindAt-other (a .cluster) _ _ (a .row) k (from .1 k l) }
+
+-- the machine in the loop is one of the cluster
+below : (c : tie.In-loop Inv-loop μ-loop)
+    → c .before .loop .n < machinesIn (c .before .before .before .before .before .before .before .before .before .args .cluster)
+below c = omega (arith, c .loop-test .taken, c .before .before .before .row-end .ensures .within)
 
 find-route-requires : tie.Need-find-route-requires Inv-loop μ-loop
 find-route-requires c κs =
-    let start = c .before .before .before .before .before .before .before .before in
-    record {
-      all = start .pre .all;
-      row-in = start .pre .row-in;
-      n-below = omega (arith, c .before .before .machines .ensures, c .loop-test .taken);
-    }
+    let asked = c .before .before .before .before .before .before .before .before .before .pre in
+    record { all = asked .all; row-in = asked .row-in; n-below = below c }
 
 is-found-requires : tie.Need-is-found-requires Inv-loop μ-loop
 is-found-requires c κs = search needs
@@ -38,23 +51,28 @@ is-found-requires c κs = search needs
 returns : tie.Need-returns Inv-loop μ-loop
 unfolding rowOf
 returns c =
-    passed-found (c .before .before .before .before .loop .inv) (omega (arith, c .before .before .before .before .before .machines .ensures, c .before .before .before .loop-test .taken)) (c .before .before .find-route .ensures)
-    (c .before .is-found .ensures _ ∙ c .if1 .taken)
+    let at = c .before .before .before in
+    passed-found (at .before .loop .inv) (below at) (c .before .before .find-route .ensures) (c .before .is-found .ensures _ ∙ c .if1 .taken)
 
 add-n : tie.Need-add-n Inv-loop μ-loop
 add-n c = omega (arith, c .before .before .before .loop-test .taken)
 
 loop-less : tie.Need-loop-less Inv-loop μ-loop
-loop-less c = omega (arith, c .before .before .before .before .before .machines .ensures, c .before .before .before .loop-test .taken)
+loop-less c = omega (arith, c .before .before .before .loop-test .taken)
 
 loop-again : tie.Need-loop-again Inv-loop μ-loop
 loop-again c =
-    passed-more (c .before .before .before .before .loop .inv) (omega (arith, c .before .before .before .before .before .machines .ensures, c .before .before .before .loop-test .taken)) (c .before .before .find-route .ensures)
-    (c .before .is-found .ensures _ ∙ c .if1 .left)
+    let at = c .before .before .before in
+    passed-more (at .before .loop .inv) (below at) (c .before .before .find-route .ensures) (c .before .is-found .ensures _ ∙ c .if1 .left)
 
+-- nor is one past its last
 returns-2 : tie.Need-returns-2 Inv-loop μ-loop
 unfolding rowOf
-returns-2 c = passed-all (c .before .loop .inv) _ (omega (arith, c .before .before .machines .ensures, c .loop-test .left))
+returns-2 c =
+    let ends = c .before .before .before .row-end .ensures in
+    let a = c .before .before .before .before .before .before .before .before .before .args in
+    passed-rest (c .before .loop .inv) _
+    (λ k l h. kindAt-other (a .cluster) _ _ (a .row) k (ends .past k (omega (arith, c .loop-test .left)) h))
 
 pub find-row-spec : {M : Type 1} → statement M
 find-row-spec =
@@ -62,7 +80,8 @@ find-row-spec =
     (tie.spec
     Inv-loop
     μ-loop
-    machines-requires
+    row-end-requires
+    row-start-requires
     loop-holds
     find-route-requires
     is-found-requires
