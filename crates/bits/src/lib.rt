@@ -92,7 +92,7 @@ pub fn is_below(word: u64, machines: usize) -> bool
 }
 
 // 1 where a bit of the `size` from `from` on is set, else 0.
-pub fn any_of(word: u64, from: usize, size: usize) -> usize
+fn any_of(word: u64, from: usize, size: usize) -> usize
     requires { ⌜ (from + size ≤ 64) × (1 ≤ size) ⌝ }
     ensures { λ r. ⌜ r ≡ min 1 (sum size (λ x. bit word (from + x))) ⌝ }
 {
@@ -109,7 +109,7 @@ pub fn any_of(word: u64, from: usize, size: usize) -> usize
 }
 
 // How many of the `groups` ranges of `size` bits each have a bit set.
-pub fn groups_used(word: u64, groups: usize, size: usize) -> usize
+fn groups_used(word: u64, groups: usize, size: usize) -> usize
     requires { ⌜ (groups * size ≤ 64) × (1 ≤ size) ⌝ }
     ensures { λ r. ⌜ r ≡ sum groups (λ d. min 1 (sum size (λ x. bit word (d * size + x)))) ⌝ }
 {

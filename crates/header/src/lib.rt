@@ -3,10 +3,10 @@ use cluster::Cluster;
 use cluster::MAX_BLOCKS;
 use cluster::MAX_MACHINES;
 ghost use mathlib.Core.Path.{_≡_};
-ghost use Prim.Native.Nat.{ℕ, _+_, _<_, _≤_, _^_};
+ghost use Prim.Native.Nat.{_+_, _<_, _≤_, _^_};
 ghost use lib.ListN.{length};
 ghost use Rattle.model.specs.Plan.{field, commonLength, formatOf, formatIn, feedsIn, recordAt};
-ghost use Rattle.model.specs.Refusal.{orElse, maxBlocks};
+ghost use Rattle.model.specs.Refusal.{maxBlocks};
 ghost use Rattle.header.specs.Format.{asFormat, FormatFits};
 ghost use Rattle.header.specs.Header.{countIn, headerCounted, HallRows, SizeRows, Narrow, FieldsAsked, SizesAsked, MarkChecked, HeaderChecked};
 
@@ -219,6 +219,7 @@ fn count_in(bytes: &[u8], format: Format) -> usize
     field_at(bytes, 13 + format.feeds_width, 2)
 }
 
+// The header's fields.
 fn fields(bytes: &[u8], format: Format) -> Header
     requires { ⌜ FieldsAsked (now bytes) format ⌝ }
     ensures { λ r. ⌜ (r ≡ headerCounted (countIn (now (bytes .entry))) (now (bytes .entry))) × Narrow r ⌝ }

@@ -8,7 +8,7 @@ use lib.ListN.{length}
 use Rattle.order.specs.Sum.{sum}
 use Rattle.order.specs.Table.{table, filled}
 use Rattle.order.specs.Search.{firstUp, least, allb, largest}
-use Rattle.model.specs.Plan.{maxReplicas, upper, minTotal, field, latestVersion, formatOf, formatIn, versionIn, blockCountIn, recordAt, blockIn, planIn, isPaired, pairsBack, pairsNext, partner}
+use Rattle.model.specs.Plan.{maxReplicas, upper, minTotal, field, formatOf, formatIn, blockCountIn, recordAt, blockIn, planIn, isPaired, pairsBack, pairsNext, partner}
 use Rattle.model.specs.Refusal.{check1, check2, check3, check4, check22, check5, check6, check7, check8, check9, blockRefusal, blocksRefusal, check10, check11, check12, planRefusal, refusal, judge, pairsRefusal, pairRefusal, check17, alike}
 use Rattle.model.specs.Replication.{limit, share, need, reachable, figure, chosen}
 use Rattle.model.specs.Placement.{bit, replicas, replicasIn, domainsUsed, used, allWithin, allSpread, allFit, countsFeasible, isFeasible, position, laidWord, firstWord, shareOf, load, allApart, keptApart}

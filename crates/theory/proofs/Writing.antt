@@ -1,7 +1,7 @@
 -- Laws of the bytes that are written: how many they are, and that what is read where they stand is what was written.
 -- Assumes nothing.
 use mathlib.Core.Path.{_≡_, refl, ap, ap₂, sym, _∙_}
-use mathlib.Core.Bool.{Bool, true, false, cond}
+use mathlib.Core.Bool.{cond}
 use mathlib.Core.List.{List, [], _∷_, _++_, append-assoc}
 use Prim.Native.Nat.{ℕ, zero, suc, _+_, _*_, _-_, _/_, _%_, _^_, _<_, _≤_}
 use native.Mathlib.Nat.{pow-suc, mul-comm, mul-le-mul-left, mul-le-mul-right, add-zero, not-suc-le-zero}
@@ -9,7 +9,7 @@ use native.Mathlib.Numerals.{add-one}
 use native.Mathlib.Decide.{ℕ-discrete}
 use native.Mathlib.Omega.{arith}
 use lib.Arith.{digits-div, digits-mod}
-use lib.Dec.{eqb, ltb, lit<}
+use lib.Dec.{eqb, lit<}
 use lib.ListN.{length, getD, take, drop, length-append}
 use lib.Seq.{take-length, take-add, drop-drop, getD-drop, take-append-seam, drop-append-seam, take-take, drop-cons, getD-take}
 use Rattle.order.specs.Table.{joined}

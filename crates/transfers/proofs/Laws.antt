@@ -4,24 +4,21 @@ use mathlib.Core.Path.{_≡_, refl, ap, sym, _∙_}
 use mathlib.Core.Bool.{Bool, true, false, not}
 use mathlib.Core.List.{List}
 use mathlib.Core.Logic.{inl, inr, _↔_}
-use Prim.Native.Nat.{ℕ, _+_, _*_, _/_, _<_, _≤_, min}
+use Prim.Native.Nat.{ℕ, _+_, _<_, _≤_}
 use native.Mathlib.Decide.{ℕ-discrete, decLt}
 use native.Mathlib.Numerals.{add-one}
 use native.Mathlib.Omega.{arith}
 use borrow.Author.Tests.{not-false, eqb-true, eq-eqb, ne-eqb}
 use lib.Dec.{eqb}
 use lib.ListN.{getD}
-use Rattle.order.specs.Sum.{sum}
-use Rattle.order.proofs.Sums.{sum-cong}
 use Rattle.order.proofs.Booleans.{bool-cases, not-so}
 use Rattle.order.proofs.Extremes.{below-suc}
 use Rattle.model.specs.Plan.{Plan, machines, blockCount, blockOf, isPaired, partner}
-use Rattle.model.specs.Placement.{bit, wordOf, held, domainsUsed, used, shareOf}
+use Rattle.model.specs.Placement.{wordOf, held, domainsUsed, used, shareOf}
 use Rattle.model.specs.Steps.{Step, none, move, swap, shifted, isStep, first, canMove, canSwap}
 use Rattle.theory.specs.Steps.{Lowers, LocalMove}
 use Rattle.theory.specs.Refusal.{Shaped}
 use Rattle.theory.proofs.Plan.{partner-paired, partner-partner}
-use Rattle.theory.proofs.Placement.{replicasIn-members}
 use Rattle.theory.proofs.Steps.{domainsUsed-shift-inside, domainsUsed-shift-pos}
 use Rattle.theory.proofs.StepsLocal.{canMove-local, canSwap-local}
 use Rattle.cluster.specs.declared.Cluster.{Cluster}
