@@ -229,40 +229,52 @@ fn pattern(w: &mut Writer, rng: &mut Rng) {
     w.words(&words);
 }
 
+/// A plan damaged at each of these rows, which are in the order of the checks, and at each two of them.
+fn damaged_at(w: &mut Writer, rng: &mut Rng, good: &[u8], rows: &[u8]) {
+    for (at, a) in rows.iter().enumerate() {
+        refused_plan(w, &flawed(rng, good.to_vec(), *a));
+        for b in &rows[at + 1..] {
+            let two = flawed(rng, good.to_vec(), *b);
+            w.plan(&flawed(rng, two, *a));
+            w.calls("ps");
+        }
+    }
+}
+
+/// Plans with blocks of rows 8 and 9 in this order or the other first, and plans of rows 10, 9 and 11.
+fn at_fault(rng: &mut Rng, size: Size, least_first: bool) -> Vec<Draft> {
+    let two = [least_first, !least_first].map(|first| two_records(rng, size, first));
+    let over = [over_budget(rng, size), over_racks(rng, size)];
+    let all = two.into_iter().chain(over).flatten();
+    let mut drafts: Vec<Draft> = all.collect();
+    drafts.push(over_capacity(rng, size));
+    drafts
+}
+
+/// Random bytes of a version.
+fn random_bytes(w: &mut Writer, rng: &mut Rng, version: u8, times: usize) {
+    for _ in 0..times {
+        w.plan(&noise(rng, version));
+        w.calls("pf");
+    }
+}
+
 /// A plan damaged at each row, and at each two rows.
 fn damaged_plans(w: &mut Writer, rng: &mut Rng) {
     w.title("generated plans, damaged at one row and at two");
     w.lend(40);
     for _ in 0..4 {
         let good = draft(rng, SMALL).bytes();
-        for a in 1..=11 {
-            let one = flawed(rng, good.clone(), a);
-            refused_plan(w, &one);
-            for b in a + 1..=11 {
-                let two = flawed(rng, good.clone(), b);
-                w.plan(&flawed(rng, two, a));
-                w.calls("ps");
-            }
-        }
+        damaged_at(w, rng, &good, &[1, 2, 3, 4, 5, 6, 7, 8, 9, 10, 11]);
     }
     w.title("generated plans: blocks of rows 8 and 9 in both orders, rows 10 and 11");
     for _ in 0..15 {
-        for least_first in [false, true] {
-            if let Some(two) = two_records(rng, SMALL, least_first) {
-                refused_plan(w, &two.bytes());
-            }
-        }
-        let over = [over_budget(rng, SMALL), over_racks(rng, SMALL)];
-        for draft in over.iter().flatten() {
+        for draft in at_fault(rng, SMALL, false) {
             refused_plan(w, &draft.bytes());
         }
-        refused_plan(w, &over_capacity(rng, SMALL).bytes());
     }
     w.title("random bytes");
-    for _ in 0..40 {
-        w.plan(&noise(rng, 1));
-        w.calls("pf");
-    }
+    random_bytes(w, rng, 1, 40);
 }
 
 /// Damaged placements of one plan: every set of the rows 13 to 16, and 18, that can be broken, and too few words.

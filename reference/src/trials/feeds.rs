@@ -275,27 +275,14 @@ fn damaged(w: &mut Writer, rng: &mut Rng) {
     w.lend(40);
     let size = SMALL.fed();
     let good = sized(rng, size, 4, 3, 6).bytes();
-    for (at, a) in PLAN_ROWS.into_iter().enumerate() {
-        refused_plan(w, &flawed(rng, good.clone(), a));
-        for b in &PLAN_ROWS[at + 1..] {
-            let two = flawed(rng, good.clone(), *b);
-            w.plan(&flawed(rng, two, a));
-            w.calls("ps");
-        }
-    }
+    damaged_at(w, rng, &good, &PLAN_ROWS);
     for _ in 0..4 {
-        let two = [true, false].map(|least_first| two_records(rng, size, least_first));
-        let over = [over_budget(rng, size), over_racks(rng, size)];
-        for draft in two.iter().chain(&over).flatten() {
-            judged(w, draft);
+        for draft in at_fault(rng, size, true) {
+            judged(w, &draft);
         }
-        judged(w, &over_capacity(rng, size));
     }
     w.title("random bytes of version 4");
-    for _ in 0..20 {
-        w.plan(&noise(rng, 4));
-        w.calls("pf");
-    }
+    random_bytes(w, rng, 4, 20);
 }
 
 /// Plans that row 17 refuses, in each of its ways: alone, with 8 or 9 before it, with 10 or 11 after it.

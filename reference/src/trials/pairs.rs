@@ -215,34 +215,15 @@ fn damaged(w: &mut Writer, rng: &mut Rng) {
     w.lend(40);
     for _ in 0..2 {
         let good = draft(rng, SMALL.paired()).bytes();
-        for (at, a) in ROWS_BEFORE_FEEDS.into_iter().enumerate() {
-            let one = flawed(rng, good.clone(), a);
-            refused_plan(w, &one);
-            for b in &ROWS_BEFORE_FEEDS[at + 1..] {
-                let two = flawed(rng, good.clone(), *b);
-                w.plan(&flawed(rng, two, a));
-                w.calls("ps");
-            }
-        }
+        damaged_at(w, rng, &good, &ROWS_BEFORE_FEEDS);
     }
     for _ in 0..6 {
-        for least_first in [false, true] {
-            if let Some(two) = two_records(rng, SMALL.paired(), least_first) {
-                refused_plan(w, &two.bytes());
-            }
-        }
-        let size = SMALL.paired();
-        let over = [over_budget(rng, size), over_racks(rng, size)];
-        for draft in over.iter().flatten() {
+        for draft in at_fault(rng, SMALL.paired(), false) {
             refused_plan(w, &draft.bytes());
         }
-        refused_plan(w, &over_capacity(rng, size).bytes());
     }
     w.title("random bytes of version 2");
-    for _ in 0..20 {
-        w.plan(&noise(rng, 2));
-        w.calls("pf");
-    }
+    random_bytes(w, rng, 2, 20);
 }
 
 /// Plans that row 17 refuses, in each of its ways: alone, with 8 or 9 before it, with 10 or 11 after it.
