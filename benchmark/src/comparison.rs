@@ -362,31 +362,52 @@ pub fn copies(steps: u32) {
     table.print();
 }
 
-/// The calls on one plan on so many feeds, or in version 3. Answers the library's seconds for each.
-fn feeds_rows(table: &mut Table, size: Size, steps: u32) -> [f64; 5] {
+/// The calls on one plan on so many feeds, or in version 3.
+fn feeds_rows(table: &mut Table, size: Size, steps: u32) {
     let (version, feeds) = (size.version(), size.feeds.unwrap_or(size.racks));
     let mut add = |call: &str, times: [f64; 3]| {
         let numbers = [version.to_string(), feeds.to_string()];
         let own = [call, size.spreads(), &numbers[0], &numbers[1]].map(str::to_string);
         row(table, &own, times);
-        times[2]
     };
     let bytes = size.fine();
     let words = first_words(&bytes, size.blocks);
     let plan = compared("plan", |side| timed(|| (side.plan)(&bytes)));
+    add("plan", plan.0);
     let check = compared("check", |side| timed(|| (side.check)(&bytes, &words)));
+    add("check", check.0);
     let step = compared("step", |side| step_timed(side, &bytes, &words));
+    add("step", step.0);
     let run = compared("run", |side| run_timed(side, &bytes, &words, steps));
     let per_step = run.0.map(|time| time / f64::from(run.1 .1.max(1)));
+    add("step of a run", per_step);
     let (bytes, words, _) = rested(size);
     let rest = compared("rest", |side| step_timed(side, &bytes, &words));
-    [
-        add("plan", plan.0),
-        add("check", check.0),
-        add("step", step.0),
-        add("step of a run", per_step),
-        add("step at rest", rest.0),
-    ]
+    add("step at rest", rest.0);
+}
+
+/// The library's seconds for these calls on two plans, each the best of nine. The plans take turns, so that what slows the
+/// machine for a while slows both.
+fn in_turn(sizes: [Size; 2], steps: u32) -> [[f64; 5]; 2] {
+    let plans = sizes.map(|size| {
+        let bytes = size.fine();
+        let words = first_words(&bytes, size.blocks);
+        (bytes, words, rested(size))
+    });
+    let mut best = [[f64::INFINITY; 5]; 2];
+    for _ in 0..9 {
+        for ((bytes, words, rest), best) in plans.iter().zip(&mut best) {
+            let taken = [
+                timed(|| (LIBRARY.plan)(bytes)).0,
+                timed(|| (LIBRARY.check)(bytes, words)).0,
+                step_timed(&LIBRARY, bytes, words).0,
+                run_timed(&LIBRARY, bytes, words, steps).0,
+                step_timed(&LIBRARY, &rest.0, &rest.1).0,
+            ];
+            *best = std::array::from_fn(|call| best[call].min(taken[call]));
+        }
+    }
+    best
 }
 
 /// The same plan in version 3 and in version 4 with a feed for each rack, and version 4 with fewer feeds.
@@ -408,15 +429,12 @@ pub fn feeds(steps: u32) {
             feeds: Some(feeds),
             ..wide
         };
-        let by_rack = feeds_rows(&mut table, wide, steps);
-        let each = feeds_rows(&mut table, on_feeds(wide.racks), steps);
-        let more: Vec<String> = each
-            .iter()
-            .zip(by_rack)
-            .map(|(e, r)| ratio(*e, r))
-            .collect();
-        let (spreads, more) = (wide.spreads(), more.join(", "));
-        println!("Spreads {spreads}: with a feed for each rack these calls of the library last {more} times as long as in version 3.\n");
+        feeds_rows(&mut table, wide, steps);
+        feeds_rows(&mut table, on_feeds(wide.racks), steps);
+        let [by_rack, each] = in_turn([wide, on_feeds(wide.racks)], steps);
+        let more = each.iter().zip(by_rack).map(|(e, r)| ratio(*e, r));
+        let (spreads, more) = (wide.spreads(), more.collect::<Vec<_>>().join(", "));
+        println!("Spreads {spreads}: taken in turn, these calls of the library last {more} times as long with a feed for each rack as in version 3.\n");
         for number in fewer {
             feeds_rows(&mut table, on_feeds(*number), steps);
         }
