@@ -2,11 +2,10 @@
 
 use super::conversions::every_call;
 use super::pairs::handed_in;
-use super::reads::random_histories;
+use super::reads::{random_histories, reads_with};
 use super::*;
 use crate::damage::{mispaired, with_block_flaw, with_sum_flaw, MISPAIRINGS};
 use crate::placement::feeds_of;
-use crate::reads::{Entry, WINDOW};
 use crate::steps::step_plain;
 
 /// All trials of version 4.
@@ -494,9 +493,7 @@ fn conversions(w: &mut Writer, rng: &mut Rng) {
 /// Reads and popularities with plans of version 4, also with refused ones.
 fn reads(w: &mut Writer, rng: &mut Rng) {
     w.title("reads with plans of version 4");
-    let records = [(0, 7), (1, 7), (1, 8), (2, 9), (9, 9)];
-    let list = records.map(|(block, tick)| Entry { block, tick });
-    for plan in [
+    let plans = [
         &H_4[..],
         &K_4,
         &changed(&H_4, 7, 3),
@@ -504,16 +501,7 @@ fn reads(w: &mut Writer, rng: &mut Rng) {
         &changed(&K_4, 22, 2),
         &H_4[..15],
         &H_4[..36],
-    ] {
-        w.plan(plan);
-        w.list(&list);
-        w.count(4);
-        for block in 0..4 {
-            w.popularity(block);
-        }
-        for (block, tick) in [(4, 9), (3, 9), (2, 8), (2, WINDOW + 7), (1, WINDOW + 8)] {
-            w.read(block, tick);
-        }
-    }
+    ];
+    reads_with(w, &plans);
     random_histories(w, rng, 4, &[4]);
 }

@@ -196,6 +196,23 @@ fn event(w: &mut Writer, caller: &Caller, event: &Event) {
     }
 }
 
+/// Popularities and reads of one short list with each of these plans, refused ones among them.
+pub(super) fn reads_with(w: &mut Writer, plans: &[&[u8]]) {
+    let records = [(0, 7), (1, 7), (1, 8), (2, 9), (9, 9)];
+    let list = records.map(|(block, tick)| Entry { block, tick });
+    for plan in plans {
+        w.plan(plan);
+        w.list(&list);
+        w.count(4);
+        for block in 0..4 {
+            w.popularity(block);
+        }
+        for (block, tick) in [(4, 9), (3, 9), (2, 8), (2, WINDOW + 7), (1, WINDOW + 8)] {
+            w.read(block, tick);
+        }
+    }
+}
+
 /// Random histories over short lists, with a few strange records behind, and plans of these versions.
 pub(super) fn random_histories(
     w: &mut Writer,

@@ -1,10 +1,9 @@
 //! Trials of version 3: popularities of 4 bytes, in every call, and the plan's rows.
 
 use super::pairs::handed_in;
-use super::reads::random_histories;
+use super::reads::{random_histories, reads_with};
 use super::*;
 use crate::damage::{mispaired, with_block_flaw, with_sum_flaw, MISPAIRINGS, ROWS_BEFORE_FEEDS};
-use crate::reads::{Entry, WINDOW};
 
 /// All trials of version 3.
 pub fn all(w: &mut Writer, rng: &mut Rng) {
@@ -268,24 +267,13 @@ fn accepted(w: &mut Writer, rng: &mut Rng) {
 /// Reads and popularities with plans of version 3, also with refused ones.
 fn reads(w: &mut Writer, rng: &mut Rng) {
     w.title("reads with plans of version 3");
-    let records = [(0, 7), (1, 7), (1, 8), (2, 9), (9, 9)];
-    let list = records.map(|(block, tick)| Entry { block, tick });
-    for plan in [
+    let plans = [
         &H_3[..],
         &K_3,
         &changed(&K_3, 21, 2),
         &changed(&H_3, 4, 5),
         &H_3[..35],
-    ] {
-        w.plan(plan);
-        w.list(&list);
-        w.count(4);
-        for block in 0..4 {
-            w.popularity(block);
-        }
-        for (block, tick) in [(4, 9), (3, 9), (2, 8), (2, WINDOW + 7), (1, WINDOW + 8)] {
-            w.read(block, tick);
-        }
-    }
+    ];
+    reads_with(w, &plans);
     random_histories(w, rng, 4, &[3]);
 }
