@@ -171,8 +171,8 @@ module _ (p : Plan) (i : ℕ) (b : ValidBlock p i) where
   least-narrow : blockOf p i .minReplicas < 256
   least-narrow = eight _ _ (b .min-upper) (upper-max p i)
 
-  spread-narrow : blockOf p i .minRacks < 256
-  spread-narrow = eight _ _ (le-trans (b .racks-min) (b .min-upper)) (upper-max p i)
+  spread-narrow : blockOf p i .minDomains < 256
+  spread-narrow = eight _ _ (le-trans (b .domains-min) (b .min-upper)) (upper-max p i)
 
   most-narrow : upper p i < 256
   most-narrow = eight _ _ (upper-max p i) (omega arith)
@@ -187,7 +187,7 @@ module _ (p : Plan) (i : ℕ) (b : ValidBlock p i) where
   demandOf-least =
       let l = least-narrow in let s = spread-narrow in let m = most-narrow in let k = linkOf-narrow p i in omega arith
 
-  pub demandOf-spread : spreadAsked (demandOf p i) ≡ blockOf p i .minRacks
+  pub demandOf-spread : spreadAsked (demandOf p i) ≡ blockOf p i .minDomains
   unfolding demandOf
   demandOf-spread = let s = spread-narrow in let m = most-narrow in let k = linkOf-narrow p i in omega arith
 
@@ -208,7 +208,7 @@ module _ (p : Plan) (c : Cluster) (demands : List ℕ) (of : DemandsOf p c deman
   pub demands-least : leastIn (getD demands i 0) ≡ blockOf p i .minReplicas
   demands-least = rw (of .are i l) (demandOf-least p i (cluster-block p c (of .cluster) i l))
 
-  pub demands-spread : spreadAsked (getD demands i 0) ≡ blockOf p i .minRacks
+  pub demands-spread : spreadAsked (getD demands i 0) ≡ blockOf p i .minDomains
   demands-spread = rw (of .are i l) (demandOf-spread p i (cluster-block p c (of .cluster) i l))
 
   pub demands-most : mostIn (getD demands i 0) ≡ upper p i
@@ -228,7 +228,7 @@ module _ (p : Plan) (count : ℕ → ℕ) (i : ℕ) (b : ValidBlock p i) (few : 
   unfolding profileOf
   profileOf-count = let s = spread-narrow p i b in let k = linkOf-narrow p i in omega arith
 
-  pub profileOf-spread : spreadIn (profileOf p count i) ≡ blockOf p i .minRacks
+  pub profileOf-spread : spreadIn (profileOf p count i) ≡ blockOf p i .minDomains
   unfolding profileOf
   profileOf-spread = let s = spread-narrow p i b in let k = linkOf-narrow p i in omega arith
 
@@ -252,7 +252,7 @@ module _ (p : Plan) (count : ℕ → ℕ) (c : Cluster) (profiles : List ℕ) (o
   pub profiles-count : countIn (getD profiles i 0) ≡ count i
   profiles-count = rw (of .are i l) (profileOf-count p count i (cluster-block p c (of .cluster) i l) count-few)
 
-  pub profiles-spread : spreadIn (getD profiles i 0) ≡ blockOf p i .minRacks
+  pub profiles-spread : spreadIn (getD profiles i 0) ≡ blockOf p i .minDomains
   profiles-spread = rw (of .are i l) (profileOf-spread p count i (cluster-block p c (of .cluster) i l) count-few)
 
 pub profiles-mate : (p : Plan) (count : ℕ → ℕ) (c : Cluster) (profiles : List ℕ) → ProfilesOf p count c profiles
@@ -272,7 +272,7 @@ module _ (p : Plan) (count : ℕ → ℕ) (c : Cluster) (words profiles : List �
       profiles-share p count c profiles (of .profiles-of) (of .feasible .counts) i l
       ∙ shareOf-feasible p count words (of .feasible) i placement-block
 
-  pub placement-spread : spreadIn (getD profiles i 0) ≡ blockOf p i .minRacks
+  pub placement-spread : spreadIn (getD profiles i 0) ≡ blockOf p i .minDomains
   placement-spread = profiles-spread p count c profiles (of .profiles-of) (of .feasible .counts) i l
 
 -- a machine of the cluster is one of the plan

@@ -59,11 +59,11 @@ spreadIn profile = profile / 4 % 256
 -- Block i of plan p: its demand, and its profile at given counts.
 unfoldable pub demandOf : Plan → ℕ → ℕ
 demandOf p i =
-    demandWord (blockOf p i .popularity) (blockOf p i .minReplicas) (blockOf p i .minRacks) (upper p i) (linkOf p i)
+    demandWord (blockOf p i .popularity) (blockOf p i .minReplicas) (blockOf p i .minDomains) (upper p i) (linkOf p i)
 
 unfoldable pub profileOf : Plan → (ℕ → ℕ) → ℕ → ℕ
 profileOf p count i =
-    profileWord (share (blockOf p i .popularity) (count i)) (count i) (blockOf p i .minRacks) (linkOf p i)
+    profileWord (share (blockOf p i .popularity) (count i)) (count i) (blockOf p i .minDomains) (linkOf p i)
 
 -- One demand in its ranges.
 pub record DemandInRange (demand : ℕ) : Type 0 where

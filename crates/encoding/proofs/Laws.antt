@@ -22,8 +22,8 @@ put-same {at} {next} {a} {b} {old} {text} e put = subst (λ (piece : List ℕ). 
 
 -- a block's numbers in the widths of a format are its record
 pub recordBytes-numbers : (f : Format) (b : Block) (popularity least spread pair : ℕ)
-    → popularity ≡ b .popularity → least ≡ b .minReplicas → spread ≡ b .minRacks → pair ≡ b .pairByte
-    → numbersBytes (f .popularityWidth ∷ f .minReplicasWidth ∷ f .minRacksWidth ∷ f .pairByteWidth ∷ []) (popularity ∷ least ∷ spread ∷ pair ∷ [])
+    → popularity ≡ b .popularity → least ≡ b .minReplicas → spread ≡ b .minDomains → pair ≡ b .pairByte
+    → numbersBytes (f .popularityWidth ∷ f .minReplicasWidth ∷ f .minDomainsWidth ∷ f .pairByteWidth ∷ []) (popularity ∷ least ∷ spread ∷ pair ∷ [])
     ≡ recordBytes f b
 unfolding numbersBytes joined recordBytes
 recordBytes-numbers f b popularity least spread pair e₁ e₂ e₃ e₄ = rw (e₁, e₂, e₃, e₄)

@@ -72,13 +72,13 @@ pub fn put_record(
     let widths = [
         new.popularity_width,
         new.min_replicas_width,
-        new.min_racks_width,
+        new.min_domains_width,
         new.pair_byte_width,
     ];
     let numbers = [
         records::popularity(bytes, old, i),
         records::min_replicas(bytes, old, i) as u64,
-        records::min_racks(bytes, old, i) as u64,
+        records::min_domains(bytes, old, i) as u64,
         records::pair_byte(bytes, old, i) as u64,
     ];
     put_numbers(buffer, at, &widths, &numbers)

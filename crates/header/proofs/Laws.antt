@@ -24,7 +24,7 @@ formatOf-fits version =
       feeds-max = formatOf-feeds version;
       popularity-max = formatOf-popularity version;
       replicas-max = omega arith;
-      racks-max = omega arith;
+      domains-max = omega arith;
       pair-max = cond-all (λ n. n ≤ 1) (ltb version 2) 0 1 (λ e. omega arith) (omega arith);
     }
 

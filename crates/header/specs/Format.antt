@@ -11,7 +11,7 @@ asFormat f =
       feedsWidth = f .«feeds_width»;
       popularityWidth = f .«popularity_width»;
       minReplicasWidth = f .«min_replicas_width»;
-      minRacksWidth = f .«min_racks_width»;
+      minDomainsWidth = f .«min_domains_width»;
       pairByteWidth = f .«pair_byte_width»;
     }
 
@@ -20,5 +20,5 @@ pub record FormatFits (f : ModelFormat) : Type 0 where
   pub feeds-max : f .feedsWidth ≤ 1
   pub popularity-max : f .popularityWidth ≤ widestPopularity
   pub replicas-max : f .minReplicasWidth ≤ 1
-  pub racks-max : f .minRacksWidth ≤ 1
+  pub domains-max : f .minDomainsWidth ≤ 1
   pub pair-max : f .pairByteWidth ≤ 1

@@ -31,7 +31,7 @@ pub struct Format {
     pub feeds_width: usize,
     pub popularity_width: usize,
     pub min_replicas_width: usize,
-    pub min_racks_width: usize,
+    pub min_domains_width: usize,
     pub pair_byte_width: usize,
 }
 
@@ -47,7 +47,7 @@ pub fn record_at(format: Format, i: usize) -> usize
 {
     let record = format.popularity_width
         + format.min_replicas_width
-        + format.min_racks_width
+        + format.min_domains_width
         + format.pair_byte_width;
     COMMON_LENGTH + format.feeds_width + record * i
 }
@@ -121,7 +121,7 @@ pub fn format_of(version: usize) -> Format
         feeds_width: feeds_width(version),
         popularity_width: popularity_width(version),
         min_replicas_width: 1,
-        min_racks_width: 1,
+        min_domains_width: 1,
         pair_byte_width: pair_byte_width(version),
     }
 }

@@ -80,7 +80,7 @@ SaysRest reply = (reply ≡ stepped Step.none) ⊎ ((steps : ℕ) × (reply ≡ 
 -- The bounds at rest, against every lawful placement at any lawful counts.
 pub record Bounded (p : Plan) (words : List ℕ) : Type 0 where
   pub one-spread : (count : ℕ → ℕ) (other : List ℕ) → Feasible p count other
-      → ((i : ℕ) → i < blockCount p → blockOf p i .minRacks ≡ 1)
+      → ((i : ℕ) → i < blockCount p → blockOf p i .minDomains ≡ 1)
       → machines p * maxLoad p words ≤ machines p * maxLoad p other + (machines p - 1) * maxShare p words
   pub larger-spreads : (count : ℕ → ℕ) (other : List ℕ) → Feasible p count other
       → ((m : ℕ) → m < machines p → used p words m < p .capacity)

@@ -44,7 +44,7 @@ pub record Feasible (p : Plan) (count : ℕ → ℕ) (words : List ℕ) : Type 0
   pub counts : FeasibleCounts p count
   pub within : (i : ℕ) → i < blockCount p → wordOf words i < 2 ^ machines p
   pub counted : (i : ℕ) → i < blockCount p → countOf p words i ≡ count i
-  pub spread : (i : ℕ) → i < blockCount p → blockOf p i .minRacks ≤ domainsUsed p (wordOf words i)
+  pub spread : (i : ℕ) → i < blockCount p → blockOf p i .minDomains ≤ domainsUsed p (wordOf words i)
   pub fits : (m : ℕ) → m < machines p → used p words m ≤ p .capacity
   -- a pair shares no machine
   pub apart : (i : ℕ) → i < blockCount p → isPaired p i ≡ true
@@ -55,7 +55,7 @@ unfoldable pub allWithin : Plan → List ℕ → Bool
 allWithin p words = allb (blockCount p) (λ i. ltb (wordOf words i) (2 ^ machines p))
 
 unfoldable pub allSpread : Plan → List ℕ → Bool
-allSpread p words = allb (blockCount p) (λ i. leb (blockOf p i .minRacks) (domainsUsed p (wordOf words i)))
+allSpread p words = allb (blockCount p) (λ i. leb (blockOf p i .minDomains) (domainsUsed p (wordOf words i)))
 
 unfoldable pub allFit : Plan → List ℕ → Bool
 allFit p words = allb (machines p) (λ m. leb (used p words m) (p .capacity))

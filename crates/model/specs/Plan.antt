@@ -7,12 +7,12 @@ use lib.ListN.{length, getD}
 use Rattle.order.specs.Sum.{sum}
 use Rattle.order.specs.Table.{table}
 
--- One block. `popularity` is the document's P, `minReplicas` its least copies, `minRacks` its spread;
+-- One block. `popularity` is the document's P, `minReplicas` its least copies, `minDomains` its spread;
 -- `pairByte` is 1 for a block that is paired with the next one.
 pub record Block : Type 0 where
   pub popularity : ℕ
   pub minReplicas : ℕ
-  pub minRacks : ℕ
+  pub minDomains : ℕ
   pub pairByte : ℕ
 
 -- A plan. `version` is its file's, `racks` is R, `rackSize` the machines per rack S, `feeds` the mains feeds F, `capacity` C; `blocks`
@@ -50,7 +50,7 @@ abbrev pub blockCount : Plan → ℕ
 blockCount p = length (p .blocks)
 
 abbrev pub noBlock : Block
-noBlock = record { popularity = 0; minReplicas = 0; minRacks = 0; pairByte = 0 }
+noBlock = record { popularity = 0; minReplicas = 0; minDomains = 0; pairByte = 0 }
 
 abbrev pub blockOf : Plan → ℕ → Block
 blockOf p i = getD (p .blocks) i noBlock
@@ -100,7 +100,7 @@ pub record Format : Type 0 where
   pub feedsWidth : ℕ
   pub popularityWidth : ℕ
   pub minReplicasWidth : ℕ
-  pub minRacksWidth : ℕ
+  pub minDomainsWidth : ℕ
   pub pairByteWidth : ℕ
 
 -- The versions are 1 to 4. From version 4 on the header has the byte F. Records have a popularity of 3 bytes, from version 3 on of 4, least
@@ -114,7 +114,7 @@ formatOf version =
       feedsWidth = cond (ltb version 4) 0 1;
       popularityWidth = cond (ltb version 3) 3 4;
       minReplicasWidth = 1;
-      minRacksWidth = 1;
+      minDomainsWidth = 1;
       pairByteWidth = cond (ltb version 2) 0 1;
     }
 
@@ -159,11 +159,11 @@ headerLength f = commonLength + f .feedsWidth
 abbrev pub minReplicasAt : Format → ℕ
 minReplicasAt f = f .popularityWidth
 
-abbrev pub minRacksAt : Format → ℕ
-minRacksAt f = minReplicasAt f + f .minReplicasWidth
+abbrev pub minDomainsAt : Format → ℕ
+minDomainsAt f = minReplicasAt f + f .minReplicasWidth
 
 abbrev pub pairByteAt : Format → ℕ
-pairByteAt f = minRacksAt f + f .minRacksWidth
+pairByteAt f = minDomainsAt f + f .minDomainsWidth
 
 abbrev pub recordLength : Format → ℕ
 recordLength f = pairByteAt f + f .pairByteWidth
@@ -177,7 +177,7 @@ blockAt f bytes at =
     record {
       popularity = field bytes at (f .popularityWidth);
       minReplicas = field bytes (at + minReplicasAt f) (f .minReplicasWidth);
-      minRacks = field bytes (at + minRacksAt f) (f .minRacksWidth);
+      minDomains = field bytes (at + minDomainsAt f) (f .minDomainsWidth);
       pairByte = field bytes (at + pairByteAt f) (f .pairByteWidth);
     }
 

@@ -79,7 +79,7 @@ check9 all least spread = refuseIf (eqb spread 0 || ltb least spread || ltb all 
 -- spread. Said of one block and the next, and whether it is the last.
 unfoldable pub alike : Block → Block → Bool
 alike a b =
-    eqb (a .popularity) (b .popularity) && eqb (a .minReplicas) (b .minReplicas) && eqb (a .minRacks) (b .minRacks)
+    eqb (a .popularity) (b .popularity) && eqb (a .minReplicas) (b .minReplicas) && eqb (a .minDomains) (b .minDomains)
 
 unfoldable pub check17 : Block → Block → Bool → ℕ → ℕ
 check17 own next isLast later =
@@ -105,7 +105,7 @@ check12 lent count = refuseIf (ltb lent count) 12
 unfoldable pub blockRefusal : Plan → ℕ → ℕ
 blockRefusal p i =
     check8 (upper p i) (blockOf p i .minReplicas)
-    (check9 (domains p) (blockOf p i .minReplicas) (blockOf p i .minRacks)
+    (check9 (domains p) (blockOf p i .minReplicas) (blockOf p i .minDomains)
     0)
 
 unfoldable pub blocksRefusal : Plan → ℕ

@@ -27,7 +27,7 @@ unfoldable pub recordBytes : Format → Block → List ℕ
 recordBytes f b =
     bytesOf (f .popularityWidth) (b .popularity)
     ++ bytesOf (f .minReplicasWidth) (b .minReplicas)
-    ++ bytesOf (f .minRacksWidth) (b .minRacks)
+    ++ bytesOf (f .minDomainsWidth) (b .minDomains)
     ++ bytesOf (f .pairByteWidth) (b .pairByte)
 
 -- The plan's file in its version.

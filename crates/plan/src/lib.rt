@@ -32,7 +32,7 @@ fn scan_records(bytes: &[u8], h: Header) -> Records
     let mut i: usize = 0;
     while i < cluster.blocks {
         let least = records::min_replicas(bytes, format, i);
-        let spread = records::min_racks(bytes, format, i);
+        let spread = records::min_domains(bytes, format, i);
         let most = records::upper_count(h.version, cluster, records::link(bytes, format, i));
         let code = records::block_refusal(most, cluster.feeds, least, spread);
         if code != 0 {
@@ -121,7 +121,7 @@ pub fn decode(bytes: &[u8], h: Header, demands: &mut [u64])
         demands[i] = cluster::demand(
             records::popularity(bytes, format, i),
             records::min_replicas(bytes, format, i),
-            records::min_racks(bytes, format, i),
+            records::min_domains(bytes, format, i),
             records::upper_count(h.version, cluster, linked),
             linked,
         );

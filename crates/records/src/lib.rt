@@ -34,12 +34,12 @@ pub fn min_replicas(bytes: &[u8], format: Format, i: usize) -> usize
 }
 
 // The spread of block i.
-pub fn min_racks(bytes: &[u8], format: Format, i: usize) -> usize
+pub fn min_domains(bytes: &[u8], format: Format, i: usize) -> usize
     requires { ⌜ RecordIn (now bytes) (asFormat format) i ⌝ }
-    ensures { λ r. ⌜ (r ≡ blockIn (asFormat format) (now (bytes .entry)) i .minRacks) × (r < 256) ⌝ }
+    ensures { λ r. ⌜ (r ≡ blockIn (asFormat format) (now (bytes .entry)) i .minDomains) × (r < 256) ⌝ }
 {
     let at = header::record_at(format, i) + format.popularity_width + format.min_replicas_width;
-    header::byte_at(bytes, at, format.min_racks_width)
+    header::byte_at(bytes, at, format.min_domains_width)
 }
 
 // The pair byte of block i: 0 where the format has none.
@@ -50,7 +50,7 @@ pub fn pair_byte(bytes: &[u8], format: Format, i: usize) -> usize
     let at = header::record_at(format, i)
         + format.popularity_width
         + format.min_replicas_width
-        + format.min_racks_width;
+        + format.min_domains_width;
     header::byte_at(bytes, at, format.pair_byte_width)
 }
 
@@ -144,7 +144,7 @@ fn are_alike(bytes: &[u8], format: Format, i: usize, j: usize) -> bool
     if min_replicas(bytes, format, i) != min_replicas(bytes, format, j) {
         return false;
     }
-    min_racks(bytes, format, i) == min_racks(bytes, format, j)
+    min_domains(bytes, format, i) == min_domains(bytes, format, j)
 }
 
 // Check 17 of block i; 0 where it passes.

@@ -29,7 +29,7 @@ use Rattle.theorems.proofs.Items.{item, item-sum, item-cong, item-weigh
 abbrev Shiftable : Plan → List ℕ → ℕ → ℕ → Type 0
 Shiftable p words m n =
     (i : ℕ) → i < blockCount p → held words m i ≡ 1 → held words n i ≡ 0
-    → blockOf p i .minRacks ≤ domainsUsed p (shifted (wordOf words i) m n)
+    → blockOf p i .minDomains ≤ domainsUsed p (shifted (wordOf words i) m n)
 
 -- loads within c of one another bound the largest by that of any placement of the same total
 bounded : (p : Plan) (words other : List ℕ) (c : ℕ) → totalLoad p words ≡ totalLoad p other

@@ -82,7 +82,7 @@ written-valid p v =
             blocks-max = s .blocks-max;
             block = λ i l.
                 let b = s .block i l in
-                record { min-pos = b .min-pos; min-upper = le-trans (b .min-upper) (upper-grows p writtenVersion (written-limit (p .version)) i); racks-pos = b .racks-pos; racks-min = b .racks-min; racks-all = b .racks-all };
+                record { min-pos = b .min-pos; min-upper = le-trans (b .min-upper) (upper-grows p writtenVersion (written-limit (p .version)) i); domains-pos = b .domains-pos; domains-min = b .domains-min; domains-all = b .domains-all };
             pair = λ i l.
                 let q = s .pair i l in
                 record {
@@ -91,7 +91,7 @@ written-valid p v =
                   next-free = q .next-free;
                   popularity-same = q .popularity-same;
                   replicas-same = q .replicas-same;
-                  racks-same = q .racks-same;
+                  domains-same = q .domains-same;
                 };
           };
       in-budget = v .in-budget;
@@ -107,7 +107,7 @@ block-wider version b fits =
           field-narrow _ _ _ (fits .popularity-fits)
           (cond-all (λ n. n ≤ 4) (ltb version 3) 3 4 (λ e. omega arith) (omega arith));
       replicas-fits = fits .replicas-fits;
-      racks-fits = fits .racks-fits;
+      domains-fits = fits .domains-fits;
       pair-fits =
           field-narrow _ _ _ (fits .pair-fits)
           (cond-all (λ n. n ≤ 1) (ltb version 2) 0 1 (λ e. omega arith) (omega arith));

@@ -15,14 +15,14 @@ pub record Settled (p : Plan) (words : List ℕ) (slack : ℕ) : Type 0 where
   pub no-move : (m n i : ℕ) → m < machines p → n < machines p → i < blockCount p
       → held words m i ≡ 1 → held words n i ≡ 0
       → used p words n < p .capacity → 0 < shareOf p words i
-      → blockOf p i .minRacks ≤ domainsUsed p (shifted (wordOf words i) m n)
+      → blockOf p i .minDomains ≤ domainsUsed p (shifted (wordOf words i) m n)
       → (isPaired p i ≡ true → held words n (partner p i) ≡ 0)
       → load p words m ≤ load p words n + shareOf p words i + slack
   pub no-swap : (m n i j : ℕ) → m < machines p → n < machines p → i < blockCount p → j < blockCount p
       → held words m i ≡ 1 → held words n i ≡ 0 → held words n j ≡ 1 → held words m j ≡ 0
       → shareOf p words j < shareOf p words i
-      → blockOf p i .minRacks ≤ domainsUsed p (shifted (wordOf words i) m n)
-      → blockOf p j .minRacks ≤ domainsUsed p (shifted (wordOf words j) n m)
+      → blockOf p i .minDomains ≤ domainsUsed p (shifted (wordOf words i) m n)
+      → blockOf p j .minDomains ≤ domainsUsed p (shifted (wordOf words j) n m)
       → (isPaired p i ≡ true → (partner p i ≡ j → ⊥) → held words n (partner p i) ≡ 0)
       → (isPaired p j ≡ true → (partner p j ≡ i → ⊥) → held words m (partner p j) ≡ 0)
       → load p words m + shareOf p words j ≤ load p words n + shareOf p words i + slack
@@ -32,7 +32,7 @@ abbrev pub OneSpread : Type 0
 OneSpread =
     (p : Plan) (words other : List ℕ) (count count' : ℕ → ℕ) (slack : ℕ)
     → Valid p → Feasible p count words → EvenPairs p count → Settled p words slack → Feasible p count' other
-    → ((i : ℕ) → i < blockCount p → blockOf p i .minRacks ≡ 1)
+    → ((i : ℕ) → i < blockCount p → blockOf p i .minDomains ≡ 1)
     → machines p * maxLoad p words ≤ machines p * maxLoad p other + (machines p - 1) * (maxShare p words + slack)
 
 -- For any spreads, where no machine is full.

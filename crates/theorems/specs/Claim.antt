@@ -36,7 +36,7 @@ abbrev pub ClaimOneSpread : Type 0
 ClaimOneSpread =
     (p : Plan) (after : List ℕ) → RestAfter p after
     → (count : ℕ → ℕ) (other : List ℕ) → Feasible p count other
-    → ((i : ℕ) → i < blockCount p → blockOf p i .minRacks ≡ 1)
+    → ((i : ℕ) → i < blockCount p → blockOf p i .minDomains ≡ 1)
     → machines p * maxLoad p after ≤ machines p * maxLoad p other + (machines p - 1) * maxShare p after
 
 -- M × X is at most M × Y + 3 × (M - 1) × s with larger spreads and no machine full.

@@ -104,8 +104,8 @@ pub record RowExamples : Type 0 where
         capacity = 3;
         budget = 8;
         blocks =
-            record { popularity = 12; minReplicas = 2; minRacks = 2; pairByte = 0 }
-            ∷ record { popularity = 6; minReplicas = 1; minRacks = 1; pairByte = 0 }
-            ∷ record { popularity = 2; minReplicas = 1; minRacks = 1; pairByte = 0 }
+            record { popularity = 12; minReplicas = 2; minDomains = 2; pairByte = 0 }
+            ∷ record { popularity = 6; minReplicas = 1; minDomains = 1; pairByte = 0 }
+            ∷ record { popularity = 2; minReplicas = 1; minDomains = 1; pairByte = 0 }
             ∷ [];
       })

@@ -34,7 +34,7 @@ tied =
       feeds = 1;
       capacity = 12;
       budget = 12;
-      blocks = replicate 12 (record { popularity = 1; minReplicas = 1; minRacks = 1; pairByte = 0 });
+      blocks = replicate 12 (record { popularity = 1; minReplicas = 1; minDomains = 1; pairByte = 0 });
     }
 
 -- Six blocks on machine 0, six on machine 1; the words after one step; and those at rest.

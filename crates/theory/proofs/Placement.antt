@@ -210,9 +210,9 @@ unfolding allWithin
 allWithin-iff p words = allb-iff (blockCount p) _ _ (λ i. ltb-iff (wordOf words i) (2 ^ machines p))
 
 pub allSpread-iff : (p : Plan) (words : List ℕ)
-    → (allSpread p words ≡ true) ↔ ((i : ℕ) → i < blockCount p → blockOf p i .minRacks ≤ domainsUsed p (wordOf words i))
+    → (allSpread p words ≡ true) ↔ ((i : ℕ) → i < blockCount p → blockOf p i .minDomains ≤ domainsUsed p (wordOf words i))
 unfolding allSpread
-allSpread-iff p words = allb-iff (blockCount p) _ _ (λ i. leb-iff (blockOf p i .minRacks) (domainsUsed p (wordOf words i)))
+allSpread-iff p words = allb-iff (blockCount p) _ _ (λ i. leb-iff (blockOf p i .minDomains) (domainsUsed p (wordOf words i)))
 
 pub allFit-iff : (p : Plan) (words : List ℕ) → (allFit p words ≡ true) ↔ ((m : ℕ) → m < machines p → used p words m ≤ p .capacity)
 unfolding allFit

@@ -255,10 +255,10 @@ laidPlacement-feasible p shaped count counts =
     few : (i : ℕ) → i < blockCount p → count i ≤ machines p
     few i l = le-trans (counts .at-most i l) (upper-machines p i)
 
-    spread : (i : ℕ) → i < blockCount p → blockOf p i .minRacks ≤ min (count i) (domains p)
+    spread : (i : ℕ) → i < blockCount p → blockOf p i .minDomains ≤ min (count i) (domains p)
     spread i l =
         let valid = shaped .block i l in
-        le-min (le-trans (valid .racks-min) (counts .at-least i l)) (valid .racks-all)
+        le-min (le-trans (valid .domains-min) (counts .at-least i l)) (valid .domains-all)
 
     -- half of M for each of the two
     half : (f : ℕ) → suc f < blockCount p → pairsNext p f ≡ true → count f + count (suc f) ≤ machines p

@@ -205,8 +205,8 @@ module _ (p : Plan) (shaped : Shaped p) where
     pub partner-minReplicas : blockOf p (partner p i) .minReplicas ≡ blockOf p i .minReplicas
     partner-minReplicas = partner-same (λ b. blockOf p b .minReplicas) (first-pair .replicas-same (pair .marked))
 
-    pub partner-minRacks : blockOf p (partner p i) .minRacks ≡ blockOf p i .minRacks
-    partner-minRacks = partner-same (λ b. blockOf p b .minRacks) (first-pair .racks-same (pair .marked))
+    pub partner-minDomains : blockOf p (partner p i) .minDomains ≡ blockOf p i .minDomains
+    partner-minDomains = partner-same (λ b. blockOf p b .minDomains) (first-pair .domains-same (pair .marked))
 
 -- ── maxReplicas ──────────────────────────────────────────────────────────────────────────────────
 pub maxReplicas-early : (version : ℕ) → version < 3 → 8 ≡ maxReplicas version

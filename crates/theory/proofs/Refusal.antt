@@ -144,14 +144,14 @@ blockRefusal-zero p i e =
     let z9 = refuseIf-zero _ _ _ (z8 .1) in
     let range = in-range (b .minReplicas) (upper p i) (z8 .0) in
     let parts =
-    or3-false (eqb (b .minRacks) 0) (ltb (b .minReplicas) (b .minRacks)) (ltb (domains p) (b .minRacks)) (z9 .0)
+    or3-false (eqb (b .minDomains) 0) (ltb (b .minReplicas) (b .minDomains)) (ltb (domains p) (b .minDomains)) (z9 .0)
     in
     record {
       min-pos = range .0;
       min-upper = range .1;
-      racks-pos = pos-of-ne-zero (eqb-false _ _ (parts .0));
-      racks-min = ltb-false _ _ (parts .1);
-      racks-all = ltb-false _ _ (parts .2);
+      domains-pos = pos-of-ne-zero (eqb-false _ _ (parts .0));
+      domains-min = ltb-false _ _ (parts .1);
+      domains-all = ltb-false _ _ (parts .2);
     }
 
 pub blockRefusal-valid : (p : Plan) (i : ℕ) → ValidBlock p i → blockRefusal p i ≡ 0
@@ -161,9 +161,9 @@ blockRefusal-valid p i v =
     rw (
       pos-eqb (b .minReplicas) (v .min-pos),
       le-ltb (upper p i) (b .minReplicas) (v .min-upper),
-      pos-eqb (b .minRacks) (v .racks-pos),
-      le-ltb (b .minReplicas) (b .minRacks) (v .racks-min),
-      le-ltb (domains p) (b .minRacks) (v .racks-all),
+      pos-eqb (b .minDomains) (v .domains-pos),
+      le-ltb (b .minReplicas) (b .minDomains) (v .domains-min),
+      le-ltb (domains p) (b .minDomains) (v .domains-all),
     )
 
 blockRefusal-le : (p : Plan) (i : ℕ) → blockRefusal p i ≤ 9
@@ -171,7 +171,7 @@ unfolding blockRefusal check8 check9
 blockRefusal-le p i =
     let b = blockOf p i in
     refuseIf-all (λ n. n ≤ 9) (eqb (b .minReplicas) 0 || ltb (upper p i) (b .minReplicas)) 8 _ (lit≤ tt)
-    (refuseIf-all (λ n. n ≤ 9) (eqb (b .minRacks) 0 || ltb (b .minReplicas) (b .minRacks) || ltb (domains p) (b .minRacks)) 9 0
+    (refuseIf-all (λ n. n ≤ 9) (eqb (b .minDomains) 0 || ltb (b .minReplicas) (b .minDomains) || ltb (domains p) (b .minDomains)) 9 0
     (lit≤ tt) (lit≤ tt))
 
 le-zero : (n : ℕ) → n ≤ 0 → n ≡ 0
@@ -200,7 +200,7 @@ unless-false true c h = h refl
 unless-false false c h = refl
 
 alike-parts : (a b : Block) → alike a b ≡ true
-    → ((a .popularity ≡ b .popularity) × (a .minReplicas ≡ b .minReplicas)) × (a .minRacks ≡ b .minRacks)
+    → ((a .popularity ≡ b .popularity) × (a .minReplicas ≡ b .minReplicas)) × (a .minDomains ≡ b .minDomains)
 unfolding alike
 alike-parts a b = and-iff _ _ (and-iff _ _ (eqb-iff _ _) (eqb-iff _ _)) (eqb-iff _ _) .0
 
@@ -213,7 +213,7 @@ pairRefusal-zero p i l e =
     let last = refuseIf-zero (marksPair own && eqb (suc i) (blockCount p)) 16 _ (z .1) in
     let both = refuseIf-zero (marksPair own && marksPair next) 16 _ (last .1) in
     let unlike = refuseIf-zero (marksPair own && not (alike own next)) 16 _ (both .1) in
-    let same : marksPair own ≡ true → ((own .popularity ≡ next .popularity) × (own .minReplicas ≡ next .minReplicas)) × (own .minRacks ≡ next .minRacks) =
+    let same : marksPair own ≡ true → ((own .popularity ≡ next .popularity) × (own .minReplicas ≡ next .minReplicas)) × (own .minDomains ≡ next .minDomains) =
     λ m. alike-parts own next (not-false _ (unless-marked _ _ (unlike .0) m))
     in
     record {
@@ -222,7 +222,7 @@ pairRefusal-zero p i l e =
       next-free = λ m. unless-marked _ _ (both .0) m;
       popularity-same = λ m. same m .0 .0;
       replicas-same = λ m. same m .0 .1;
-      racks-same = λ m. same m .1;
+      domains-same = λ m. same m .1;
     }
 
 pub pairRefusal-valid : (p : Plan) (i : ℕ) → ValidPair p i → pairRefusal p i ≡ 0
@@ -231,7 +231,7 @@ pairRefusal-valid p i v =
     let own = blockOf p i in
     let next = blockOf p (suc i) in
     let unlike : marksPair own ≡ true → not (alike own next) ≡ false =
-    λ m. rw (eq-eqb _ _ (v .popularity-same m), eq-eqb _ _ (v .replicas-same m), eq-eqb _ _ (v .racks-same m))
+    λ m. rw (eq-eqb _ _ (v .popularity-same m), eq-eqb _ _ (v .replicas-same m), eq-eqb _ _ (v .domains-same m))
     in
     rw (
       le-ltb 1 (own .pairByte) (v .byte-max),

@@ -139,7 +139,7 @@ module _ (p : Plan) (shaped : Shaped p) (count : ℕ → ℕ) (words : List ℕ)
         within = λ b l. afterMove-each (λ c w. w < 2 ^ machines p) words m n i on
             (shifted-below (wordOf words i) (machines p) m n (feasible .within i il) ml nl on off) b (feasible .within b l);
         counted = λ b l. afterMove-count p words m n i on off ml nl b ∙ feasible .counted b l;
-        spread = λ b l. afterMove-each (λ c w. blockOf p c .minRacks ≤ domainsUsed p w) words m n i on (s .spread) b (feasible .spread b l);
+        spread = λ b l. afterMove-each (λ c w. blockOf p c .minDomains ≤ domainsUsed p w) words m n i on (s .spread) b (feasible .spread b l);
         fits = λ k l. fits k (afterMove-used p words m n i on off il k) (feasible .fits k l) (ℕ-discrete k n);
         apart = λ b l paired k kl. apart b l paired k (feasible .apart b l paired k kl) (ℕ-discrete k n);
       }
@@ -235,7 +235,7 @@ module _ (p : Plan) (shaped : Shaped p) (count : ℕ → ℕ) (words : List ℕ)
             (shifted-below (wordOf words j) (machines p) n m (feasible .within j jl) nl ml (s .j-on) (s .j-off))
             b (feasible .within b l);
         counted = λ b l. afterSwap-count p words m n i j (s .i-on) (s .i-off) (s .j-on) (s .j-off) ml nl b ∙ feasible .counted b l;
-        spread = λ b l. each (λ c w. blockOf p c .minRacks ≤ domainsUsed p w) (s .i-spread) (s .j-spread) b (feasible .spread b l);
+        spread = λ b l. each (λ c w. blockOf p c .minDomains ≤ domainsUsed p w) (s .i-spread) (s .j-spread) b (feasible .spread b l);
         fits = λ k l. rw (afterSwap-used p words m n i j (s .i-on) (s .i-off) (s .j-on) (s .j-off) il jl k) (feasible .fits k l);
         apart = λ b l paired k kl. apart b l paired k (feasible .apart b l paired k kl) (ℕ-discrete k n) (ℕ-discrete k m);
       }

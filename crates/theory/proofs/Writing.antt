@@ -15,7 +15,7 @@ use lib.Seq.{take-length, take-add, drop-drop, getD-drop, take-append-seam, drop
 use Rattle.order.specs.Table.{joined}
 use Rattle.order.proofs.Booleans.{pos-eqb}
 use Rattle.order.proofs.Tables.{joined-length}
-use Rattle.model.specs.Plan.{Block, Plan, machines, blockCount, field, headerLength, markIn, versionIn, racksIn, rackSizeIn, feedsIn, capacityIn, budgetIn, blockCountIn, Format, formatOf, minReplicasAt, minRacksAt, pairByteAt, recordLength, blockAt}
+use Rattle.model.specs.Plan.{Block, Plan, machines, blockCount, field, headerLength, markIn, versionIn, racksIn, rackSizeIn, feedsIn, capacityIn, budgetIn, blockCountIn, Format, formatOf, minReplicasAt, minDomainsAt, pairByteAt, recordLength, blockAt}
 use Rattle.model.specs.Refusal.{mark}
 use Rattle.model.specs.Writing.{bytesOf, headerBytes, recordBytes}
 use Rattle.theory.specs.Refusal.{Valid}
@@ -308,7 +308,7 @@ headerBytes-stands bytes each p l is =
 -- The record's fields behind the popularity.
 abbrev recordFields : Format → Block → List (ℕ × ℕ)
 recordFields f b =
-    (f .minReplicasWidth, b .minReplicas) ∷ (f .minRacksWidth, b .minRacks) ∷ (f .pairByteWidth, b .pairByte) ∷ []
+    (f .minReplicasWidth, b .minReplicas) ∷ (f .minDomainsWidth, b .minDomains) ∷ (f .pairByteWidth, b .pairByte) ∷ []
 
 pub recordBytes-length : (f : Format) (b : Block) → length (recordBytes f b) ≡ recordLength f
 unfolding recordBytes
@@ -324,7 +324,7 @@ module _ (f : Format) (bytes : List ℕ) (at : ℕ) where
       let width = f .popularityWidth in
       let parts =
       written-held bytes at (bytesOf width (b .popularity)) width (bytesOf-length width (b .popularity)) (recordFields f b)
-      (fits .replicas-fits, (fits .racks-fits, (fits .pair-fits, tt))) h
+      (fits .replicas-fits, (fits .domains-fits, (fits .pair-fits, tt))) h
       in
       let popularity = bytesOf-read bytes at width (b .popularity) (fits .popularity-fits) (parts .0) in
       let held = parts .1 in
@@ -343,7 +343,7 @@ module _ (f : Format) (bytes : List ℕ) (at : ℕ) where
       record {
         popularity-fits = field-bound bytes each at (f .popularityWidth);
         replicas-fits = field-bound bytes each (at + minReplicasAt f) (f .minReplicasWidth);
-        racks-fits = field-bound bytes each (at + minRacksAt f) (f .minRacksWidth);
+        domains-fits = field-bound bytes each (at + minDomainsAt f) (f .minDomainsWidth);
         pair-fits = field-bound bytes each (at + pairByteAt f) (f .pairByteWidth);
       }
 

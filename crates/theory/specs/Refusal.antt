@@ -12,9 +12,9 @@ use Rattle.model.specs.Refusal.{maxMachines, maxCapacity, maxBlocks, judge, acc
 pub record ValidBlock (p : Plan) (i : ℕ) : Type 0 where
   pub min-pos : 1 ≤ blockOf p i .minReplicas
   pub min-upper : blockOf p i .minReplicas ≤ upper p i
-  pub racks-pos : 1 ≤ blockOf p i .minRacks
-  pub racks-min : blockOf p i .minRacks ≤ blockOf p i .minReplicas
-  pub racks-all : blockOf p i .minRacks ≤ domains p
+  pub domains-pos : 1 ≤ blockOf p i .minDomains
+  pub domains-min : blockOf p i .minDomains ≤ blockOf p i .minReplicas
+  pub domains-all : blockOf p i .minDomains ≤ domains p
 
 -- What row 17 leaves of block i: its byte is 0 or 1; and if it is 1, the next block exists, has 0 and is like it.
 pub record ValidPair (p : Plan) (i : ℕ) : Type 0 where
@@ -23,7 +23,7 @@ pub record ValidPair (p : Plan) (i : ℕ) : Type 0 where
   pub next-free : pairsNext p i ≡ true → pairsNext p (suc i) ≡ false
   pub popularity-same : pairsNext p i ≡ true → blockOf p i .popularity ≡ blockOf p (suc i) .popularity
   pub replicas-same : pairsNext p i ≡ true → blockOf p i .minReplicas ≡ blockOf p (suc i) .minReplicas
-  pub racks-same : pairsNext p i ≡ true → blockOf p i .minRacks ≡ blockOf p (suc i) .minRacks
+  pub domains-same : pairsNext p i ≡ true → blockOf p i .minDomains ≡ blockOf p (suc i) .minDomains
 
 -- What rows 4 to 9, 17 and 22 leave of a plan.
 pub record Shaped (p : Plan) : Type 0 where

@@ -18,7 +18,7 @@ pub record LocalMove (p : Plan) (words : List ℕ) (m n i : ℕ) : Type 0 where
   pub off : held words n i ≡ 0
   pub room : used p words n < p .capacity
   pub lowers : Lowers p words m n (shareOf p words i) 0
-  pub spread : blockOf p i .minRacks ≤ domainsUsed p (shifted (wordOf words i) m n)
+  pub spread : blockOf p i .minDomains ≤ domainsUsed p (shifted (wordOf words i) m n)
   -- n does not hold its partner
   pub apart : isPaired p i ≡ true → held words n (partner p i) ≡ 0
 
@@ -29,8 +29,8 @@ pub record LocalSwap (p : Plan) (words : List ℕ) (m n i j : ℕ) : Type 0 wher
   pub j-on : held words n j ≡ 1
   pub j-off : held words m j ≡ 0
   pub lowers : Lowers p words m n (shareOf p words i) (shareOf p words j)
-  pub i-spread : blockOf p i .minRacks ≤ domainsUsed p (shifted (wordOf words i) m n)
-  pub j-spread : blockOf p j .minRacks ≤ domainsUsed p (shifted (wordOf words j) n m)
+  pub i-spread : blockOf p i .minDomains ≤ domainsUsed p (shifted (wordOf words i) m n)
+  pub j-spread : blockOf p j .minDomains ≤ domainsUsed p (shifted (wordOf words j) n m)
   -- n does not hold i's partner, nor m that of j, unless the two are each other's
   pub i-apart : isPaired p i ≡ true → (partner p i ≡ j → ⊥) → held words n (partner p i) ≡ 0
   pub j-apart : isPaired p j ≡ true → (partner p j ≡ i → ⊥) → held words m (partner p j) ≡ 0

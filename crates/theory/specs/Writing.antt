@@ -16,7 +16,7 @@ AreBytes bytes = (i : ℕ) → getD bytes i 0 < 256
 pub record BlockFits (f : Format) (b : Block) : Type 0 where
   pub popularity-fits : b .popularity < 256 ^ f .popularityWidth
   pub replicas-fits : b .minReplicas < 256 ^ f .minReplicasWidth
-  pub racks-fits : b .minRacks < 256 ^ f .minRacksWidth
+  pub domains-fits : b .minDomains < 256 ^ f .minDomainsWidth
   pub pair-fits : b .pairByte < 256 ^ f .pairByteWidth
 
 -- Of every layout, whatever its widths, and wherever a record stands: its length; reading gives the numbers that were written; writing

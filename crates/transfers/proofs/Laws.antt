@@ -295,7 +295,7 @@ module _ (p : Plan) (count : ℕ → ℕ) (c : Cluster) (words profiles : List �
   share-is : (i : ℕ) → i < c .blocks → shareIn (getD profiles i 0) ≡ shareOf p words i
   share-is = placement-share p count c words profiles (scene .placement)
 
-  spread-is : (i : ℕ) → i < c .blocks → spreadIn (getD profiles i 0) ≡ blockOf p i .minRacks
+  spread-is : (i : ℕ) → i < c .blocks → spreadIn (getD profiles i 0) ≡ blockOf p i .minDomains
   spread-is = placement-spread p count c words profiles (scene .placement)
 
   in-plan : (i : ℕ) → i < c .blocks → i < blockCount p

@@ -19,8 +19,8 @@ popularity-requires c κs = search needs
 min-replicas-requires : tie.Need-min-replicas-requires
 min-replicas-requires c κs = search needs
 
-min-racks-requires : tie.Need-min-racks-requires
-min-racks-requires c κs = search needs
+min-domains-requires : tie.Need-min-domains-requires
+min-domains-requires c κs = search needs
 
 pair-byte-requires : tie.Need-pair-byte-requires
 pair-byte-requires c κs = search needs
@@ -36,12 +36,12 @@ numbers-are : (c : tie.After-pair-byte)
     → let start = c .before .before .before .before .before .before in
     let new = asFormat (start .args .new) in
     let block = blockIn (asFormat (start .args .old)) (now (start .args .bytes)) (start .args .i) in
-    numbersBytes (new .popularityWidth ∷ new .minReplicasWidth ∷ new .minRacksWidth ∷ new .pairByteWidth ∷ [])
-    (c .before .before .before .popularity .result ∷ c .before .before .min-replicas .result ∷ c .before .min-racks .result ∷ c .pair-byte .result ∷ [])
+    numbersBytes (new .popularityWidth ∷ new .minReplicasWidth ∷ new .minDomainsWidth ∷ new .pairByteWidth ∷ [])
+    (c .before .before .before .popularity .result ∷ c .before .before .min-replicas .result ∷ c .before .min-domains .result ∷ c .pair-byte .result ∷ [])
     ≡ recordBytes new block
 numbers-are c =
     recordBytes-numbers _ _ _ _ _ _
-    (c .before .before .before .popularity .ensures .0) (c .before .before .min-replicas .ensures .0) (c .before .min-racks .ensures .0) (c .pair-byte .ensures)
+    (c .before .before .before .popularity .ensures .0) (c .before .before .min-replicas .ensures .0) (c .before .min-domains .ensures .0) (c .pair-byte .ensures)
 
 put-numbers-requires : tie.Need-put-numbers-requires
 put-numbers-requires c κs =
@@ -59,7 +59,7 @@ put-record-spec =
     (tie.spec
     popularity-requires
     min-replicas-requires
-    min-racks-requires
+    min-domains-requires
     pair-byte-requires
     slice-aggregate-put-numbers
     slice-aggregate-put-numbers-2

@@ -89,7 +89,7 @@ demand-is c =
       here (linked .before) .is,
       ← (read .popularity .ensures .0),
       ← (racks .before .min-replicas .ensures .0),
-      ← (racks .min-racks .ensures .0),
+      ← (racks .min-domains .ensures .0),
       ← (c .before .upper-count .ensures .0 _ _ (planIn-version _ _ header) (planIn-machines _ _ header) (link-is linked)),
       ← (link-is linked),
     ) (c .demand .ensures)
@@ -109,8 +109,8 @@ popularity-requires c κs = here (c .before) .inside
 min-replicas-requires : tie.Need-min-replicas-requires Inv-loop μ-loop
 min-replicas-requires c κs = here (c .before .before) .inside
 
-min-racks-requires : tie.Need-min-racks-requires Inv-loop μ-loop
-min-racks-requires c κs = here (c .before .before .before) .inside
+min-domains-requires : tie.Need-min-domains-requires Inv-loop μ-loop
+min-domains-requires c κs = here (c .before .before .before) .inside
 
 upper-count-requires : tie.Need-upper-count-requires Inv-loop μ-loop
 upper-count-requires c κs =
@@ -167,7 +167,7 @@ decode-spec =
     link-requires
     popularity-requires
     min-replicas-requires
-    min-racks-requires
+    min-domains-requires
     upper-count-requires
     demand-requires
     mul-demands

@@ -60,7 +60,7 @@ code-is c =
       ← (most-is (c .before)),
       ← (planIn-domains _ _ (passed-of _ _ (taken .before .before .before .before .before .before .pre))),
       ← (racks .before .min-replicas .ensures .0),
-      ← (racks .min-racks .ensures .0),
+      ← (racks .min-domains .ensures .0),
       c .block-refusal .ensures,
     )
 
@@ -73,8 +73,8 @@ loop-holds c = (omega arith, sym (sum-zero _), omega arith, below-none _)
 min-replicas-requires : tie.Need-min-replicas-requires Inv-loop μ-loop
 min-replicas-requires c κs = here c .inside
 
-min-racks-requires : tie.Need-min-racks-requires Inv-loop μ-loop
-min-racks-requires c κs = here (c .before) .inside
+min-domains-requires : tie.Need-min-domains-requires Inv-loop μ-loop
+min-domains-requires c κs = here (c .before) .inside
 
 link-requires : tie.Need-link-requires Inv-loop μ-loop
 link-requires c κs = here (c .before .before) .inside
@@ -142,7 +142,7 @@ scan-records-spec =
     format-in-requires
     loop-holds
     min-replicas-requires
-    min-racks-requires
+    min-domains-requires
     link-requires
     upper-count-requires
     block-refusal-requires

@@ -35,11 +35,11 @@ returns-2 c =
       ne-eqb _ _ (c .if2 .taken),
     )
 
-min-racks-requires : tie.Need-min-racks-requires
-min-racks-requires c κs = search needs
+min-domains-requires : tie.Need-min-domains-requires
+min-domains-requires c κs = search needs
 
-min-racks-requires-2 : tie.Need-min-racks-requires-2
-min-racks-requires-2 c κs = search needs
+min-domains-requires-2 : tie.Need-min-domains-requires-2
+min-domains-requires-2 c κs = search needs
 
 returns-3 : tie.Need-returns-3
 unfolding alike
@@ -53,8 +53,8 @@ returns-3 c =
       ← (both .before .before .min-replicas .ensures .0),
       ← (both .before .min-replicas2 .ensures .0),
       eq-eqb _ _ (both .if2 .left),
-      ← (c .before .min-racks .ensures .0),
-      ← (c .min-racks2 .ensures .0),
+      ← (c .before .min-domains .ensures .0),
+      ← (c .min-domains2 .ensures .0),
     )
 
 pub are-alike-spec : {M : Type 1} → statement M
@@ -67,6 +67,6 @@ are-alike-spec =
     min-replicas-requires
     min-replicas-requires-2
     returns-2
-    min-racks-requires
-    min-racks-requires-2
+    min-domains-requires
+    min-domains-requires-2
     returns-3)

@@ -30,7 +30,7 @@ returns c =
     let r = at .record-at .result in
     rw (
       ← (at .record-at .ensures .0),
-      ← (add-assoc r (format .«popularity_width» + format .«min_replicas_width») (format .«min_racks_width»)),
+      ← (add-assoc r (format .«popularity_width» + format .«min_replicas_width») (format .«min_domains_width»)),
       ← (add-assoc r (format .«popularity_width») (format .«min_replicas_width»)),
     ) (c .byte-at .ensures .0)
 
