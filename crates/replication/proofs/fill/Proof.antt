@@ -18,8 +18,9 @@ use Rattle.theory.proofs.Replication.{share-bound, share-whole, feasibleCounts-
 use Rattle.cluster.specs.declared.Cluster.{Cluster}
 use Rattle.cluster.specs.Blocks.{popularityIn, spreadAsked, linkIn, profileOf, DemandsFit, DemandsOf, ProfilesFit}
 use Rattle.cluster.proofs.Laws.{cluster-blocks, cluster-block, demands-popularity, demands-spread, demands-link, profileOf-share, profileOf-link, linked-mate}
-use Rattle.replication.specs.Choice.{FractionFits, NeedAsked, FigureOf}
-use Rattle.replication.proofs.Laws.{fraction-of, need-of}
+use Rattle.needs.specs.Needs.{FractionFits, NeedAsked}
+use Rattle.needs.proofs.Laws.{fraction-of, need-of}
+use Rattle.replication.specs.Choice.{FigureOf}
 use Rattle.replication.proofs.fill.Statement.{statement}
 use Rattle.replication.proofs.fill.Tie as tie
 

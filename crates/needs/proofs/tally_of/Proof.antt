@@ -1,4 +1,4 @@
--- `replication::tally_of` meets its contract. The loop's invariant: the sum of the needs passed; below the smallest share of one copy less
+-- `needs::tally_of` meets its contract. The loop's invariant: the sum of the needs passed; below the smallest share of one copy less
 -- they stay as they are, and there each block that has it needs one copy less.
 -- Assumes nothing.
 use mathlib.Core.Path.{_≡_, ap, ap₂, sym, subst, _∙_}
@@ -20,11 +20,11 @@ use Rattle.theory.specs.Refusal.{ValidBlock}
 use Rattle.theory.proofs.Replication.{share-one, need-same, need-less, need-less-above}
 use Rattle.cluster.specs.Blocks.{DemandInRange, DemandsOf}
 use Rattle.cluster.proofs.Laws.{cluster-blocks, cluster-block, demands-popularity, demands-least}
-use Rattle.replication.specs.declared.NextShare.{NextShare}
-use Rattle.replication.specs.Choice.{FractionFits, shareAt}
-use Rattle.replication.proofs.Laws.{fraction-of, need-of}
-use Rattle.replication.proofs.tally_of.Statement.{statement}
-use Rattle.replication.proofs.tally_of.Tie as tie
+use Rattle.needs.specs.declared.NextShare.{NextShare}
+use Rattle.needs.specs.Needs.{FractionFits, shareAt}
+use Rattle.needs.proofs.Laws.{fraction-of, need-of}
+use Rattle.needs.proofs.tally_of.Statement.{statement}
+use Rattle.needs.proofs.tally_of.Tie as tie
 
 -- block i's need is lawful, and the same for a figure from `wanted` on and below `next`
 abbrev Stays : Plan → ℕ → ℕ → ℕ → Type 0

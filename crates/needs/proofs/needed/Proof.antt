@@ -1,4 +1,4 @@
--- `replication::needed` meets its contract: a count below the estimate is not enough, and one more than it is.
+-- `needs::needed` meets its contract: a count below the estimate is not enough, and one more than it is.
 -- Assumes nothing.
 use borrow.Author.Needs.{needs}
 use mathlib.Core.Path.{_≡_, ap, ap₂, _∙_}
@@ -11,9 +11,9 @@ use Rattle.model.specs.Replication.{unit, share}
 use Rattle.theory.specs.Widths.{mostReplicas, popularityBound}
 use Rattle.theory.proofs.Replication.{unit-divides, share-within}
 use Rattle.cluster.specs.Blocks.{popularityIn, leastIn, mostIn}
-use Rattle.replication.specs.Choice.{parts, NeedAsked}
-use Rattle.replication.proofs.needed.Statement.{statement}
-use Rattle.replication.proofs.needed.Tie as tie
+use Rattle.needs.specs.Needs.{parts, NeedAsked}
+use Rattle.needs.proofs.needed.Statement.{statement}
+use Rattle.needs.proofs.needed.Tie as tie
 
 -- where k is not below the popularity times the scale, and one copy more is not enough, the figure in parts is hardly above k in parts
 short-gap : (P figure scale k Z : ℕ) → unit * Z < suc scale * suc figure → P * scale ≤ k * Z → figure * suc k < P * unit

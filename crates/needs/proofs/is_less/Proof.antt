@@ -1,4 +1,4 @@
--- `replication::is_less` meets its contract: two shares compare as the popularities do, each times the other's count.
+-- `needs::is_less` meets its contract: two shares compare as the popularities do, each times the other's count.
 -- Assumes nothing.
 use mathlib.Core.Path.{_≡_, sym, _∙_}
 use Prim.Native.Nat.{_*_, _≤_}
@@ -9,11 +9,11 @@ use borrow.Author.Tests.{lt-ltb, le-ltb}
 use lib.Dec.{ltb}
 use Rattle.theory.specs.Widths.{mostReplicas, popularityBound}
 use Rattle.theory.proofs.Replication.{share-compares}
-use Rattle.replication.specs.declared.Fraction.{Fraction}
-use Rattle.replication.specs.Choice.{FractionFits, shareAt}
-use Rattle.replication.proofs.Laws.{fraction-divides}
-use Rattle.replication.proofs.is_less.Statement.{statement}
-use Rattle.replication.proofs.is_less.Tie as tie
+use Rattle.needs.specs.declared.Fraction.{Fraction}
+use Rattle.needs.specs.Needs.{FractionFits, shareAt}
+use Rattle.needs.proofs.Laws.{fraction-divides}
+use Rattle.needs.proofs.is_less.Statement.{statement}
+use Rattle.needs.proofs.is_less.Tie as tie
 
 module _ (a b : Fraction) (fits-a : FractionFits a) (fits-b : FractionFits b) where
   product-max : a .popularity * b .count ≤ popularityBound * mostReplicas

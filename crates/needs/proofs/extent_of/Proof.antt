@@ -1,4 +1,4 @@
--- `replication::extent_of` meets its contract. The loop's invariant: the largest shares and the sums of the blocks passed.
+-- `needs::extent_of` meets its contract. The loop's invariant: the largest shares and the sums of the blocks passed.
 -- Assumes nothing.
 use mathlib.Core.Path.{_≡_, ap₂, sym, _∙_}
 use Prim.Native.Nat.{ℕ, _+_, _-_, _*_, _<_, _≤_, max}
@@ -17,10 +17,10 @@ use Rattle.theory.specs.Widths.{mostReplicas, popularityBound, shareBound}
 use Rattle.theory.proofs.Replication.{share-bound}
 use Rattle.cluster.specs.Blocks.{leastIn, mostIn, DemandInRange, DemandsOf}
 use Rattle.cluster.proofs.Laws.{cluster-blocks, demands-popularity, demands-least, demands-most}
-use Rattle.replication.specs.Choice.{FractionFits}
-use Rattle.replication.proofs.Laws.{fraction-of}
-use Rattle.replication.proofs.extent_of.Statement.{statement}
-use Rattle.replication.proofs.extent_of.Tie as tie
+use Rattle.needs.specs.Needs.{FractionFits}
+use Rattle.needs.proofs.Laws.{fraction-of}
+use Rattle.needs.proofs.extent_of.Statement.{statement}
+use Rattle.needs.proofs.extent_of.Tie as tie
 
 -- block i's share at its upper count and at its least copies
 abbrev mostShare : Plan → ℕ → ℕ

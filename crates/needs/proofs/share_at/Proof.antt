@@ -1,13 +1,13 @@
--- `replication::share_at` meets its contract: the count divides the unit, so the popularity times the quotient is the share.
+-- `needs::share_at` meets its contract: the count divides the unit, so the popularity times the quotient is the share.
 -- Assumes nothing.
 use borrow.Author.Needs.{needs}
 use native.Mathlib.Nat.{mul-le-mul, div-le-self, lt-of-le-of-lt}
 use native.Mathlib.Omega.{arith}
 use Rattle.theory.specs.Widths.{popularityBound}
 use Rattle.theory.proofs.Replication.{share-quotient}
-use Rattle.replication.proofs.Laws.{fraction-divides}
-use Rattle.replication.proofs.share_at.Statement.{statement}
-use Rattle.replication.proofs.share_at.Tie as tie
+use Rattle.needs.proofs.Laws.{fraction-divides}
+use Rattle.needs.proofs.share_at.Statement.{statement}
+use Rattle.needs.proofs.share_at.Tie as tie
 
 div-result : tie.Need-div-result
 div-result c = search needs

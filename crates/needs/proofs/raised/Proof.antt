@@ -1,4 +1,4 @@
--- `replication::raised` meets its contract: a share is above another figure exactly if that, times the count, is below the popularity in
+-- `needs::raised` meets its contract: a share is above another figure exactly if that, times the count, is below the popularity in
 -- units.
 -- Assumes nothing.
 use mathlib.Core.Path.{sym, _∙_}
@@ -6,10 +6,10 @@ use Prim.Native.Nat.{_<_}
 use native.Mathlib.Nat.{mul-le-mul, max-eq-left, max-eq-right, le-of-lt, lt-of-not-le}
 use native.Mathlib.Omega.{arith}
 use Rattle.theory.proofs.Replication.{share-within}
-use Rattle.replication.specs.Choice.{shareAt}
-use Rattle.replication.proofs.Laws.{fraction-divides}
-use Rattle.replication.proofs.raised.Statement.{statement}
-use Rattle.replication.proofs.raised.Tie as tie
+use Rattle.needs.specs.Needs.{shareAt}
+use Rattle.needs.proofs.Laws.{fraction-divides}
+use Rattle.needs.proofs.raised.Statement.{statement}
+use Rattle.needs.proofs.raised.Tie as tie
 
 mul-if1 : tie.Need-mul-if1
 mul-if1 c = let asked = c .pre in omega (arith, mul-le-mul (asked .0) (asked .1 .count-max))

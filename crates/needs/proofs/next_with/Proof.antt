@@ -1,11 +1,11 @@
--- `replication::next_with` meets its contract.
+-- `needs::next_with` meets its contract.
 -- Assumes nothing.
 use mathlib.Core.Path.{refl, sym, _∙_}
 use native.Mathlib.Omega.{arith}
 use borrow.Author.Tests.{ltb-true, ltb-false}
-use Rattle.replication.specs.Choice.{shareAt}
-use Rattle.replication.proofs.next_with.Statement.{statement}
-use Rattle.replication.proofs.next_with.Tie as tie
+use Rattle.needs.specs.Needs.{shareAt}
+use Rattle.needs.proofs.next_with.Statement.{statement}
+use Rattle.needs.proofs.next_with.Tie as tie
 
 is-less-requires : tie.Need-is-less-requires
 is-less-requires c κs = (c .before .pre .share-fits, c .before .pre .next-fits)

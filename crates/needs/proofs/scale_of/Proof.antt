@@ -1,13 +1,13 @@
--- `replication::scale_of` meets its contract: a quotient times its divisor is at most the number divided, and the next one's is above it.
+-- `needs::scale_of` meets its contract: a quotient times its divisor is at most the number divided, and the next one's is above it.
 -- Assumes nothing.
 use borrow.Author.Needs.{needs}
 use Prim.Native.Nat.{_+_, _*_}
 use native.Mathlib.Nat.{div-mul-le-self, lt-div-mul-add}
 use native.Mathlib.Omega.{arith}
 use Rattle.model.specs.Replication.{unit}
-use Rattle.replication.specs.Choice.{parts}
-use Rattle.replication.proofs.scale_of.Statement.{statement}
-use Rattle.replication.proofs.scale_of.Tie as tie
+use Rattle.needs.specs.Needs.{parts}
+use Rattle.needs.proofs.scale_of.Statement.{statement}
+use Rattle.needs.proofs.scale_of.Tie as tie
 
 add-result : tie.Need-add-result
 add-result c = search needs
