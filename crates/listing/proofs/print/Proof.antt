@@ -8,7 +8,7 @@ use native.Mathlib.Omega.{arith}
 use Rattle.model.specs.Listing.{refusedLine, wrote}
 use Rattle.theory.proofs.Listing.{refusedLine-length, printed-refused, printed-accepted, printCall-short, printCall-made}
 use Rattle.plan.specs.Reading.{verdictOf}
-use Rattle.listing.specs.Rows.{readingCode}
+use Rattle.listing.specs.FirstRun.{readingCode}
 use Rattle.listing.specs.Entries.{listingOutcome}
 use Rattle.text.proofs.Laws.{put-wrote}
 use Rattle.listing.proofs.print.Statement.{statement}

@@ -2,7 +2,7 @@
 -- Assumes nothing.
 use borrow.Author.Needs.{needs}
 use mathlib.Core.Path.{ap, sym}
-use Rattle.listing.specs.Rows.{readingCode}
+use Rattle.listing.specs.FirstRun.{readingCode}
 use Rattle.listing.proofs.refusal_code.Statement.{statement}
 use Rattle.listing.proofs.refusal_code.Tie as tie
 

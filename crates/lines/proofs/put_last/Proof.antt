@@ -1,10 +1,10 @@
--- `listing::put_last` meets its contract: one line, by how the run ended.
+-- `lines::put_last` meets its contract: one line, by how the run ended.
 -- Assumes nothing.
 use borrow.Author.Needs.{needs}
 use native.Mathlib.Omega.{arith}
-use Rattle.listing.proofs.Laws.{end-room, end-put}
-use Rattle.listing.proofs.put_last.Statement.{statement}
-use Rattle.listing.proofs.put_last.Tie as tie
+use Rattle.lines.proofs.Laws.{end-room, end-put}
+use Rattle.lines.proofs.put_last.Statement.{statement}
+use Rattle.lines.proofs.put_last.Tie as tie
 
 cast-t9 : tie.Need-cast-t9
 cast-t9 c = search needs

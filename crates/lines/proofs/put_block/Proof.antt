@@ -1,12 +1,12 @@
--- `listing::put_block` meets its contract, piece by piece.
+-- `lines::put_block` meets its contract, piece by piece.
 -- Assumes nothing.
 use borrow.Author.Needs.{needs}
 use native.Mathlib.Omega.{arith}
 use Rattle.text.specs.Pasted.{Room}
-use Rattle.listing.specs.Rows.{numberRow}
-use Rattle.listing.proofs.Laws.{block-room, three-room, machines-room, block-end, block-put}
-use Rattle.listing.proofs.put_block.Statement.{statement}
-use Rattle.listing.proofs.put_block.Tie as tie
+use Rattle.lines.specs.Rows.{numberRow}
+use Rattle.lines.proofs.Laws.{block-room, three-room, machines-room, block-end, block-put}
+use Rattle.lines.proofs.put_block.Statement.{statement}
+use Rattle.lines.proofs.put_block.Tie as tie
 
 -- the row's numbers are those read from the profile
 asked : (c : tie.After-share-of)

@@ -1,4 +1,4 @@
--- `listing::put_holders` meets its contract. The loop's invariant: the fields put and those of the bits that are left are the word's.
+-- `lines::put_holders` meets its contract. The loop's invariant: the fields put and those of the bits that are left are the word's.
 -- Assumes nothing.
 use mathlib.Core.Path.{_≡_, refl, _∙_}
 use mathlib.Core.List.{List, [], _++_}
@@ -11,9 +11,9 @@ use Rattle.model.specs.Listing.{numberField, fields, holders}
 use Rattle.theory.proofs.Placement.{bit-take}
 use Rattle.text.specs.Pasted.{Put}
 use Rattle.text.proofs.Laws.{put-none}
-use Rattle.listing.proofs.Laws.{holder-parts, holder-room, holder-put, holders-done}
-use Rattle.listing.proofs.put_holders.Statement.{statement}
-use Rattle.listing.proofs.put_holders.Tie as tie
+use Rattle.lines.proofs.Laws.{holder-parts, holder-room, holder-put, holders-done}
+use Rattle.lines.proofs.put_holders.Statement.{statement}
+use Rattle.lines.proofs.put_holders.Tie as tie
 
 abbrev Inv-loop : tie.InvT-loop
 Inv-loop text₀ at word next₀ rest₀ text next rest =

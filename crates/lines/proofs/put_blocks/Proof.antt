@@ -1,4 +1,4 @@
--- `listing::put_blocks` meets its contract. The loop's invariant: the lines of the blocks passed stand in the text.
+-- `lines::put_blocks` meets its contract. The loop's invariant: the lines of the blocks passed stand in the text.
 -- Assumes nothing.
 use mathlib.Core.Path.{_≡_, refl, _∙_}
 use Prim.Native.Nat.{_-_, _≤_}
@@ -8,9 +8,9 @@ use Rattle.order.specs.Table.{joined}
 use Rattle.order.proofs.Tables.{joined-zero}
 use Rattle.text.specs.Pasted.{Put}
 use Rattle.text.proofs.Laws.{put-none, joined-room, joined-put}
-use Rattle.listing.specs.Rows.{rowAt}
-use Rattle.listing.proofs.put_blocks.Statement.{statement}
-use Rattle.listing.proofs.put_blocks.Tie as tie
+use Rattle.lines.specs.Rows.{rowAt}
+use Rattle.lines.proofs.put_blocks.Statement.{statement}
+use Rattle.lines.proofs.put_blocks.Tie as tie
 
 abbrev Inv-loop : tie.InvT-loop
 Inv-loop text₀ at profiles words cluster next₀ i₀ text next i =
