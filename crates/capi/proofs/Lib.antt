@@ -1,4 +1,2 @@
-pub mod Laws
 pub mod Guards
-pub mod Codes
 pub mod PlayLaws

@@ -8,16 +8,17 @@ use Rattle.model.specs.Claims.{Played}
 use Rattle.script.specs.declared.LastReply.{LastReply}
 use Rattle.script.specs.Script.{replyIs}
 use Rattle.script.specs.Promise.{ScriptPlayed}
-use Rattle.interface.specs.Interface.{over, replyNumbers}
+use Rattle.interface.specs.Interface.{replyNumbers}
+use Rattle.codes.specs.Told.{Told, replyOutcome}
+use Rattle.codes.proofs.Laws.{effect-told}
 use Rattle.capi.specs.Script.{playOutcome, PlayedInto}
-use Rattle.capi.proofs.Laws.{answers}
 
-pub played-into : (plan other script words out : List ℕ) (reply : LastReply) (words' out' : List ℕ) → 7 ≤ length out
-    → ScriptPlayed plan other script words reply words' → out' ≡ over (replyNumbers (replyIs reply)) out
-    → PlayedInto plan other script words out 0 words' out'
-played-into plan other script words out reply words' out' enough promise wrote =
+pub played-into : (plan other script words out : List ℕ) (reply : LastReply) (code : ℕ) (words' out' : List ℕ) → 7 ≤ length out
+    → ScriptPlayed plan other script words reply words' → Told replyNumbers (replyOutcome (replyIs reply)) out code out'
+    → PlayedInto plan other script words out code words' out'
+played-into plan other script words out reply code words' out' enough promise told =
     record {
-      equal = answers 7 replyNumbers words out _ (replyIs reply) words' out' enough wrote (ap playOutcome (promise .equal));
+      equal = effect-told 7 replyNumbers words out _ (replyOutcome (replyIs reply)) words' code out' enough (ap playOutcome (promise .equal)) told;
       claimed =
           λ enough p reads feasible allowed.
           rw (ap (λ (q : Played). q .reply) (sym (promise .equal))) (promise .claimed p reads feasible allowed);

@@ -7,14 +7,15 @@ use Rattle.model.specs.Plan.{Plan, blockCount}
 use Rattle.model.specs.Refusal.{judge, accepted}
 use Rattle.model.specs.Replication.{chosen}
 use Rattle.model.specs.Placement.{Feasible}
-use Rattle.model.specs.Calls.{Outcome, answered}
+use Rattle.model.specs.Calls.{Outcome}
 use Rattle.model.specs.Claims.{Reply, Played, checked, play, Allowed, After}
 use Rattle.script.specs.Script.{callsOf}
 use Rattle.interface.specs.Interface.{effectOf, effect, replyNumbers}
+use Rattle.codes.specs.Told.{replyOutcome}
 
 -- A play always has an answer, its last reply.
 abbrev pub playOutcome : Played → Outcome Reply
-playOutcome p = record { answer = answered (p .reply); items = p .words }
+playOutcome p = replyOutcome (p .reply) (p .words)
 
 abbrev pub played : List ℕ → List ℕ → List ℕ → List ℕ → Played
 played plan other script words = play checked (callsOf plan other script) words

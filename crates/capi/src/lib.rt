@@ -1,15 +1,7 @@
 // The functions that the archive exports to C: thin wrappers over the public entries, on numbers and slices alone.
+// Each judges the length of `out`, makes its call and has the answer told (`codes`).
 // Each returns 0 or the number of a refusal, and writes only where it returns 0.
-use conversion::ConvertAnswer;
-use listing::ListingAnswer;
 use model::Entry;
-use plan::Reading;
-use service::CheckAnswer;
-use service::CountsAnswer;
-use service::FirstAnswer;
-use service::ReportAnswer;
-use service::RunAnswer;
-use service::StepAnswer;
 ghost use mathlib.Core.List.{[]};
 ghost use mathlib.Core.Path.{_≡_};
 ghost use Rattle.model.specs.Refusal.{verdictCode, judge};
@@ -29,10 +21,7 @@ pub extern "C" fn bpl_plan(plan: &[u8]) -> u32
     ensures { λ r. ⌜ r ≡ verdictCode (judge (now (plan .entry))) ⌝ }
 {
     let reading = plan::read(plan);
-    match reading {
-        Reading::Refused(number) => interface::code_of(number),
-        Reading::Accepted(_h) => 0,
-    }
+    codes::tell_plan(reading)
 }
 
 // Chooses the counts.
@@ -42,10 +31,7 @@ pub extern "C" fn bpl_counts(plan: &[u8], counts: &mut [u8]) -> u32
         ≡ effect 0 noNumbers (now (counts .entry)) [] (countsCall (now (plan .entry)) (now (counts .entry))) ⌝ }
 {
     let answer = service::counts(plan, counts);
-    match answer {
-        CountsAnswer::Refused(number) => interface::code_of(number),
-        CountsAnswer::Counted(_top) => 0,
-    }
+    codes::tell_counts(answer)
 }
 
 // Makes the first placement.
@@ -55,10 +41,7 @@ pub extern "C" fn bpl_first(plan: &[u8], words: &mut [u64]) -> u32
         ≡ effect 0 noNumbers (now (words .entry)) [] (firstCall (now (plan .entry)) (now (words .entry))) ⌝ }
 {
     let answer = service::first(plan, words);
-    match answer {
-        FirstAnswer::Refused(number) => interface::code_of(number),
-        FirstAnswer::Placed(_blocks) => 0,
-    }
+    codes::tell_first(answer)
 }
 
 // Checks a placement. It never writes.
@@ -68,10 +51,7 @@ pub extern "C" fn bpl_check(plan: &[u8], words: &[u64]) -> u32
         ≡ effect 0 noNumbers (now (words .entry)) [] (checkCall (now (plan .entry)) (now (words .entry))) ⌝ }
 {
     let answer = service::check(plan, words);
-    match answer {
-        CheckAnswer::Refused(number) => interface::code_of(number),
-        CheckAnswer::Feasible(_blocks) => 0,
-    }
+    codes::tell_check(answer)
 }
 
 // Reports on a placement: hottest load, coolest load, sum of loads, largest share.
@@ -84,14 +64,7 @@ pub extern "C" fn bpl_report(plan: &[u8], words: &[u64], out: &mut [u64]) -> u32
         return SHORT_OUT;
     }
     let answer = service::report(plan, words);
-    match answer {
-        ReportAnswer::Refused(number) => interface::code_of(number),
-        ReportAnswer::Reported(report, top) => {
-            let numbers = [report.max_load, report.min_load, report.total_load, top];
-            interface::write_numbers(out, &numbers);
-            0
-        }
-    }
+    codes::tell_report(answer, out)
 }
 
 // Takes the next step.
@@ -104,14 +77,7 @@ pub extern "C" fn bpl_step(plan: &[u8], words: &mut [u64], out: &mut [u64]) -> u
         return SHORT_OUT;
     }
     let answer = service::step(plan, words);
-    match answer {
-        StepAnswer::Refused(number) => interface::code_of(number),
-        StepAnswer::Next(step) => {
-            let numbers = interface::step_numbers(step);
-            interface::write_numbers(out, &numbers);
-            0
-        }
-    }
+    codes::tell_step(answer, out)
 }
 
 // Takes next steps until rest or until the step budget is used: 1 for rest and 0 for spent, and the number of steps.
@@ -124,19 +90,7 @@ pub extern "C" fn bpl_run(plan: &[u8], words: &mut [u64], budget: u32, out: &mut
         return SHORT_OUT;
     }
     let answer = service::run(plan, words, budget);
-    match answer {
-        RunAnswer::Refused(number) => interface::code_of(number),
-        RunAnswer::Rested(steps) => {
-            let numbers = [1, steps as u64];
-            interface::write_numbers(out, &numbers);
-            0
-        }
-        RunAnswer::Spent(steps) => {
-            let numbers = [0, steps as u64];
-            interface::write_numbers(out, &numbers);
-            0
-        }
-    }
+    codes::tell_run(answer, out)
 }
 
 // Lists a plan in a lent text: a run from the first placement with the step budget. The number of bytes is answered.
@@ -149,14 +103,7 @@ pub extern "C" fn bpl_listing(plan: &[u8], budget: u32, text: &mut [u8], out: &m
         return SHORT_OUT;
     }
     let answer = listing::listing(plan, budget, text);
-    match answer {
-        ListingAnswer::Refused(number) => interface::code_of(number),
-        ListingAnswer::Listed(size) => {
-            let numbers = [size as u64];
-            interface::write_numbers(out, &numbers);
-            0
-        }
-    }
+    codes::tell_listing(answer, out)
 }
 
 // Converts a version 1 or 2 plan to version 3 in a lent buffer. The result's length is answered.
@@ -169,14 +116,7 @@ pub extern "C" fn bpl_convert(plan: &[u8], buffer: &mut [u8], out: &mut [u64]) -
         return SHORT_OUT;
     }
     let answer = conversion::convert(plan, buffer);
-    match answer {
-        ConvertAnswer::Refused(number) => interface::code_of(number),
-        ConvertAnswer::Converted(length) => {
-            let numbers = [length as u64];
-            interface::write_numbers(out, &numbers);
-            0
-        }
-    }
+    codes::tell_convert(answer, out)
 }
 
 // Plays a script of checks, steps and runs over one plan and its words, and answers the last reply.
@@ -195,9 +135,7 @@ pub extern "C" fn bpl_play(
         return SHORT_OUT;
     }
     let reply = script::play(plan, other, words, script);
-    let numbers = interface::reply_numbers(reply);
-    interface::write_numbers(out, &numbers);
-    0
+    codes::tell_reply(reply, out)
 }
 
 // Notes a read of a block at a tick in a lent list of entries, and answers the new count.
@@ -217,7 +155,7 @@ pub extern "C" fn bpl_read(
         return SHORT_OUT;
     }
     let answer = reads::read(plan, block, tick, list, count);
-    interface::tell_reads(answer, out)
+    codes::tell_reads(answer, out)
 }
 
 // Counts a block's popularity in a lent list of entries. The list is never written.
@@ -236,5 +174,5 @@ pub extern "C" fn bpl_popularity(
         return SHORT_OUT;
     }
     let answer = reads::popularity(plan, block, list, count);
-    interface::tell_reads(answer, out)
+    codes::tell_reads(answer, out)
 }

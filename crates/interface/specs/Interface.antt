@@ -6,8 +6,6 @@ use lib.Dec.{ltb}
 use lib.ListN.{length, drop}
 use Rattle.model.specs.Steps.{Step, none, move, swap}
 use Rattle.model.specs.Claims.{Reply, refusedBy, checked, stepped, ran}
-use Rattle.window.specs.declared.ReadsAnswer.{ReadsAnswer}
-use Rattle.window.specs.declared.ReadsAnswer.the-variants.{Refused, Number}
 use Rattle.model.specs.Calls.{Answer, turnedBack, answered, OutcomeOver, Report, RunReply}
 
 -- The code returned, and every item at exit of the buffer that the call works on and of `out`.
@@ -72,12 +70,3 @@ replyNumbers (refusedBy code) = 0 ∷ code ∷ 0 ∷ 0 ∷ 0 ∷ 0 ∷ 0 ∷ []
 replyNumbers checked = 1 ∷ 0 ∷ 0 ∷ 0 ∷ 0 ∷ 0 ∷ 0 ∷ []
 replyNumbers (stepped step) = 2 ∷ stepNumbers step
 replyNumbers (ran r) = 3 ∷ cond (r .rested) 1 0 ∷ r .steps ∷ 0 ∷ 0 ∷ 0 ∷ 0 ∷ []
-
--- An answer of the calls on reads, as the code returned and as `out` at exit.
-unfoldable pub toldCode : ReadsAnswer → ℕ
-toldCode (Refused code) = code
-toldCode (Number n) = 0
-
-unfoldable pub toldOut : ReadsAnswer → List ℕ → List ℕ
-toldOut (Refused code) out = out
-toldOut (Number n) out = over (oneNumber n) out

@@ -1,13 +1,12 @@
-// What the exported functions share: answers as codes and as the numbers of `out`.
+// What the telling of an answer is made of: a refusal's number as the code, numbers written to `out`, steps and replies as numbers.
 use script::LastReply;
 use search::Step;
-use window::ReadsAnswer;
 ghost use mathlib.Core.Path.{_≡_};
 ghost use Prim.Native.Nat.{_≤_};
 ghost use lib.ListN.{length};
 ghost use Rattle.search.specs.Scene.{stepOf};
 ghost use Rattle.script.specs.Script.{replyIs};
-ghost use Rattle.interface.specs.Interface.{over, stepNumbers, replyNumbers, toldCode, toldOut};
+ghost use Rattle.interface.specs.Interface.{over, stepNumbers, replyNumbers};
 
 // A refusal's number as the code returned.
 pub fn code_of(number: u8) -> u32
@@ -54,20 +53,5 @@ pub fn reply_numbers(reply: LastReply) -> [u64; 7]
         }
         LastReply::Rested(steps) => [3, 1, steps as u64, 0, 0, 0, 0],
         LastReply::Spent(steps) => [3, 0, steps as u64, 0, 0, 0, 0],
-    }
-}
-
-// An answer of the calls on reads: its code, and its number into the first word of out.
-pub fn tell_reads(answer: ReadsAnswer, out: &mut [u64]) -> u32
-    requires { ⌜ 1 ≤ length (now out) ⌝ }
-    ensures { λ r. ⌜ (r ≡ toldCode answer) × (now (out .exit) ≡ toldOut answer (now (out .entry))) ⌝ }
-{
-    match answer {
-        ReadsAnswer::Refused(number) => code_of(number),
-        ReadsAnswer::Number(n) => {
-            let numbers = [n];
-            write_numbers(out, &numbers);
-            0
-        }
     }
 }

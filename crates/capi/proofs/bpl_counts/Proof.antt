@@ -2,55 +2,24 @@
 -- Assumes nothing.
 use mathlib.Core.List.{[]}
 use borrow.Author.Needs.{needs}
-use mathlib.Core.Path.{refl}
 use native.Mathlib.Omega.{arith}
 use Rattle.service.specs.Entries.{countsOutcome}
-use Rattle.interface.specs.Interface.{over, noNumbers}
-use Rattle.capi.proofs.Laws.{turned-back, answers}
+use Rattle.interface.specs.Interface.{noNumbers}
+use Rattle.codes.proofs.Laws.{effect-told}
 use Rattle.capi.proofs.bpl_counts.Statement.{statement}
 use Rattle.capi.proofs.bpl_counts.Tie as tie
 
 counts-requires : tie.Need-counts-requires
 counts-requires c κs = search needs
 
-enum-known-answer : tie.Need-enum-known-answer
-enum-known-answer c = search needs
-
-code-of-requires : tie.Need-code-of-requires
-code-of-requires c κs = search needs
-
-enum-known-answer-2 : tie.Need-enum-known-answer-2
-enum-known-answer-2 c = search needs
+tell-counts-requires : tie.Need-tell-counts-requires
+tell-counts-requires c κs = search needs
 
 same-length : tie.Need-same-length
 same-length c = search needs
 
 returns : tie.Need-returns
-unfolding countsOutcome
-returns c =
-    let told = c .before .before in
-    turned-back 0 noNumbers _ [] _ _ _ _ (omega arith) (c .code-of .ensures)
-    (rw (told .answer .given .1) at (told .before .before .before .before .counts .ensures))
-
-same-length-2 : tie.Need-same-length-2
-same-length-2 c = search needs
-
-returns-2 : tie.Need-returns-2
-unfolding countsOutcome over
-returns-2 c =
-    let told = c .before in
-    answers 0 noNumbers _ [] _ _ _ _ (omega arith) refl
-    (rw (told .answer2 .given .1) at (told .before .before .before .before .counts .ensures))
+returns c = effect-told 0 noNumbers _ [] _ (countsOutcome _) _ _ [] (omega arith) (c .before .before .before .counts .ensures) (c .tell-counts .ensures)
 
 pub bpl-counts-spec : {M : Type 1} → statement M
-bpl-counts-spec =
-    tie.close
-    (tie.spec
-    counts-requires
-    enum-known-answer
-    code-of-requires
-    enum-known-answer-2
-    same-length
-    returns
-    same-length-2
-    returns-2)
+bpl-counts-spec = tie.close (tie.spec counts-requires tell-counts-requires same-length returns)

@@ -22,8 +22,8 @@ use Rattle.theory.proofs.Calls.{placementRefusal-le}
 use Rattle.theory.proofs.Conversion.{convertRefusal-le}
 use Rattle.theory.proofs.ReadLog.{check19-le, readRefusal-le}
 use Rattle.interface.specs.Interface.{shortOut, replied}
-use Rattle.capi.specs.Codes.{lastRow, RefusalCode, Tells, EffectTells, Codes, ReadCodes}
-use Rattle.capi.proofs.Laws.{out-short, out-enough}
+use Rattle.codes.specs.Codes.{lastRow, RefusalCode, Tells, EffectTells, Codes, ReadCodes}
+use Rattle.codes.proofs.Laws.{out-short, out-enough}
 
 -- row 12 alone
 buffer-le : (lent count : ℕ) → check12 lent count 0 ≤ lastRow

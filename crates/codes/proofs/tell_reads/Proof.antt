@@ -1,11 +1,12 @@
--- `interface::tell_reads` meets its contract, arm by arm.
+-- `codes::tell_reads` meets its contract, arm by arm.
 -- Assumes nothing.
-use mathlib.Core.Path.{ap, sym, _∙_}
+use mathlib.Core.Path.{refl}
 use borrow.Author.Needs.{needs}
-use denote.Ref.{now}
-use Rattle.interface.specs.Interface.{toldCode, toldOut}
-use Rattle.interface.proofs.tell_reads.Statement.{statement}
-use Rattle.interface.proofs.tell_reads.Tie as tie
+use Rattle.reads.specs.Answers.{readsOutcome}
+use Rattle.interface.specs.Interface.{oneNumber}
+use Rattle.codes.proofs.Laws.{told-refused, told-answered}
+use Rattle.codes.proofs.tell_reads.Statement.{statement}
+use Rattle.codes.proofs.tell_reads.Tie as tie
 
 enum-known-answer : tie.Need-enum-known-answer
 enum-known-answer c = search needs
@@ -23,24 +24,17 @@ write-numbers-requires : tie.Need-write-numbers-requires
 write-numbers-requires c κs = search needs
 
 returns : tie.Need-returns
-unfolding toldCode toldOut
-returns c =
-    let told = c .before .before in
-    let start = told .before .before .before in
-    let answer = told .answer .given .1 in
-    (c .code-of .ensures ∙ ap toldCode (sym answer), ap (λ a. toldOut a (now (start .args .out))) (sym answer))
+unfolding readsOutcome
+returns c = told-refused oneNumber readsOutcome (c .before .before .answer .given .1) (λ items. refl) (c .code-of .ensures)
 
 same-length : tie.Need-same-length
 same-length c = search needs
 
 returns-2 : tie.Need-returns-2
-unfolding toldCode toldOut
+unfolding readsOutcome
 returns-2 c =
     let wrote = c .before .before in
-    let told = wrote .before .before .before .before in
-    let start = told .before .before .before in
-    let answer = told .answer2 .given .1 in
-    (ap toldCode (sym answer), wrote .write-numbers .ensures ∙ ap (λ a. toldOut a (now (start .args .out))) (sym answer))
+    told-answered oneNumber readsOutcome (wrote .before .before .before .before .answer2 .given .1) (λ items. refl) (wrote .write-numbers .ensures)
 
 pub tell-reads-spec : {M : Type 1} → statement M
 tell-reads-spec =
