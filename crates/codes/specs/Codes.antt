@@ -15,7 +15,7 @@ use Rattle.interface.specs.Interface.{shortOut, effect, noNumbers, reportNumber
 
 -- The last row of the table of refusals.
 abbrev pub lastRow : ℕ
-lastRow = 22
+lastRow = 23
 
 -- The code of a refusal.
 pub record RefusalCode (code : ℕ) : Type 0 where

@@ -5,6 +5,7 @@ pub mod Replication
 pub mod Placement
 pub mod Steps
 pub mod Calls
+pub mod Checks
 pub mod Claims
 pub mod Listing
 pub mod ReadLog

@@ -30,6 +30,10 @@ pub record Plan : Type 0 where
 abbrev pub machines : Plan → ℕ
 machines p = p .racks * p .rackSize
 
+-- The places in all: M × C.
+abbrev pub places : Plan → ℕ
+places p = machines p * p .capacity
+
 -- Machine m is in rack m div S.
 abbrev pub rackOf : Plan → ℕ → ℕ
 rackOf p m = m / p .rackSize

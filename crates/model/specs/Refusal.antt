@@ -1,4 +1,4 @@
--- Document 01, "Why a plan or placement is turned back": rows 1 to 12 of its table, and rows 17 and 22 of document 02.
+-- Document 01, "Why a plan or placement is turned back": rows 1 to 12 of its table, and rows 17, 22 and 23 of document 02.
 -- A refusal code is the row's number, and 0 where nothing is wrong. Each check is handed the code that the later rows give.
 use mathlib.Core.Bool.{Bool, true, false, not, _&&_, _||_}
 use mathlib.Core.List.{List}
@@ -6,7 +6,7 @@ use Prim.Native.Nat.{ℕ, zero, suc, _*_, _%_}
 use lib.Dec.{leb, ltb, eqb}
 use lib.ListN.{length}
 use Rattle.order.specs.Search.{firstUp}
-use Rattle.model.specs.Plan.{Block, Plan, marksPair, machines, domains, blockCount, blockOf, upper, minTotal, commonLength, latestVersion, markIn, versionIn, racksIn, rackSizeIn, feedsIn, capacityIn, blockCountIn, Format, formatIn, headerLength, recordAt, planIn}
+use Rattle.model.specs.Plan.{Block, Plan, marksPair, places, domains, blockCount, blockOf, upper, minTotal, commonLength, latestVersion, markIn, versionIn, racksIn, rackSizeIn, feedsIn, capacityIn, blockCountIn, Format, formatIn, headerLength, recordAt, planIn}
 
 -- The row's code where its condition holds, else the later rows' code.
 abbrev pub refuseIf : Bool → ℕ → ℕ → ℕ
@@ -89,13 +89,17 @@ check17 own next isLast later =
     (refuseIf (marksPair own && not (alike own next)) 17
     later)))
 
+-- 23: a version 4 budget above M × C. Earlier versions are still read, with the smaller of the two.
+unfoldable pub check23 : ℕ → ℕ → ℕ → ℕ → ℕ
+check23 version room budget = refuseIf (leb 4 version && ltb room budget) 23
+
 -- 10: sum of least copies above the budget.
 unfoldable pub check10 : ℕ → ℕ → ℕ → ℕ
 check10 budget total = refuseIf (ltb budget total) 10
 
 -- 11: sum of least copies above M × C.
 unfoldable pub check11 : ℕ → ℕ → ℕ → ℕ
-check11 places total = refuseIf (ltb places total) 11
+check11 room total = refuseIf (ltb room total) 11
 
 -- 12: lent buffer has fewer than B items.
 unfoldable pub check12 : ℕ → ℕ → ℕ → ℕ
@@ -118,14 +122,15 @@ pairRefusal p i = check17 (blockOf p i) (blockOf p (suc i)) (eqb (suc i) (blockC
 unfoldable pub pairsRefusal : Plan → ℕ
 pairsRefusal p = firstUp isRefusal 0 (pairRefusal p) (blockCount p)
 
--- The checks go in numerical order, but for 17 and 22: 1 to 4, 22 and 5 to 7 on the header, 8, 9, 17, 10 and 11 on the plan.
+-- 1 to 4, 22 and 5 to 7 are made on the header; then 8 and 9, 17, 23, 10 and 11 on the plan. The whole order: `Checks.antt`.
 unfoldable pub planRefusal : Plan → ℕ
 planRefusal p =
     orElse (blocksRefusal p)
     (orElse (pairsRefusal p)
+    (check23 (p .version) (places p) (p .budget)
     (check10 (p .budget) (minTotal p)
-    (check11 (machines p * p .capacity) (minTotal p)
-    0)))
+    (check11 (places p) (minTotal p)
+    0))))
 
 unfoldable pub refusal : List ℕ → ℕ
 refusal bytes =

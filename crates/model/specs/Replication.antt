@@ -1,14 +1,14 @@
--- Document 01, "Counts and shares", and document 02, U5. A block's count is its replication factor.
+-- Document 01, "Counts and shares", and document 02, U5 and U7. A block's count is its replication factor.
 use mathlib.Core.Bool.{Bool, _&&_}
 use Prim.Native.Nat.{ℕ, suc, _+_, _*_, _-_, _/_, _<_, _≤_, min}
 use lib.Dec.{leb}
 use Rattle.order.specs.Sum.{sum}
 use Rattle.order.specs.Search.{least, allb, largest}
-use Rattle.model.specs.Plan.{Plan, machines, blockCount, blockOf, upper}
+use Rattle.model.specs.Plan.{Plan, places, blockCount, blockOf, upper}
 
--- The most replicas in all: the smaller of budget and M × C.
+-- The most replicas in all: the smaller of budget and M × C. From version 4 on that is the budget, since row 23 refuses a larger one.
 unfoldable pub limit : Plan → ℕ
-limit p = min (p .budget) (machines p * p .capacity)
+limit p = min (p .budget) (places p)
 
 -- Lawful counts: each from least copies to the upper count, and the sum within the limit.
 pub record FeasibleCounts (p : Plan) (count : ℕ → ℕ) : Type 0 where

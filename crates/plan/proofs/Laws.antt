@@ -7,8 +7,8 @@ use native.Mathlib.Omega.{arith}
 use lib.ListN.{length, getD}
 use Rattle.order.specs.Table.{filled}
 use Rattle.order.proofs.Tables.{length-table, getD-filled}
-use Rattle.model.specs.Plan.{Plan, machines, domains, blockCount, blockOf, minTotal, commonLength, versionIn, Format, formatIn, recordAt, blockIn, planIn}
-use Rattle.model.specs.Refusal.{check10, check11, blocksRefusal, pairsRefusal, planRefusal, refusal, judge, accepted}
+use Rattle.model.specs.Plan.{Plan, machines, domains, blockCount, blockOf, minTotal, commonLength, versionIn, Format, formatOf, formatIn, recordAt, blockIn, planIn}
+use Rattle.model.specs.Refusal.{check23, check10, check11, blocksRefusal, pairsRefusal, planRefusal, refusal, judge, accepted}
 use Rattle.theory.specs.Refusal.{Valid}
 use Rattle.theory.proofs.Plan.{planIn-blockCount, planIn-blockOf}
 use Rattle.theory.proofs.Refusal.{orElse-some, accepted-laws}
@@ -67,6 +67,11 @@ pub record HeaderOf (bytes : List ℕ) (h : Header) : Type 0 where
 pub passed-of : (bytes : List ℕ) (h : Header) → PassedAs bytes h → HeaderOf bytes h
 passed-of bytes h passed =
     record { held = planOf-in bytes h (passed .fields); in-range = passed .in-range; length-is = passed .length-is }
+
+-- and its version gives the format of the bytes
+pub passed-format : (bytes : List ℕ) (h : Header) → PassedAs bytes h → formatOf (h .version) ≡ formatIn bytes
+unfolding headerCounted
+passed-format bytes h passed = ap (λ (g : Header). formatOf (g .version)) (passed .fields)
 
 pub accepted-of : (bytes : List ℕ) (h : Header) → judge bytes ≡ accepted (planOf bytes h) → HeaderOf bytes h
 accepted-of bytes h e =
@@ -127,6 +132,12 @@ module _ (bytes : List ℕ) (h : Header) (of : HeaderOf bytes h) where
 
 -- ── refusal ────────────────────────────────────────────────────────────────────────────────────────────────────────────
 
+-- Checks 23, 10 and 11 on a header's numbers and a sum of least copies.
+abbrev pub sumsRefusal : Header → ℕ → ℕ
+sumsRefusal h total =
+    let places = machinesIn (h .cluster) * h .cluster .capacity in
+    check23 (h .version) places (h .budget) (check10 (h .budget) total (check11 places total 0))
+
 module _ (bytes : List ℕ) (h : Header) (passed : PassedAs bytes h) where
   -- past checks 1 to 7, a block's refusal decides
   pub refusal-fault : (code : ℕ) → blocksRefusal (planIn bytes) ≡ code → 1 ≤ code → refusal bytes ≡ code
@@ -138,13 +149,12 @@ module _ (bytes : List ℕ) (h : Header) (passed : PassedAs bytes h) where
   unfolding planRefusal
   refusal-pairs code none is some = passed .left ∙ (rw (none, is) (orElse-some code _ (λ z. omega arith)))
 
-  -- past check 17, checks 10 and 11 on the numbers that were read decide
+  -- past check 17, checks 23, 10 and 11 on the numbers that were read decide
   pub refusal-sums : (total : ℕ) → blocksRefusal (planIn bytes) ≡ 0 → pairsRefusal (planIn bytes) ≡ 0 → total ≡ minTotal (planIn bytes)
-      → refusal bytes ≡ check10 (h .budget) total (check11 (machinesIn (h .cluster) * h .cluster .capacity) total 0)
+      → refusal bytes ≡ sumsRefusal h total
   unfolding planRefusal planOf
   refusal-sums total none unpaired is =
       passed .left ∙ go (planIn bytes) (planOf-in bytes h (passed .fields)) none unpaired is
     where
-      go : (p : Plan) → planOf bytes h ≡ p → blocksRefusal p ≡ 0 → pairsRefusal p ≡ 0 → total ≡ minTotal p
-          → planRefusal p ≡ check10 (h .budget) total (check11 (machinesIn (h .cluster) * h .cluster .capacity) total 0)
+      go : (p : Plan) → planOf bytes h ≡ p → blocksRefusal p ≡ 0 → pairsRefusal p ≡ 0 → total ≡ minTotal p → planRefusal p ≡ sumsRefusal h total
       go p e n u t = rw (n, u, ← t, ← e)

@@ -1,10 +1,12 @@
-// A plan file, judged: checks 1 to 11, 17 and 22 on any bytes, and the records of an accepted plan.
+// A plan file, judged: checks 1 to 11, 17, 22 and 23 on any bytes, and the records of an accepted plan.
 use header::Header;
 use header::HeaderAnswer;
 ghost use mathlib.Core.Path.{_≡_};
+ghost use mathlib.Core.Bool.{_&&_};
 ghost use Prim.Native.Nat.{_<_};
+ghost use lib.Dec.{leb, ltb};
 ghost use Rattle.model.specs.Plan.{planIn};
-ghost use Rattle.model.specs.Refusal.{pairsRefusal, judge};
+ghost use Rattle.model.specs.Refusal.{check23, check10, check11, pairsRefusal, judge};
 ghost use Rattle.header.specs.Header.{PassedAs};
 ghost use Rattle.cluster.specs.Blocks.{mate};
 ghost use Rattle.plan.specs.Reading.{planOf, verdictOf, RecordsRead, TotalAs, DecodeAsked, Decoded, MateAsked};
@@ -49,7 +51,7 @@ fn scan_pairs(bytes: &[u8], h: Header) -> u8
     requires { ⌜ PassedAs (now bytes) h ⌝ }
     ensures { λ r. ⌜ r ≡ pairsRefusal (planIn (now (bytes .entry))) ⌝ }
 {
-    let format = header::format_in(bytes);
+    let format = header::format_of(h.version);
     if format.pair_byte_width == 0 {
         return 0;
     }
@@ -65,27 +67,52 @@ fn scan_pairs(bytes: &[u8], h: Header) -> u8
     0
 }
 
-// Checks 17, 10 and 11, for records that passed 8 and 9 and their sum of least copies.
+// Whether copies of the budget could never exist: one of version 4 above the places.
+fn is_unusable(version: usize, places: usize, budget: usize) -> bool
+    ensures { λ r. ⌜ r ≡ (leb 4 version && ltb places budget) ⌝ }
+{
+    if version < 4 {
+        return false;
+    }
+    places < budget
+}
+
+// Checks 23, 10 and 11; 0 where all pass.
+fn total_refusal(version: usize, places: usize, budget: usize, total: usize) -> u8
+    ensures { λ r. ⌜ r ≡ check23 version places budget (check10 budget total (check11 places total 0)) ⌝ }
+{
+    let unusable = is_unusable(version, places, budget);
+    if unusable {
+        return 23;
+    }
+    if budget < total {
+        return 10;
+    }
+    if places < total {
+        return 11;
+    }
+    0
+}
+
+// Checks 17, 23, 10 and 11, for records that passed 8 and 9 and their sum of least copies.
 fn judge_total(bytes: &[u8], h: Header, total: usize) -> Reading
     requires { ⌜ PassedAs (now bytes) h × TotalAs (now bytes) total ⌝ }
     ensures { λ r. ⌜ verdictOf (now (bytes .entry)) r ≡ judge (now (bytes .entry)) ⌝ }
 {
     let cluster = h.cluster;
-    let budget = h.budget;
     let paired = scan_pairs(bytes, h);
     if paired != 0 {
         return Reading::Refused(paired);
     }
-    if budget < total {
-        return Reading::Refused(10);
-    }
-    if cluster.machines() * cluster.capacity < total {
-        return Reading::Refused(11);
+    let places = cluster.machines() * cluster.capacity;
+    let summed = total_refusal(h.version, places, h.budget, total);
+    if summed != 0 {
+        return Reading::Refused(summed);
     }
     Reading::Accepted(h)
 }
 
-// Checks 8 to 11 and 17, for a header that passed its own checks.
+// Checks 8 to 11, 17 and 23, for a header that passed its own checks.
 fn judge_records(bytes: &[u8], h: Header) -> Reading
     requires { ⌜ PassedAs (now bytes) h ⌝ }
     ensures { λ r. ⌜ verdictOf (now (bytes .entry)) r ≡ judge (now (bytes .entry)) ⌝ }

@@ -23,8 +23,8 @@ unfolding converted
 converted-length p = planBytes-length (withVersion writtenVersion p)
 
 -- ── convertRefusal ───────────────────────────────────────────────────────────────────────────────
--- it has a number up to 22, as the plan's own
-pub convertRefusal-le : (bytes : List ℕ) → convertRefusal bytes ≤ 22
+-- it has a number up to 23, as the plan's own
+pub convertRefusal-le : (bytes : List ℕ) → convertRefusal bytes ≤ 23
 unfolding convertRefusal check1 check2 check3
 convertRefusal-le bytes =
     let version = versionIn bytes in
@@ -32,8 +32,8 @@ convertRefusal-le bytes =
     (row (not (eqb (markIn bytes) mark)) 2 _ (lit≤ tt)
     (row (eqb version 0 || ltb convertedVersion version) 3 _ (lit≤ tt) (refusal-le bytes)))
   where
-    row : (t : Bool) (code later : ℕ) → code ≤ 22 → later ≤ 22 → refuseIf t code later ≤ 22
-    row = refuseIf-all (λ n. n ≤ 22)
+    row : (t : Bool) (code later : ℕ) → code ≤ 23 → later ≤ 23 → refuseIf t code later ≤ 23
+    row = refuseIf-all (λ n. n ≤ 23)
 
 -- ── convertVerdict ───────────────────────────────────────────────────────────────────────────────
 pub convertVerdict-refused : (bytes : List ℕ) (code : ℕ) → convertRefusal bytes ≡ code → 1 ≤ code → convertVerdict bytes ≡ refused code

@@ -3,6 +3,7 @@
 use mathlib.Core.Path.{_≡_, refl, ap, _∙_}
 use mathlib.Core.Bool.{Bool, true, false, not, _&&_, _||_}
 use mathlib.Core.List.{List}
+use mathlib.Core.Logic.{⊎-elim}
 use Prim.Native.Nat.{ℕ, suc, _*_, _%_, _<_, _≤_}
 use native.Mathlib.Nat.{mod-self, mod-eq-of-lt, div-lt-iff-lt-mul}
 use native.Mathlib.Decide.{decLt}
@@ -17,7 +18,7 @@ use Rattle.model.specs.Refusal.{refuseIf, mark, maxMachines, maxCapacity, maxBl
 use Rattle.theory.specs.Domains.{Domains, EarlyFeeds}
 use Rattle.theory.proofs.Plan.{domain-lt, domain-rack, member-sum}
 use Rattle.theory.proofs.PlacementFirst.{position-domain}
-use Rattle.theory.proofs.Refusal.{check4-zero, check22-passed, planRefusal-le}
+use Rattle.theory.proofs.Refusal.{check4-zero, check22-passed, planRefusal-cases}
 
 pub domains : Domains
 domains p shaped =
@@ -59,7 +60,7 @@ row22-early bytes early e =
     let z5 = other-row (eqb (capacityIn bytes) 0 || ltb maxCapacity (capacityIn bytes)) 4 _ (omega arith) passed in
     let z6 = other-row (leb (headerLength (formatIn bytes)) (length bytes) && ltb maxBlocks b) 5 _ (omega arith) (z5 .1) in
     let z7 = other-row (not (eqb (length bytes) (recordAt (formatIn bytes) b))) 6 _ (omega arith) (z6 .1) in
-    omega (arith, z7 .1, planRefusal-le (planIn bytes))
+    ⊎-elim (λ l. omega (arith, z7 .1, l)) (λ e. omega (arith, z7 .1, e)) (planRefusal-cases (planIn bytes))
 
 pub early-feeds : (bytes : List ℕ) → EarlyFeeds bytes
 early-feeds bytes = record { are-racks = feedsIn-early bytes; row22-later = later }

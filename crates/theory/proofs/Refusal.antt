@@ -1,6 +1,6 @@
 -- Laws of the checks: what a check that passes says of its numbers, how large a code gets, and what an accepted plan satisfies.
 -- The rows are gone through once, for a code that is not one of rows 1 to 9, 17 and 22: then the plan has the shape that these rows
--- test, and rows 10 and 11 give its code.
+-- test, and rows 23, 10 and 11 give its code.
 -- Assumes nothing.
 use mathlib.Core.Path.{_≡_, refl, ap, sym, _∙_}
 use mathlib.Core.Bool.{Bool, true, false, not, _&&_, _||_}
@@ -15,9 +15,9 @@ use lib.Dec.{leb, ltb, eqb, lit≤}
 use lib.ListN.{length}
 use Rattle.order.proofs.Booleans.{no-contradiction, and-iff, eqb-iff, or-false, or3-false, pos-eqb, in-range}
 use Rattle.order.proofs.Searches.{first-none, none-below, first-all}
-use Rattle.model.specs.Plan.{Block, Plan, machines, domains, blockCount, blockOf, marksPair, pairsNext, upper, minTotal, commonLength, latestVersion, Format, formatIn, headerLength, recordAt, planIn, markIn, versionIn, racksIn, rackSizeIn, feedsIn, capacityIn, blockCountIn}
-use Rattle.model.specs.Refusal.{refuseIf, orElse, isRefusal, mark, maxMachines, maxCapacity, maxBlocks, check1, check2, check3, check4, check22, check5, check6, check7, check8, check9, alike, check17, check10, check11, check12, blockRefusal, blocksRefusal, pairRefusal, pairsRefusal, planRefusal, refusal, refused, accepted, verdict, judge}
-use Rattle.theory.specs.Refusal.{ValidBlock, ValidPair, Shaped, Valid, PastRow17, AcceptedLaws}
+use Rattle.model.specs.Plan.{Block, Plan, places, domains, blockCount, blockOf, marksPair, pairsNext, upper, minTotal, commonLength, latestVersion, Format, formatIn, headerLength, recordAt, planIn, markIn, versionIn, racksIn, rackSizeIn, feedsIn, capacityIn, blockCountIn}
+use Rattle.model.specs.Refusal.{refuseIf, orElse, isRefusal, mark, maxMachines, maxCapacity, maxBlocks, check1, check2, check3, check4, check22, check5, check6, check7, check8, check9, alike, check17, check23, check10, check11, check12, blockRefusal, blocksRefusal, pairRefusal, pairsRefusal, planRefusal, refusal, refused, accepted, verdict, judge}
+use Rattle.theory.specs.Refusal.{ValidBlock, ValidPair, Shaped, Valid, PastRow17, PastRow23, AcceptedLaws}
 use Rattle.theory.proofs.Plan.{planIn-blockCount}
 
 -- ── refuseIf ─────────────────────────────────────────────────────────────────────────────────────
@@ -34,6 +34,11 @@ refuseIf-within limit n code later e = let z = refuseIf-zero _ _ _ e in (ltb-fal
 pub refuseIf-all : (P : ℕ → Type 0) (t : Bool) (code later : ℕ) → P code → P later → P (refuseIf t code later)
 refuseIf-all P true code later here else = here
 refuseIf-all P false code later here else = else
+
+-- a condition of which the second half is false
+and-no : (t : Bool) → (t && false) ≡ false
+and-no true = refl
+and-no false = refl
 
 -- ── orElse ───────────────────────────────────────────────────────────────────────────────────────
 pub orElse-some : (code later : ℕ) → (code ≡ 0 → ⊥) → orElse code later ≡ code
@@ -89,10 +94,6 @@ check6-long f size count later l = rw (le-leb (headerLength f) size l)
 pub check6-within : (f : Format) (size count later : ℕ) → count ≤ maxBlocks → check6 f size count later ≡ later
 unfolding check6
 check6-within f size count later l = rw (le-ltb maxBlocks count l, and-no (leb (headerLength f) size))
-  where
-    and-no : (t : Bool) → (t && false) ≡ false
-    and-no true = refl
-    and-no false = refl
 
 pub check6-above : (f : Format) (size count later : ℕ) → (size < headerLength f → count ≤ maxBlocks) → maxBlocks < count
     → check6 f size count later ≡ 6
@@ -114,14 +115,33 @@ pub check7-zero : (f : Format) (size count later : ℕ) → check7 f size count 
 unfolding check7
 check7-zero f size count later e = let z = refuseIf-zero _ _ _ e in (eqb-true _ _ (not-false _ (z .0)), z .1)
 
--- ── check10 to check12 ───────────────────────────────────────────────────────────────────────────
+-- ── check23 and check10 to check12 ───────────────────────────────────────────────────────────────
+pub check23-above : (version room budget later : ℕ) → 4 ≤ version → room < budget → check23 version room budget later ≡ 23
+unfolding check23
+check23-above version room budget later late l = rw (le-leb 4 version late, lt-ltb room budget l)
+
+-- a version before 4 passes with any budget, and any version with one that can be used
+pub check23-early : (version room budget later : ℕ) → version < 4 → check23 version room budget later ≡ later
+unfolding check23
+check23-early version room budget later l = rw (lt-leb 4 version l)
+
+pub check23-usable : (version room budget later : ℕ) → budget ≤ room → check23 version room budget later ≡ later
+unfolding check23
+check23-usable version room budget later l = rw (le-ltb room budget l, and-no (leb 4 version))
+
+pub check23-passed : (version room budget later : ℕ) → (4 ≤ version → budget ≤ room) → check23 version room budget later ≡ later
+check23-passed version room budget later usable = elim (decLt version 4) [
+  | yes early ↦ check23-early version room budget later early
+  | no late ↦ check23-usable version room budget later (usable (omega arith))
+]
+
 check10-zero : (budget total later : ℕ) → check10 budget total later ≡ 0 → (total ≤ budget) × (later ≡ 0)
 unfolding check10
 check10-zero budget total later e = refuseIf-within budget total _ later e
 
-check11-zero : (places total later : ℕ) → check11 places total later ≡ 0 → (total ≤ places) × (later ≡ 0)
+check11-zero : (room total later : ℕ) → check11 room total later ≡ 0 → (total ≤ room) × (later ≡ 0)
 unfolding check11
-check11-zero places total later e = refuseIf-within places total _ later e
+check11-zero room total later e = refuseIf-within room total _ later e
 
 pub check12-zero : (lent count later : ℕ) → check12 lent count later ≡ 0 → (count ≤ lent) × (later ≡ 0)
 unfolding check12
@@ -268,33 +288,48 @@ pairsRefusal-cases p =
     first-all (λ n. (n ≡ 17) ⊎ (n ≡ 0)) isRefusal 0 (pairRefusal p) (blockCount p) (inr refl) (λ i l. pairRefusal-cases p i)
 
 -- ── planRefusal ──────────────────────────────────────────────────────────────────────────────────
--- The code that rows 10 and 11 give.
+-- The code that rows 10 and 11 give, and with row 23 before them.
 abbrev pub totalRefusal : Plan → ℕ
-totalRefusal p = check10 (p .budget) (minTotal p) (check11 (machines p * p .capacity) (minTotal p) 0)
+totalRefusal p = check10 (p .budget) (minTotal p) (check11 (places p) (minTotal p) 0)
 
-pub planRefusal-valid : (p : Plan) → Valid p → planRefusal p ≡ 0
-unfolding planRefusal blocksRefusal pairsRefusal check10 check11
-planRefusal-valid p valid =
-    let shaped = valid .shaped in
+abbrev pub budgetRefusal : Plan → ℕ
+budgetRefusal p = check23 (p .version) (places p) (p .budget) (totalRefusal p)
+
+pub planRefusal-shaped : (p : Plan) → Shaped p → planRefusal p ≡ budgetRefusal p
+unfolding planRefusal blocksRefusal pairsRefusal
+planRefusal-shaped p shaped =
     let n = blockCount p in
     rw (
       first-none isRefusal 0 refl (blockRefusal p) n (λ i l. ap isRefusal (blockRefusal-valid p i (shaped .block i l))),
       first-none isRefusal 0 refl (pairRefusal p) n (λ i l. ap isRefusal (pairRefusal-valid p i (shaped .pair i l))),
-      le-ltb (p .budget) (minTotal p) (valid .in-budget),
-      le-ltb (machines p * p .capacity) (minTotal p) (valid .in-places),
     )
 
-pub planRefusal-le : (p : Plan) → planRefusal p ≤ 17
-unfolding planRefusal check10 check11
-planRefusal-le p =
-    orElse-all (λ n. n ≤ 17) (blocksRefusal p) _ (le-trans (blocksRefusal-le p) (lit≤ tt))
-    (orElse-all (λ n. n ≤ 17) (pairsRefusal p) _ (⊎-elim (λ e. omega (arith, e)) (λ e. omega (arith, e)) (pairsRefusal-cases p))
-    (refuseIf-all (λ n. n ≤ 17) (ltb (p .budget) (minTotal p)) 10 _ (lit≤ tt)
-    (refuseIf-all (λ n. n ≤ 17) (ltb (machines p * p .capacity) (minTotal p)) 11 0 (lit≤ tt) (lit≤ tt))))
+pub planRefusal-valid : (p : Plan) → Valid p → planRefusal p ≡ 0
+unfolding check10 check11
+planRefusal-valid p valid =
+    planRefusal-shaped p (valid .shaped)
+    ∙ check23-passed (p .version) (places p) (p .budget) (totalRefusal p) (valid .budget-usable)
+    ∙ (rw (le-ltb (p .budget) (minTotal p) (valid .in-budget), le-ltb (places p) (minTotal p) (valid .in-places)))
+
+-- the numbers of its rows
+pub planRefusal-cases : (p : Plan) → (planRefusal p ≤ 17) ⊎ (planRefusal p ≡ 23)
+unfolding planRefusal check23 check10 check11
+planRefusal-cases p =
+    orElse-all Row (blocksRefusal p) _ (inl (le-trans (blocksRefusal-le p) (lit≤ tt)))
+    (orElse-all Row (pairsRefusal p) _ (inl (⊎-elim (λ e. omega (arith, e)) (λ e. omega (arith, e)) (pairsRefusal-cases p)))
+    (refuseIf-all Row (leb 4 (p .version) && ltb (places p) (p .budget)) 23 _ (inr refl)
+    (refuseIf-all Row (ltb (p .budget) (minTotal p)) 10 _ (inl (lit≤ tt))
+    (refuseIf-all Row (ltb (places p) (minTotal p)) 11 0 (inl (lit≤ tt)) (inl (lit≤ tt))))))
+  where
+    Row : ℕ → Type 0
+    Row n = (n ≤ 17) ⊎ (n ≡ 23)
+
+planRefusal-le : (p : Plan) → planRefusal p ≤ 23
+planRefusal-le p = ⊎-elim (λ l. le-trans l (lit≤ tt)) (λ e. omega (arith, e)) (planRefusal-cases p)
 
 -- ── refusal ──────────────────────────────────────────────────────────────────────────────────────
--- a plan's refusal has a number up to 22
-pub refusal-le : (bytes : List ℕ) → refusal bytes ≤ 22
+-- a plan's refusal has a number up to 23
+pub refusal-le : (bytes : List ℕ) → refusal bytes ≤ 23
 unfolding refusal check1 check2 check3 check4 check22 check5 check6 check7
 refusal-le bytes =
     let r = racksIn bytes in
@@ -310,24 +345,30 @@ refusal-le bytes =
     (row (eqb c 0 || ltb maxCapacity c) 5 _ (lit≤ tt)
     (row (leb (headerLength (formatIn bytes)) (length bytes) && ltb maxBlocks b) 6 _ (lit≤ tt)
     (row (not (eqb (length bytes) (recordAt (formatIn bytes) b))) 7 _ (lit≤ tt)
-    (le-trans (planRefusal-le (planIn bytes)) (lit≤ tt)))))))))
+    (planRefusal-le (planIn bytes)))))))))
   where
-    row : (t : Bool) (code later : ℕ) → code ≤ 22 → later ≤ 22 → refuseIf t code later ≤ 22
-    row = refuseIf-all (λ n. n ≤ 22)
+    row : (t : Bool) (code later : ℕ) → code ≤ 23 → later ≤ 23 → refuseIf t code later ≤ 23
+    row = refuseIf-all (λ n. n ≤ 23)
 
--- A row that comes before 10: 1 to 9, 17 and 22.
+-- A row that comes before 23: 1 to 9, 17 and 22.
 abbrev Early : ℕ → Type 0
-Early row = (row ≤ 9) ⊎ (17 ≤ row)
+Early row = (row ≤ 9) ⊎ ((17 ≤ row) × (row ≤ 22))
 
 module _ (code : ℕ) (past : PastRow17 code) where
   not-row : (row : ℕ) → 1 ≤ row → Early row → row ≡ code → ⊥
-  not-row row some early e = elim past [
-    | inl ten ↦ ⊎-elim (λ (h : row ≤ 9). omega arith) (λ (h : 17 ≤ row). omega arith) early
-    | inr later ↦ elim later [
-      | inl eleven ↦ ⊎-elim (λ (h : row ≤ 9). omega arith) (λ (h : 17 ≤ row). omega arith) early
-      | inr none ↦ omega arith
-    ]
-  ]
+  not-row row some early e = ⊎-elim (λ (h : row ≤ 9). low h past) (λ (h : (17 ≤ row) × (row ≤ 22)). high (h .0) (h .1) past) early
+    where
+      low : row ≤ 9 → PastRow17 code → ⊥
+      low h (inl is) = omega (arith, is)
+      low h (inr (inl is)) = omega (arith, is)
+      low h (inr (inr (inl is))) = omega (arith, is)
+      low h (inr (inr (inr is))) = omega (arith, is)
+
+      high : 17 ≤ row → row ≤ 22 → PastRow17 code → ⊥
+      high h k (inl is) = omega (arith, is)
+      high h k (inr (inl is)) = omega (arith, is)
+      high h k (inr (inr (inl is))) = omega (arith, is)
+      high h k (inr (inr (inr is))) = omega (arith, is)
 
   -- a check of such a row that gives the code has a false condition, and the code is the later rows'
   refuseIf-past : (t : Bool) (row later : ℕ) → refuseIf t (suc row) later ≡ code → Early (suc row)
@@ -344,7 +385,7 @@ rows-past : (code : ℕ) → PastRow17 code → (bytes : List ℕ) → refusal b
     → (1 ≤ racksIn bytes) × (1 ≤ rackSizeIn bytes) × (racksIn bytes * rackSizeIn bytes ≤ maxMachines)
     × (1 ≤ feedsIn bytes) × (racksIn bytes % feedsIn bytes ≡ 0) × (1 ≤ capacityIn bytes) × (capacityIn bytes ≤ maxCapacity) × (blockCountIn bytes ≤ maxBlocks)
     × (length bytes ≡ recordAt (formatIn bytes) (blockCountIn bytes)) × (blocksRefusal (planIn bytes) ≡ 0) × (pairsRefusal (planIn bytes) ≡ 0)
-    × (totalRefusal (planIn bytes) ≡ code)
+    × (budgetRefusal (planIn bytes) ≡ code)
 unfolding refusal check1 check2 check3 check4 check22 check5 check6 check7 planRefusal
 rows-past code past bytes e =
     let r = racksIn bytes in
@@ -356,7 +397,7 @@ rows-past code past bytes e =
     let z2 = refuseIf-past code past (not (eqb (markIn bytes) mark)) 1 _ (z1 .1) (inl (lit≤ tt)) in
     let z3 = refuseIf-past code past (eqb (versionIn bytes) 0 || ltb latestVersion (versionIn bytes)) 2 _ (z2 .1) (inl (lit≤ tt)) in
     let z4 = refuseIf-past code past (eqb r 0 || eqb s 0 || ltb maxMachines (r * s)) 3 _ (z3 .1) (inl (lit≤ tt)) in
-    let z22 = refuseIf-past code past (eqb f 0 || not (eqb (r % f) 0)) 21 _ (z4 .1) (inr (lit≤ tt)) in
+    let z22 = refuseIf-past code past (eqb f 0 || not (eqb (r % f) 0)) 21 _ (z4 .1) (inr (lit≤ tt, lit≤ tt)) in
     let z5 = refuseIf-past code past (eqb c 0 || ltb maxCapacity c) 4 _ (z22 .1) (inl (lit≤ tt)) in
     let z6 = refuseIf-past code past (leb (headerLength (formatIn bytes)) (length bytes) && ltb maxBlocks b) 5 _ (z5 .1) (inl (lit≤ tt)) in
     let z7 = refuseIf-past code past (not (eqb (length bytes) (recordAt (formatIn bytes) b))) 6 _ (z6 .1) (inl (lit≤ tt)) in
@@ -370,7 +411,7 @@ rows-past code past bytes e =
     (h4 .0, h4 .1, h4 .2, h22 .0, h22 .1, h5 .0, h5 .1, h6 .0, h7 .0, blocks .0, pairs .0, pairs .1)
   where
     pairs-early : (pairsRefusal (planIn bytes) ≡ 17) ⊎ (pairsRefusal (planIn bytes) ≡ 0) → Early (pairsRefusal (planIn bytes))
-    pairs-early (inl e) = inr (omega (arith, e))
+    pairs-early (inl e) = inr (omega (arith, e), omega (arith, e))
     pairs-early (inr e) = inl (omega (arith, e))
 
 module _ (bytes : List ℕ) (past : PastRow17 (refusal bytes)) where
@@ -394,15 +435,32 @@ module _ (bytes : List ℕ) (past : PastRow17 (refusal bytes)) where
   pub refusal-length : length bytes ≡ recordAt (formatIn bytes) (blockCountIn bytes)
   refusal-length = rows-past (refusal bytes) past bytes refl .8
 
+  pub refusal-budget : refusal bytes ≡ budgetRefusal (planIn bytes)
+  refusal-budget = sym (rows-past (refusal bytes) past bytes refl .11)
+
+-- past row 23, a budget of version 4 can be used, and rows 10 and 11 decide
+module _ (bytes : List ℕ) (past : PastRow23 (refusal bytes)) where
+  pub refusal-usable : 4 ≤ planIn bytes .version → planIn bytes .budget ≤ places (planIn bytes)
+  refusal-usable late = elim (decLt (places (planIn bytes)) (planIn bytes .budget)) [
+    | yes above ↦ absurd (not23 past (refusal-budget bytes (inr past) ∙ check23-above _ _ _ _ late above))
+    | no within ↦ omega arith
+  ]
+    where
+      not23 : PastRow23 (refusal bytes) → refusal bytes ≡ 23 → ⊥
+      not23 (inl is) e = omega (arith, is, e)
+      not23 (inr (inl is)) e = omega (arith, is, e)
+      not23 (inr (inr is)) e = omega (arith, is, e)
+
   pub refusal-total : refusal bytes ≡ totalRefusal (planIn bytes)
-  refusal-total = sym (rows-past (refusal bytes) past bytes refl .11)
+  refusal-total = refusal-budget bytes (inr past) ∙ check23-passed _ _ _ (totalRefusal (planIn bytes)) refusal-usable
 
 -- a plan that no row turns back
 pub refusal-zero : (bytes : List ℕ) → refusal bytes ≡ 0 → Valid (planIn bytes)
 refusal-zero bytes e =
-    let z10 = check10-zero _ _ _ (sym (refusal-total bytes (inr (inr e))) ∙ e) in
+    let past : PastRow23 (refusal bytes) = inr (inr e) in
+    let z10 = check10-zero _ _ _ (sym (refusal-total bytes past) ∙ e) in
     let z11 = check11-zero _ _ _ (z10 .1) in
-    record { shaped = refusal-shaped bytes (inr (inr e)); in-budget = z10 .0; in-places = z11 .0 }
+    record { shaped = refusal-shaped bytes (inr past); budget-usable = refusal-usable bytes past; in-budget = z10 .0; in-places = z11 .0 }
 
 -- ── judge ────────────────────────────────────────────────────────────────────────────────────────
 pub judge-refused : (bytes : List ℕ) (code : ℕ) → refusal bytes ≡ code → 1 ≤ code → judge bytes ≡ refused code
@@ -435,7 +493,7 @@ accepted-laws bytes p e =
     record {
       held = sym (z .1);
       valid = rw (z .1) at (refusal-zero bytes (z .0));
-      length-is = refusal-length bytes (inr (inr (z .0))) ∙ ap (recordAt (formatIn bytes)) (sym (planIn-blockCount bytes) ∙ ap blockCount (z .1));
+      length-is = refusal-length bytes (inr (inr (inr (z .0)))) ∙ ap (recordAt (formatIn bytes)) (sym (planIn-blockCount bytes) ∙ ap blockCount (z .1));
     }
 
 -- an accepted plan's bytes pass rows 2 and 3

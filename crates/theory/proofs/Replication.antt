@@ -48,14 +48,18 @@ feasibleCounts-same p count other same c =
     }
 
 -- the least copies of an accepted plan are lawful counts
-pub feasibleCounts-least : (p : Plan) → Valid p → FeasibleCounts p (λ i. blockOf p i .minReplicas)
-unfolding minTotal limit
-feasibleCounts-least p v =
-    record {
-      at-least = λ i l. le-refl _;
-      at-most = λ i l. v .shaped .block i l .min-upper;
-      in-limit = le-min (v .in-budget) (v .in-places);
-    }
+pub feasibleCounts-least : (p : Plan) → Shaped p → minTotal p ≤ limit p → FeasibleCounts p (λ i. blockOf p i .minReplicas)
+unfolding minTotal
+feasibleCounts-least p shaped within =
+    record { at-least = λ i l. le-refl _; at-most = λ i l. shaped .block i l .min-upper; in-limit = within }
+
+-- an accepted plan's are
+pub limit-valid : (p : Plan) → Valid p → minTotal p ≤ limit p
+unfolding limit
+limit-valid p v = le-min (v .in-budget) (v .in-places)
+
+pub feasibleCounts-valid : (p : Plan) → Valid p → FeasibleCounts p (λ i. blockOf p i .minReplicas)
+feasibleCounts-valid p v = feasibleCounts-least p (v .shaped) (limit-valid p v)
 
 -- ── share ────────────────────────────────────────────────────────────────────────────────────────
 -- whether all numbers from 1 on divide the units
@@ -329,7 +333,7 @@ module _ (p : Plan) (v : Valid p) where
   unfolding figure
   figure-reachable =
       elim (eq-or-lt-of-le (figure-bound p)) [
-        | inl e ↦ reachable-counts p v (figure p) _ (feasibleCounts-least p v) (le-of-eq (sym e))
+        | inl e ↦ reachable-counts p v (figure p) _ (feasibleCounts-valid p v) (le-of-eq (sym e))
         | inr l ↦ least-passes _ _ l
       ]
 

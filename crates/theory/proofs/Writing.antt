@@ -18,7 +18,7 @@ use Rattle.order.proofs.Tables.{joined-length}
 use Rattle.model.specs.Plan.{Block, Plan, machines, blockCount, field, headerLength, markIn, versionIn, racksIn, rackSizeIn, feedsIn, capacityIn, budgetIn, blockCountIn, Format, formatOf, minReplicasAt, minDomainsAt, pairByteAt, recordLength, blockAt}
 use Rattle.model.specs.Refusal.{mark}
 use Rattle.model.specs.Writing.{bytesOf, headerBytes, recordBytes}
-use Rattle.theory.specs.Refusal.{Valid}
+use Rattle.theory.specs.Refusal.{Shaped}
 use Rattle.theory.specs.Writing.{AreBytes, BlockFits, Layouts, PlanFits}
 use Rattle.theory.proofs.Plan.{domains-le, field-bound, field-narrow}
 
@@ -254,10 +254,9 @@ headerBytes-length p =
     rw (headerBytes-written p)
     (let long = written-length (bytesOf 3 mark) 3 (bytesOf-length 3 mark) (headerFields p) in omega arith)
 
--- a valid plan's numbers fit the header
-header-fit : (p : Plan) → Valid p → PlanFits p → Fit (headerFields p)
-header-fit p valid fits =
-    let shaped = valid .shaped in
+-- a plan's numbers fit the header
+header-fit : (p : Plan) → Shaped p → PlanFits p → Fit (headerFields p)
+header-fit p shaped fits =
     let racks : p .racks * 1 ≤ machines p = mul-le-mul-left (p .racks) (shaped .size-pos) in
     let size : 1 * p .rackSize ≤ machines p = mul-le-mul-right (p .rackSize) (shaped .racks-pos) in
     let capacity = shaped .capacity-max in
@@ -266,10 +265,10 @@ header-fit p valid fits =
     (omega (arith, fits .version-max), (omega arith, (omega arith, (feeds, (omega arith, (fits .budget-fits, (omega arith, tt)))))))
 
 -- where the header of such a plan stands, its numbers are read; the header of numbers that are read stands where they were read
-pub headerBytes-read : (bytes : List ℕ) (p : Plan) → Valid p → PlanFits p → Stands bytes 0 (headerBytes p) → HeaderIs bytes p
-headerBytes-read bytes p valid fits h =
+pub headerBytes-read : (bytes : List ℕ) (p : Plan) → Shaped p → PlanFits p → Stands bytes 0 (headerBytes p) → HeaderIs bytes p
+headerBytes-read bytes p shaped fits h =
     let parts =
-    written-held bytes 0 (bytesOf 3 mark) 3 (bytesOf-length 3 mark) (headerFields p) (header-fit p valid fits) (rw (headerBytes-written p) at h)
+    written-held bytes 0 (bytesOf 3 mark) 3 (bytesOf-length 3 mark) (headerFields p) (header-fit p shaped fits) (rw (headerBytes-written p) at h)
     in
     let held = parts .1 in
     let later = held .1 .1 .1 .1 in

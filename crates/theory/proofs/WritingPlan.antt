@@ -13,9 +13,9 @@ use Rattle.order.specs.Table.{table, joined}
 use Rattle.order.proofs.Booleans.{pos-eqb}
 use Rattle.order.proofs.Tables.{joined-length, length-table, getD-table}
 use Rattle.model.specs.Plan.{Plan, machines, blockCount, noBlock, blockOf, commonLength, latestVersion, markIn, versionIn, blockCountIn, formatOf, formatIn, headerLength, recordLength, recordAt, blockIn, planIn}
-use Rattle.model.specs.Refusal.{mark, maxMachines, maxCapacity, maxBlocks, check1, check2, check3, check4, check5, check7, refusal, accepted}
+use Rattle.model.specs.Refusal.{mark, maxMachines, maxCapacity, maxBlocks, check1, check2, check3, check4, check5, check7, planRefusal, refusal, accepted}
 use Rattle.model.specs.Writing.{headerBytes, recordBytes, planBytes}
-use Rattle.theory.specs.Refusal.{Valid}
+use Rattle.theory.specs.Refusal.{Shaped}
 use Rattle.theory.specs.Writing.{AreBytes, BlockFits, PlanFits, ReadsWritten, WritesRead, AcceptedFits}
 use Rattle.theory.proofs.Plan.{field-bound, planIn-blockCount, planIn-blockOf}
 use Rattle.theory.proofs.Refusal.{check22-passed, check6-long, planRefusal-valid, judge-accepted, accepted-laws, accepted-mark}
@@ -58,10 +58,10 @@ module _ (bytes : List ℕ) (p : Plan) where
         let behind = stands-next bytes 0 (headerBytes p) (joined (blockCount p) (records p)) long (headerBytes-length p) h in
         joined-each bytes long _ (records p) (records-length p) (blockCount p) (rw (zero-add long) at behind)
 
--- a valid plan's bytes hold the plan
-module _ (p : Plan) (valid : Valid p) (fits : PlanFits p) where
+-- a plan's bytes hold the plan
+module _ (p : Plan) (shaped : Shaped p) (fits : PlanFits p) where
   header-is : HeaderIs (planBytes p) p
-  header-is = headerBytes-read (planBytes p) p valid fits (planBytes-header (planBytes p) p (stands-all (planBytes p)))
+  header-is = headerBytes-read (planBytes p) p shaped fits (planBytes-header (planBytes p) p (stands-all (planBytes p)))
 
   block-is : (i : ℕ) → i < blockCount p → blockIn (formatOf (p .version)) (planBytes p) i ≡ blockOf p i
   unfolding blockIn
@@ -126,14 +126,14 @@ module _ (bytes : List ℕ) (each : AreBytes bytes) where
       block i l = rw (planIn-blockOf bytes i l) (recordBytes-fits (formatIn bytes) bytes (recordAt (formatIn bytes) i) each)
 
 -- ── refusal ──────────────────────────────────────────────────────────────────────────────────────
-refusal-written : (p : Plan) → Valid p → PlanFits p → refusal (planBytes p) ≡ 0
+-- the rows on the header turn no such file back
+pub refusal-written : (p : Plan) → Shaped p → PlanFits p → refusal (planBytes p) ≡ planRefusal p
 unfolding refusal check1 check2 check3 check4 check5 check7
-refusal-written p valid fits =
-    let is = header-is p valid fits in
-    let shaped = valid .shaped in
+refusal-written p shaped fits =
+    let is = header-is p shaped fits in
     let f = formatOf (p .version) in
     rw (
-      planIn-written p valid fits,
+      planIn-written p shaped fits,
       planBytes-length p,
       is .mark-is,
       is .feeds-is,
@@ -155,11 +155,12 @@ refusal-written p valid fits =
       le-ltb maxBlocks (blockCount p) (shaped .blocks-max),
       eq-eqb (recordAt f (blockCount p)) _ refl,
     )
-    (planRefusal-valid p valid)
 
 -- ── judge ────────────────────────────────────────────────────────────────────────────────────────
 pub reads-written : ReadsWritten
-reads-written p valid fits = judge-accepted (planBytes p) (refusal-written p valid fits) ∙ ap accepted (planIn-written p valid fits)
+reads-written p valid fits =
+    judge-accepted (planBytes p) (refusal-written p (valid .shaped) fits ∙ planRefusal-valid p valid)
+    ∙ ap accepted (planIn-written p (valid .shaped) fits)
 
 pub writes-read : WritesRead
 unfolding planIn

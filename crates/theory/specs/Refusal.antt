@@ -4,8 +4,8 @@ use mathlib.Core.Bool.{true, false}
 use mathlib.Core.List.{List}
 use mathlib.Core.Logic.{_⊎_}
 use lib.ListN.{length}
-use Prim.Native.Nat.{ℕ, suc, _*_, _%_, _<_, _≤_}
-use Rattle.model.specs.Plan.{Plan, machines, domains, blockCount, blockOf, pairsNext, upper, minTotal, formatIn, planIn, recordAt}
+use Prim.Native.Nat.{ℕ, suc, _%_, _<_, _≤_}
+use Rattle.model.specs.Plan.{Plan, machines, places, domains, blockCount, blockOf, pairsNext, upper, minTotal, formatIn, planIn, recordAt}
 use Rattle.model.specs.Refusal.{maxMachines, maxCapacity, maxBlocks, judge, accepted}
 
 -- What rows 8 and 9 leave of block i: 1 ≤ least ≤ the upper count, 1 ≤ spread ≤ least, spread ≤ the domains.
@@ -38,15 +38,19 @@ pub record Shaped (p : Plan) : Type 0 where
   pub block : (i : ℕ) → i < blockCount p → ValidBlock p i
   pub pair : (i : ℕ) → i < blockCount p → ValidPair p i
 
--- What all rows of a plan leave: an accepted plan's least copies keep the budget and the places.
+-- What all rows of a plan leave: from version 4 on its budget keeps the places, and its least copies keep the budget and the places.
 pub record Valid (p : Plan) : Type 0 where
   pub shaped : Shaped p
+  pub budget-usable : 4 ≤ p .version → p .budget ≤ places p
   pub in-budget : minTotal p ≤ p .budget
-  pub in-places : minTotal p ≤ machines p * p .capacity
+  pub in-places : minTotal p ≤ places p
 
--- The code is not one of 1 to 9, 17 and 22, which come before 10.
+-- The code is not one of 1 to 9, 17, 22 and 23, which come before 10; or of these but 23, which come before it.
+abbrev pub PastRow23 : ℕ → Type 0
+PastRow23 code = (code ≡ 10) ⊎ (code ≡ 11) ⊎ (code ≡ 0)
+
 abbrev pub PastRow17 : ℕ → Type 0
-PastRow17 code = (code ≡ 10) ⊎ (code ≡ 11) ⊎ (code ≡ 0)
+PastRow17 code = (code ≡ 23) ⊎ PastRow23 code
 
 -- An accepted plan is the one that the bytes hold, it is valid, and the bytes are its header and B records.
 pub record Accepted (bytes : List ℕ) (p : Plan) : Type 0 where

@@ -4,6 +4,7 @@ use mathlib.Core.Path.{_≡_, refl, ap, sym, _∙_}
 use mathlib.Core.Bool.{false}
 use Prim.Native.Nat.{ℕ, _-_, _<_, _≤_}
 use native.Mathlib.Omega.{arith}
+use borrow.Author.Needs.{needs}
 use borrow.Author.Tests.{lt-ltb}
 use borrow.Author.Count.{below-none, below-more}
 use denote.Ref.{now}
@@ -11,7 +12,7 @@ use Rattle.order.proofs.Searches.{first-none, first-at}
 use Rattle.model.specs.Plan.{blockCount, planIn}
 use Rattle.model.specs.Refusal.{isRefusal, pairRefusal, pairsRefusal}
 use Rattle.records.proofs.Laws.{unpaired-refusal}
-use Rattle.plan.proofs.Laws.{passed-of, planIn-blocks, planIn-records, common-in, records-in}
+use Rattle.plan.proofs.Laws.{passed-of, passed-format, planIn-blocks, planIn-records, records-in}
 use Rattle.plan.proofs.scan_pairs.Statement.{statement}
 use Rattle.plan.proofs.scan_pairs.Tie as tie
 
@@ -33,15 +34,16 @@ code-is c =
     let start = read .before .before in
     sym
     (c .pair-refusal .ensures _
-    (planIn-records _ _ (read .format-in .ensures .0))
+    (planIn-records _ _ (read .format-of .ensures .0 ∙ passed-format _ _ (start .pre)))
     (planIn-blocks _ _ (passed-of _ _ (start .pre))))
 
-format-in-requires : tie.Need-format-in-requires Inv-loop μ-loop
-format-in-requires c κs = common-in _ _ (passed-of _ _ (c .before .pre))
+format-of-requires : tie.Need-format-of-requires Inv-loop μ-loop
+format-of-requires c κs = search needs
 
 returns : tie.Need-returns Inv-loop μ-loop
 returns c =
-    sym (unpaired-refusal _ _ _ (planIn-records _ _ (c .before .before .format-in .ensures .0)) (c .if1 .taken))
+    let read = c .before .before in
+    sym (unpaired-refusal _ _ _ (planIn-records _ _ (read .format-of .ensures .0 ∙ passed-format _ _ (read .before .before .pre))) (c .if1 .taken))
 
 loop-holds : tie.Need-loop-holds Inv-loop μ-loop
 loop-holds c = (omega arith, below-none _)
@@ -50,8 +52,9 @@ pair-refusal-requires : tie.Need-pair-refusal-requires Inv-loop μ-loop
 pair-refusal-requires c κs =
     let at = c .before .before in
     let read = at .before .before .before .before in
-    let format = read .format-in .ensures in
-    (records-in _ _ (passed-of _ _ (read .before .before .pre)) _ (format .0) (format .1), c .if2 .taken)
+    let pre = read .before .before .pre in
+    let format = read .format-of .ensures in
+    (records-in _ _ (passed-of _ _ pre) _ (format .0 ∙ passed-format _ _ pre) (format .1), c .if2 .taken)
 
 returns-2 : tie.Need-returns-2 Inv-loop μ-loop
 unfolding pairsRefusal
@@ -92,7 +95,7 @@ scan-pairs-spec =
     (tie.spec
     Inv-loop
     μ-loop
-    format-in-requires
+    format-of-requires
     returns
     loop-holds
     pair-refusal-requires

@@ -13,7 +13,7 @@ use Rattle.model.specs.Plan.{Plan, blockCount, blockOf, minTotal}
 use Rattle.model.specs.Refusal.{maxMachines, maxCapacity}
 use Rattle.model.specs.Replication.{largestShare, need, reachable, chosen}
 use Rattle.theory.specs.Refusal.{Valid}
-use Rattle.theory.proofs.Replication.{limit-max, feasibleCounts-least, largestShare-term, need-enough, reachable-counts, reachable-upper, figure-by-bisection, figure-full}
+use Rattle.theory.proofs.Replication.{limit-max, feasibleCounts-valid, largestShare-term, need-enough, reachable-counts, reachable-upper, figure-by-bisection, figure-full}
 use Rattle.cluster.specs.declared.Cluster.{Cluster}
 use Rattle.replication.specs.Choice.{BracketFits, BracketOf, LimitedDemands, ChooseAsked}
 use Rattle.replication.proofs.Laws.{most-within, tally-reached}
@@ -35,7 +35,7 @@ module _ (c : Cluster) (demands : List ℕ) (limit : ℕ) (asked : ChooseAsked c
 
   least-here : minTotal (asked .plan) ≤ limit
   unfolding minTotal
-  least-here = rw (asked .limited .limit-is) (feasibleCounts-least (asked .plan) (asked .limited .demands-of .cluster .valid) .in-limit)
+  least-here = rw (asked .limited .limit-is) (feasibleCounts-valid (asked .plan) (asked .limited .demands-of .cluster .valid) .in-limit)
 
 extent-of-requires : tie.Need-extent-of-requires Inv-loop μ-loop
 extent-of-requires c κs = c .before .pre .fit
@@ -43,7 +43,7 @@ extent-of-requires c κs = c .before .pre .fit
 -- the largest share at the least copies is reachable, and the least copies are the needs there
 module _ (p : Plan) (valid : Valid p) (high : ℕ) (is : high ≡ largestShare p (λ i. blockOf p i .minReplicas)) where
   high-reached : reachable p high ≡ true
-  high-reached = reachable-counts p valid high (λ i. blockOf p i .minReplicas) (feasibleCounts-least p valid) (le-of-eq (sym is))
+  high-reached = reachable-counts p valid high (λ i. blockOf p i .minReplicas) (feasibleCounts-valid p valid) (le-of-eq (sym is))
 
   high-needs : sum (blockCount p) (need p high) ≡ minTotal p
   unfolding minTotal
