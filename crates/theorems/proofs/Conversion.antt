@@ -4,7 +4,7 @@
 use mathlib.Core.Path.{_≡_, refl, ap, sym, subst, _∙_}
 use mathlib.Core.Bool.{not, _||_}
 use mathlib.Core.List.{List, []}
-use Prim.Native.Nat.{ℕ, _≤_}
+use Prim.Native.Nat.{ℕ, _<_, _≤_}
 use native.Mathlib.Nat.{le-trans}
 use native.Mathlib.Omega.{arith}
 use borrow.Author.Tests.{lt-ltb, le-ltb}
@@ -12,20 +12,20 @@ use lib.Dec.{ltb, eqb, lit<}
 use lib.ListN.{length}
 use Rattle.order.specs.Table.{table, joined}
 use Rattle.order.proofs.Booleans.{in-range, cond-all}
-use Rattle.model.specs.Plan.{Block, Plan, machines, blockCount, blockOf, commonLength, minTotal, maxReplicas, isPaired, pairsBack, pairsNext, field, markIn, versionIn, formatOf, blockIn, planIn}
+use Rattle.model.specs.Plan.{Block, Plan, machines, places, blockCount, blockOf, commonLength, latestVersion, minTotal, maxReplicas, isPaired, pairsBack, pairsNext, field, markIn, versionIn, formatOf, blockIn, planIn}
 use Rattle.model.specs.Refusal.{mark, maxBlocks, check1, check2, check3, accepted, judge}
 use Rattle.model.specs.Calls.{refuse, onPlan}
 use Rattle.model.specs.Listing.{inputRoom}
 use Rattle.model.specs.Writing.{bytesOf, headerBytes, recordBytes, planBytes}
 use Rattle.model.specs.Conversion.{convertedVersion, writtenVersion, withVersion, converted, convertRefusal, convertVerdict, convertCall}
-use Rattle.theory.specs.Refusal.{Valid}
+use Rattle.theory.specs.Refusal.{Shaped, Valid}
 use Rattle.theory.specs.Writing.{AreBytes, BlockFits, PlanFits}
 use Rattle.theory.proofs.Plan.{maxReplicas-later, maxReplicas-most, upper-grows, field-narrow, formatOf-longest}
-use Rattle.theory.proofs.Refusal.{refuseIf-zero, check3-read, verdict-accepted, accepted-laws, accepted-mark, judge-accepted}
-use Rattle.theory.proofs.WritingPlan.{reads-written, accepted-fits}
+use Rattle.theory.proofs.Refusal.{refuseIf-zero, check3-read, verdict-accepted, planRefusal-shaped, check23-above, accepted-laws, accepted-mark, judge-accepted, judge-refused}
+use Rattle.theory.proofs.WritingPlan.{refusal-written, reads-written, accepted-fits}
 use Rattle.theory.proofs.Conversion.{converted-length, convertVerdict-judged, convertCall-short, convertCall-refused}
 use Rattle.theorems.specs.Trials.{plan-H, plan-full}
-use Rattle.theorems.specs.Versions.{verdictWith, Twins}
+use Rattle.theorems.specs.Versions.{verdictWith, SameLimit, Twin, Twins, LaterTwins}
 use Rattle.theorems.specs.Conversion.{OldPlan, Converts, Conversions, wide-H, ConversionExamples}
 use Rattle.theorems.proofs.Trials.{trials}
 use Rattle.theorems.proofs.Versions.{limits, same-answers}
@@ -61,78 +61,89 @@ module _ (bytes : List ℕ) (p : Plan) where
       ∙ t .accepts
 
 -- ── Converts ─────────────────────────────────────────────────────────────────────────────────────
--- a valid plan is valid in version 3, which allows no fewer copies
-written-limit : (version : ℕ) → maxReplicas version ≤ maxReplicas writtenVersion
-written-limit version = rw (← (maxReplicas-later writtenVersion (omega arith))) (maxReplicas-most version)
+-- Versions from 3 on are written: they allow no fewer copies, and their records are no narrower.
+record Later (version : ℕ) : Type 0 where
+  wide : writtenVersion ≤ version
+  read : version ≤ latestVersion
 
-written-valid : (p : Plan) → Valid p → Valid (withVersion writtenVersion p)
-unfolding isPaired pairsBack pairsNext minTotal
-written-valid p v =
-    let s = v .shaped in
+later-limit : (version old : ℕ) → Later version → maxReplicas old ≤ maxReplicas version
+later-limit version old later = rw (← (maxReplicas-later version (later .wide))) (maxReplicas-most old)
+
+-- a plan keeps its shape in such a version, and is valid there with a budget that passes row 23
+later-shaped : (version : ℕ) → Later version → (p : Plan) → Shaped p → Shaped (withVersion version p)
+unfolding isPaired pairsBack pairsNext
+later-shaped version later p s =
     record {
-      shaped =
+      racks-pos = s .racks-pos;
+      size-pos = s .size-pos;
+      feeds-pos = s .feeds-pos;
+      feeds-divide = s .feeds-divide;
+      machines-max = s .machines-max;
+      capacity-pos = s .capacity-pos;
+      capacity-max = s .capacity-max;
+      blocks-max = s .blocks-max;
+      block = λ i l.
+          let b = s .block i l in
+          record { min-pos = b .min-pos; min-upper = le-trans (b .min-upper) (upper-grows p version (later-limit version (p .version) later) i); domains-pos = b .domains-pos; domains-min = b .domains-min; domains-all = b .domains-all };
+      pair = λ i l.
+          let q = s .pair i l in
           record {
-            racks-pos = s .racks-pos;
-            size-pos = s .size-pos;
-            feeds-pos = s .feeds-pos;
-            feeds-divide = s .feeds-divide;
-            machines-max = s .machines-max;
-            capacity-pos = s .capacity-pos;
-            capacity-max = s .capacity-max;
-            blocks-max = s .blocks-max;
-            block = λ i l.
-                let b = s .block i l in
-                record { min-pos = b .min-pos; min-upper = le-trans (b .min-upper) (upper-grows p writtenVersion (written-limit (p .version)) i); domains-pos = b .domains-pos; domains-min = b .domains-min; domains-all = b .domains-all };
-            pair = λ i l.
-                let q = s .pair i l in
-                record {
-                  byte-max = q .byte-max;
-                  next-below = q .next-below;
-                  next-free = q .next-free;
-                  popularity-same = q .popularity-same;
-                  replicas-same = q .replicas-same;
-                  domains-same = q .domains-same;
-                };
+            byte-max = q .byte-max;
+            next-below = q .next-below;
+            next-free = q .next-free;
+            popularity-same = q .popularity-same;
+            replicas-same = q .replicas-same;
+            domains-same = q .domains-same;
           };
-      in-budget = v .in-budget;
-      in-places = v .in-places;
     }
 
+later-valid : (version : ℕ) → Later version → (p : Plan) → (4 ≤ version → p .budget ≤ places p) → Valid p → Valid (withVersion version p)
+unfolding minTotal
+later-valid version later p usable v =
+    record { shaped = later-shaped version later p (v .shaped); budget-usable = usable; in-budget = v .in-budget; in-places = v .in-places }
+
 -- any version's block fits its record
-block-wider : (version : ℕ) (b : Block) → BlockFits (formatOf version) b → BlockFits (formatOf writtenVersion) b
+block-wider : (version old : ℕ) → Later version → (b : Block) → BlockFits (formatOf old) b → BlockFits (formatOf version) b
 unfolding formatOf
-block-wider version b fits =
+block-wider version old later b fits =
     record {
       popularity-fits =
           field-narrow _ _ _ (fits .popularity-fits)
-          (cond-all (λ n. n ≤ 4) (ltb version 3) 3 4 (λ e. omega arith) (omega arith));
+          (rw (le-ltb version 3 (later .wide)) (cond-all (λ n. n ≤ 4) (ltb old 3) 3 4 (λ e. omega arith) (omega arith)));
       replicas-fits = fits .replicas-fits;
       domains-fits = fits .domains-fits;
       pair-fits =
           field-narrow _ _ _ (fits .pair-fits)
-          (cond-all (λ n. n ≤ 1) (ltb version 2) 0 1 (λ e. omega arith) (omega arith));
+          (rw (le-ltb version 2 (le-trans (omega arith) (later .wide))) (cond-all (λ n. n ≤ 1) (ltb old 2) 0 1 (λ e. omega arith) (omega arith)));
     }
 
-written-fits : (p : Plan) → PlanFits p → p .feeds ≡ p .racks → PlanFits (withVersion writtenVersion p)
-written-fits p fits feeds =
+later-fits : (version : ℕ) → Later version → (p : Plan) → PlanFits p → p .feeds ≡ p .racks → PlanFits (withVersion version p)
+later-fits version later p fits feeds =
     record {
-      version-pos = omega arith;
-      version-max = omega arith;
+      version-pos = le-trans (omega arith) (later .wide);
+      version-max = later .read;
       feeds-racks = λ none. feeds;
       budget-fits = fits .budget-fits;
-      block-fits = λ i l. block-wider (p .version) (blockOf p i) (fits .block-fits i l);
+      block-fits = λ i l. block-wider version (p .version) later (blockOf p i) (fits .block-fits i l);
     }
 
--- an accepted plan with F = R is accepted in version 3
-written-accepted : (bytes : List ℕ) → AreBytes bytes → (p : Plan) → judge bytes ≡ accepted p → p .feeds ≡ p .racks
-    → judge (planBytes (withVersion writtenVersion p)) ≡ accepted (withVersion writtenVersion p)
-written-accepted bytes each p e feeds =
-    reads-written (withVersion writtenVersion p) (written-valid p (accepted-laws bytes p e .valid)) (written-fits p (accepted-fits bytes each p e) feeds)
+-- an accepted plan with F = R is accepted in such a version, with a budget that passes row 23
+later-accepted : (version : ℕ) → Later version → (bytes : List ℕ) → AreBytes bytes → (p : Plan) → judge bytes ≡ accepted p → p .feeds ≡ p .racks
+    → (4 ≤ version → p .budget ≤ places p)
+    → judge (planBytes (withVersion version p)) ≡ accepted (withVersion version p)
+later-accepted version later bytes each p e feeds usable =
+    reads-written (withVersion version p) (later-valid version later p usable (accepted-laws bytes p e .valid)) (later-fits version later p (accepted-fits bytes each p e) feeds)
+
+three : Later 3
+three = record { wide = omega arith; read = omega arith }
+
+four : Later 4
+four = record { wide = omega arith; read = omega arith }
 
 -- before version 4, F is R
-no-feeds : (version : ℕ) → version ≤ convertedVersion → formatOf version .feedsWidth ≡ 0
+no-feeds : (version : ℕ) → version < 4 → formatOf version .feedsWidth ≡ 0
 unfolding formatOf
-no-feeds version l = rw (lt-ltb version 4 (omega arith))
+no-feeds version l = rw (lt-ltb version 4 l)
 
 converts : (bytes : List ℕ) → AreBytes bytes → (p : Plan) → convertVerdict bytes ≡ accepted p → Converts bytes p
 unfolding converted inputRoom
@@ -141,8 +152,8 @@ converts bytes each p e =
     let old = taken-plan .accepts in
     let laws = accepted-laws bytes p old in
     let valid = laws .valid in
-    let feeds = accepted-fits bytes each p old .feeds-racks (no-feeds (p .version) (taken-plan .version-max)) in
-    let new : judge (converted p) ≡ accepted (withVersion writtenVersion p) = written-accepted bytes each p old feeds in
+    let feeds = accepted-fits bytes each p old .feeds-racks (no-feeds (p .version) (omega (arith, taken-plan .version-max))) in
+    let new : judge (converted p) ≡ accepted (withVersion writtenVersion p) = later-accepted writtenVersion three bytes each p old feeds (λ late. absurd (omega arith)) in
     let longest = formatOf-longest writtenVersion (blockCount p) maxBlocks (valid .shaped .blocks-max) in
     record {
       accepts = new;
@@ -153,16 +164,41 @@ converts bytes each p e =
     }
 
 -- ── Twins ────────────────────────────────────────────────────────────────────────────────────────
-pub twins : Twins
-twins bytes each p e version feeds =
-    let new = written-accepted bytes each p e feeds in
+twin : (version : ℕ) (bytes : List ℕ) (p : Plan) → judge bytes ≡ accepted p
+    → judge (planBytes (withVersion version p)) ≡ accepted (withVersion version p)
+    → ((machines : ℕ) → SameLimit (p .version) version machines)
+    → Twin version bytes p
+twin version bytes p e new limit-same =
     record {
       accepts = new;
       same =
-          same-answers 3 bytes (planBytes (withVersion 3 p)) (new ∙ sym (ap (verdictWith 3) e))
+          same-answers version bytes (planBytes (withVersion version p)) (new ∙ sym (ap (verdictWith version) e))
           (λ q accepts.
           let same : p ≡ q = accepted-laws bytes p e .held ∙ sym (accepted-laws bytes q accepts .held) in
-          rw (sym (ap (λ (r : Plan). r .version) same) ∙ version) (limits .later (machines q)));
+          subst (λ (r : Plan). SameLimit (r .version) version (machines r)) same (limit-same (machines p)));
+    }
+
+pub twins : Twins
+twins bytes each p e version feeds =
+    twin 3 bytes p e (later-accepted 3 three bytes each p e feeds (λ late. absurd (omega arith)))
+    (λ n. rw version (limits .later n))
+
+-- the rows before 23 turn no file of an accepted plan back in version 4
+pub later-twins : LaterTwins
+later-twins bytes each p e version =
+    let valid = accepted-laws bytes p e .valid in
+    let feeds = accepted-fits bytes each p e .feeds-racks (no-feeds (p .version) (omega arith)) in
+    let shaped = later-shaped 4 four p (valid .shaped) in
+    let fits = later-fits 4 four p (accepted-fits bytes each p e) feeds in
+    record {
+      usable = λ usable.
+          twin 4 bytes p e (later-accepted 4 four bytes each p e feeds (λ late. usable)) (λ n. rw version (sym (limits .later n)));
+      unusable = λ above.
+          judge-refused (planBytes (withVersion 4 p)) 23
+          (refusal-written (withVersion 4 p) shaped fits
+          ∙ planRefusal-shaped (withVersion 4 p) shaped
+          ∙ check23-above 4 (places p) (p .budget) _ (omega arith) above)
+          (omega arith);
     }
 
 pub conversions : Conversions

@@ -68,7 +68,7 @@ listing-laws =
     }
   where
     go : (bytes : List ℕ) → ((i : ℕ) → getD bytes i 0 < 256) → (budget : ℕ) → budget < 2 ^ 32
-        → (code : ℕ) → refusal bytes ≡ code → code ≤ 22 → length (printed bytes budget) ≤ listingRoom
+        → (code : ℕ) → refusal bytes ≡ code → code ≤ 23 → length (printed bytes budget) ≤ listingRoom
     go bytes h budget l zero e m =
         rw (printed-accepted bytes budget (planIn bytes) (judge-accepted bytes e))
         (listingOf-fits (planIn bytes) (refusal-zero bytes e) (share-fits bytes h (chosen (planIn bytes))) budget l)

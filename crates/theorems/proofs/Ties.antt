@@ -12,7 +12,7 @@ use Rattle.order.specs.Table.{table}
 use Rattle.order.specs.Search.{firstUp, least, allb, largest}
 use Rattle.order.proofs.Extremes.{largest-term, sum-largest}
 use Rattle.model.specs.Plan.{blockCount, blockOf, maxReplicas, upper, minTotal, field, formatOf, blockIn, planIn, isPaired, pairsBack, pairsNext, partner}
-use Rattle.model.specs.Refusal.{check1, check2, check3, check4, check22, check5, check6, check7, check8, check9, blockRefusal, blocksRefusal, check10, check11, check12, planRefusal, refusal, judge, accepted, pairsRefusal, pairRefusal, check17, alike}
+use Rattle.model.specs.Refusal.{check1, check2, check3, check4, check22, check5, check6, check7, check8, check9, blockRefusal, blocksRefusal, check23, check10, check11, check12, planRefusal, refusal, judge, accepted, pairsRefusal, pairRefusal, check17, alike}
 use Rattle.model.specs.Replication.{limit, unit, share, need, reachable, figure, chosen}
 use Rattle.model.specs.Placement.{bit, replicas, replicasIn, domainsUsed, used, Feasible, allWithin, allSpread, allFit, countsFeasible, isFeasible, shareOf, load, maxLoad, totalLoad, allApart, keptApart}
 use Rattle.model.specs.Steps.{Step, none, move, swap, shifted, afterMove, afterSwap, after, improves, canMove, canSwap, routes, nextMove, nextSwap, nextStep, Run, run}
@@ -29,7 +29,7 @@ use Rattle.theorems.specs.Ties.{plan-tied, tied, sixes, fours, Ties}
 use Rattle.theorems.proofs.TotalLoad.{loads-total}
 
 accepts : judge plan-tied ≡ accepted tied
-unfolding judge refusal check1 check2 check3 check4 check22 check5 check6 check7 planRefusal blocksRefusal blockRefusal check8 check9 pairsRefusal pairRefusal check17 alike check10 check11 planIn blockIn formatOf field upper maxReplicas isPaired pairsBack pairsNext minTotal sum table firstUp plan-tied
+unfolding judge refusal check1 check2 check3 check4 check22 check5 check6 check7 planRefusal blocksRefusal blockRefusal check8 check9 pairsRefusal pairRefusal check17 alike check23 check10 check11 planIn blockIn formatOf field upper maxReplicas isPaired pairsBack pairsNext minTotal sum table firstUp plan-tied
 accepts = refl
 
 valid : Valid tied

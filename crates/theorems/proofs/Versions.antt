@@ -1,28 +1,31 @@
 -- A plan answers as the plan with the same fields in another version: the two read as plans that are equal but for the version, and no
 -- definition above the reading looks at it.
 -- Assumes nothing.
-use mathlib.Core.Path.{_≡_, refl, ap, ap₂, sym, fun-ext, _∙_}
-use mathlib.Core.Bool.{_&&_}
+use mathlib.Core.Path.{_≡_, refl, ap, ap₂, sym, subst, fun-ext, _∙_}
+use mathlib.Core.Bool.{Bool, true, false, not, _&&_, _||_}
 use mathlib.Core.List.{List}
-use Prim.Native.Nat.{ℕ, zero, suc, _*_, _/_, min}
+use mathlib.Core.Logic.{_⊎_, inl, inr, ⊎-elim}
+use Prim.Native.Nat.{ℕ, zero, suc, _*_, _/_, _%_, _≤_, min}
 use native.Mathlib.Omega.{arith}
 use borrow.Author.Tests.{le-ltb, eq-eqb}
-use lib.Dec.{leb, ltb, eqb}
+use lib.Dec.{leb, ltb, eqb, lit≤}
 use lib.ListN.{length}
 use Rattle.order.specs.Sum.{sum}
 use Rattle.order.specs.Search.{allb}
 use Rattle.order.proofs.Tables.{table-cong}
-use Rattle.model.specs.Plan.{Plan, machines, blockCount, maxReplicas, upper, isPaired, pairsBack, pairsNext, partner, minTotal, markIn, versionIn, racksIn, rackSizeIn, feedsIn, capacityIn, blockCountIn, latestVersion, formatOf, formatIn, recordAt, blockIn, planIn}
-use Rattle.model.specs.Refusal.{refuseIf, maxBlocks, check1, check2, check4, check22, check5, check7, blockRefusal, blocksRefusal, pairRefusal, pairsRefusal, planRefusal, refusal, Verdict, refused, accepted, verdict, judge}
+use Rattle.model.specs.Plan.{Plan, machines, places, blockCount, maxReplicas, upper, isPaired, pairsBack, pairsNext, partner, minTotal, markIn, versionIn, racksIn, rackSizeIn, feedsIn, capacityIn, budgetIn, blockCountIn, latestVersion, formatOf, formatIn, recordAt, blockIn, planIn}
+use Rattle.model.specs.Refusal.{refuseIf, orElse, mark, maxMachines, maxCapacity, maxBlocks, check1, check2, check4, check22, check5, check7, check23, blockRefusal, blocksRefusal, pairRefusal, pairsRefusal, planRefusal, refusal, Verdict, refused, accepted, verdict, judge}
 use Rattle.model.specs.Replication.{limit, largestShare, need, reachable, figure, chosen}
 use Rattle.model.specs.Placement.{countOf, replicas, replicasIn, domainsUsed, used, allWithin, allSpread, allFit, keptApart, allApart, countsFeasible, isFeasible, position, laidWord, firstWord, firstPlacement, shareOf, load, maxLoad, minLoad, totalLoad, maxShare}
 use Rattle.model.specs.Steps.{after, improves, canMove, canSwap, routes, nextMove, nextSwap, nextStep, run}
 use Rattle.model.specs.Calls.{Outcome, onPlan, bufferRefusal, allCounted, placementRefusal, onPlacement, reportOf, countsCall, firstCall, checkCall, reportCall, stepCall, runCall}
 use Rattle.model.specs.Listing.{planLine, blockLine, lastLine, listingOf, printedOf, printed}
 use Rattle.model.specs.Conversion.{withVersion}
+use Rattle.theory.specs.Refusal.{PastRow23}
 use Rattle.theory.proofs.Plan.{maxReplicas-least, upper-limit}
-use Rattle.theory.proofs.Refusal.{check3-read, check6-long, accepted-laws}
-use Rattle.theorems.specs.Versions.{verdictWith, SameLimit, Limits, VersionsFree, Described, SameFields, SameAnswers, Versions}
+use Rattle.theory.proofs.Refusal.{check3-read, check6-long, check23-above, check23-early, check23-usable, blocksRefusal-le, pairsRefusal-cases, totalRefusal, accepted-laws}
+use Rattle.theorems.specs.Versions.{TurnedBack, verdictWith, SameLimit, SameRow23, Limits, VersionsFree, Described, SameFields, SameAnswers, Versions, VersionsApart}
+use Rattle.theorems.proofs.Exact.{total-cases}
 
 -- ── Limits ───────────────────────────────────────────────────────────────────────────────────────
 pub limits : Limits
@@ -32,6 +35,8 @@ limits =
       early = λ machines. refl;
       later = λ machines. refl;
       few = λ from to machines l. omega (arith, maxReplicas-least from, maxReplicas-least to);
+      unjudged = λ from to room budget early late. fun-ext (λ later. check23-early to room budget later late ∙ sym (check23-early from room budget later early));
+      usable = λ from to room budget l. fun-ext (λ later. check23-usable to room budget later l ∙ sym (check23-usable from room budget later l));
     }
 
 -- ── VersionsFree ─────────────────────────────────────────────────────────────────────────────────
@@ -43,7 +48,9 @@ module _ (version : ℕ) (p : Plan) (same : SameLimit (p .version) version (mach
   unfolding blockRefusal
   blockRefusal-free i = rw (upper-free i)
 
-  planRefusal-free : planRefusal (withVersion version p) ≡ planRefusal p
+  -- but for row 23
+  planRefusal-free : planRefusal (withVersion version p)
+      ≡ orElse (blocksRefusal p) (orElse (pairsRefusal p) (check23 version (places p) (p .budget) (totalRefusal p)))
   unfolding planRefusal blocksRefusal pairsRefusal pairRefusal minTotal
   planRefusal-free = rw (fun-ext blockRefusal-free)
 
@@ -128,6 +135,21 @@ rows-between bytes version is described sized =
       eq-eqb (length bytes) (recordAt f count) whole,
     )
 
+-- The rows between that come before 23, handed what the later ones say; and 23, 10 and 11 in a version.
+abbrev before23 : List ℕ → ℕ → ℕ
+before23 bytes later =
+    check2 (markIn bytes)
+    (check4 (racksIn bytes) (rackSizeIn bytes)
+    (check22 (racksIn bytes) (feedsIn bytes)
+    (check5 (capacityIn bytes)
+    (refuseIf (ltb maxBlocks (blockCountIn bytes)) 6
+    (orElse (blocksRefusal (planIn bytes))
+    (orElse (pairsRefusal (planIn bytes))
+    later))))))
+
+abbrev from23 : List ℕ → ℕ → ℕ
+from23 bytes version = check23 version (racksIn bytes * rackSizeIn bytes * capacityIn bytes) (budgetIn bytes) (totalRefusal (planIn bytes))
+
 module _ (from to : ℕ) (read-from : Described from) (read-to : Described to) (old new : List ℕ) (same : SameFields from to old new)
     (limit-same : SameLimit from to (racksIn old * rackSizeIn old)) where
   plans : planIn new ≡ withVersion to (planIn old)
@@ -156,15 +178,30 @@ module _ (from to : ℕ) (read-from : Described from) (read-to : Described to) (
   unfolding planIn
   plan-limit p e = rw (e, same .old-version) limit-same
 
-  refusals : refusal new ≡ refusal old
-  refusals =
+  old-refusal : refusal old ≡ before23 old (from23 old from)
+  unfolding planRefusal planIn
+  old-refusal =
+      rows-between old from (same .old-version) read-from (same .old-length)
+      ∙ ap (λ (version : ℕ). before23 old (from23 old version)) (same .old-version)
+
+  new-refusal : refusal new ≡ before23 old (from23 old to)
+  unfolding planIn
+  new-refusal =
       rows-between new to (same .new-version) read-to (rw (same .blocks-same) (same .new-length))
       ∙ (rw (plans, same .mark-same, same .feeds-same, same .capacity-same, same .blocks-same, same .racks-same, same .size-same, planRefusal-free to (planIn old) (plan-limit (planIn old) refl)))
-      ∙ sym (rows-between old from (same .old-version) read-from (same .old-length))
+
+module _ (from to : ℕ) (read-from : Described from) (read-to : Described to) (old new : List ℕ) (same : SameFields from to old new)
+    (limit-same : SameLimit from to (racksIn old * rackSizeIn old))
+    (row23-same : SameRow23 from to (racksIn old * rackSizeIn old * capacityIn old) (budgetIn old)) where
+  refusals : refusal new ≡ refusal old
+  refusals =
+      new-refusal from to read-from read-to old new same limit-same
+      ∙ ap (λ (row : ℕ → ℕ). before23 old (row (totalRefusal (planIn old)))) row23-same
+      ∙ sym (old-refusal from to read-from read-to old new same limit-same)
 
   verdicts : judge new ≡ verdictWith to (judge old)
   unfolding judge
-  verdicts = rw (refusals, plans) (go (refusal old))
+  verdicts = rw (refusals, plans from to read-from read-to old new same limit-same) (go (refusal old))
     where
       go : (code : ℕ) → verdict code (withVersion to (planIn old)) ≡ verdictWith to (verdict code (planIn old))
       go zero = refl
@@ -220,6 +257,74 @@ module _ (to : ℕ) (old new : List ℕ) (e : judge new ≡ verdictWith to (judg
       }
 
 pub versions : Versions
-versions from to read-from read-to old new same limit-same =
-    same-answers to old new (verdicts from to read-from read-to old new same limit-same)
+versions from to read-from read-to old new same limit-same row23-same =
+    same-answers to old new (verdicts from to read-from read-to old new same limit-same row23-same)
     (λ p a. plan-limit from to read-from read-to old new same limit-same p (accepted-laws old p a .held))
+
+-- ── VersionsApart ────────────────────────────────────────────────────────────────────────────────
+-- Rows that pass whatever the later ones say on, or that give the code of a row before 23.
+abbrev Rows : (ℕ → ℕ) → Type 0
+Rows rows = ((later : ℕ) → rows later ≡ later) ⊎ ((code : ℕ) × (PastRow23 code → ⊥) × ((later : ℕ) → rows later ≡ code))
+
+not-past : (code : ℕ) → 1 ≤ code → (code ≤ 9) ⊎ (12 ≤ code) → PastRow23 code → ⊥
+not-past code some (inl l) (inl e) = omega (arith, e)
+not-past code some (inl l) (inr (inl e)) = omega (arith, e)
+not-past code some (inl l) (inr (inr e)) = omega (arith, e)
+not-past code some (inr l) (inl e) = omega (arith, e)
+not-past code some (inr l) (inr (inl e)) = omega (arith, e)
+not-past code some (inr l) (inr (inr e)) = omega (arith, e)
+
+row-then : (t : Bool) (code : ℕ) → 1 ≤ code → (code ≤ 9) ⊎ (12 ≤ code) → (rows : ℕ → ℕ) → Rows rows → Rows (λ later. refuseIf t code (rows later))
+row-then true code some early rows h = inr (code, not-past code some early, λ later. refl)
+row-then false code some early rows h = h
+
+found-then : (found : ℕ) → (found ≤ 9) ⊎ (12 ≤ found) → (rows : ℕ → ℕ) → Rows rows → Rows (λ later. orElse found (rows later))
+found-then zero early rows h = h
+found-then (suc found) early rows h = inr (suc found, not-past (suc found) (omega arith) early, λ later. refl)
+
+rows-before23 : (bytes : List ℕ) → Rows (before23 bytes)
+unfolding check2 check4 check22 check5
+rows-before23 bytes =
+    let r = racksIn bytes in
+    let s = rackSizeIn bytes in
+    let f = feedsIn bytes in
+    let c = capacityIn bytes in
+    let p = planIn bytes in
+    row-then (not (eqb (markIn bytes) mark)) 2 (lit≤ tt) (inl (lit≤ tt)) _
+    (row-then (eqb r 0 || eqb s 0 || ltb maxMachines (r * s)) 4 (lit≤ tt) (inl (lit≤ tt)) _
+    (row-then (eqb f 0 || not (eqb (r % f) 0)) 22 (lit≤ tt) (inr (lit≤ tt)) _
+    (row-then (eqb c 0 || ltb maxCapacity c) 5 (lit≤ tt) (inl (lit≤ tt)) _
+    (row-then (ltb maxBlocks (blockCountIn bytes)) 6 (lit≤ tt) (inl (lit≤ tt)) _
+    (found-then (blocksRefusal p) (inl (blocksRefusal-le p)) _
+    (found-then (pairsRefusal p) (pairs (pairsRefusal-cases p)) _
+    (inl (λ later. refl))))))))
+  where
+    pairs : (pairsRefusal (planIn bytes) ≡ 17) ⊎ (pairsRefusal (planIn bytes) ≡ 0) → (pairsRefusal (planIn bytes) ≤ 9) ⊎ (12 ≤ pairsRefusal (planIn bytes))
+    pairs (inl e) = inr (omega (arith, e))
+    pairs (inr e) = inl (omega (arith, e))
+
+-- the codes of rows 10 and 11
+total-past : (p : Plan) → PastRow23 (totalRefusal p)
+total-past p = ⊎-elim (λ over. ⊎-elim inl (λ e. inr (inl e)) (over .0)) (λ e. inr (inr e)) (total-cases p)
+
+pub versions-apart : VersionsApart
+versions-apart from read-from early old new same limit-same above = go (rows-before23 old)
+  where
+    read-to : Described 4
+    read-to = record { version-pos = omega arith; version-max = omega arith }
+
+    was : refusal old ≡ before23 old (totalRefusal (planIn old))
+    was = old-refusal from 4 read-from read-to old new same limit-same ∙ ap (before23 old) (check23-early from _ _ _ early)
+
+    is : refusal new ≡ before23 old 23
+    is = new-refusal from 4 read-from read-to old new same limit-same ∙ ap (before23 old) (check23-above 4 _ _ _ (omega arith) above)
+
+    go : Rows (before23 old) → TurnedBack old new
+    go (inl pass) =
+        let passed : PastRow23 (refusal old) = subst PastRow23 (sym (was ∙ pass _)) (total-past (planIn old)) in
+        record { earlier = λ not. absurd (not passed); later = λ past. is ∙ pass 23 }
+    go (inr (code, early-code, rows)) =
+        record {
+          earlier = λ not. is ∙ rows 23 ∙ sym (was ∙ rows _);
+          later = λ past. absurd (early-code (subst PastRow23 (was ∙ rows _) past));
+        }

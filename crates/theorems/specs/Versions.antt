@@ -1,11 +1,11 @@
--- Document 02, U1 and U4 to U6: plans of two versions with the same fields are equal but for the version, and what a call answers goes by
--- the version's most copies alone: where both versions allow as many, all calls answer the same.
+-- Document 02, U1 and U4 to U7: plans of two versions with the same fields are equal but for the version, and what a call answers goes by
+-- the version's most copies and by row 23 alone: where these say the same of both versions, all calls answer the same.
 use mathlib.Core.Path.{_≡_}
 use mathlib.Core.List.{List}
 use Prim.Native.Nat.{ℕ, _*_, _<_, _≤_, min}
 use lib.ListN.{length}
-use Rattle.model.specs.Plan.{Plan, machines, maxReplicas, markIn, versionIn, racksIn, rackSizeIn, feedsIn, capacityIn, budgetIn, blockCountIn, latestVersion, formatOf, recordAt, blockIn}
-use Rattle.model.specs.Refusal.{Verdict, refused, accepted, judge}
+use Rattle.model.specs.Plan.{Plan, machines, places, maxReplicas, markIn, versionIn, racksIn, rackSizeIn, feedsIn, capacityIn, budgetIn, blockCountIn, latestVersion, formatOf, recordAt, blockIn}
+use Rattle.model.specs.Refusal.{check23, refusal, Verdict, refused, accepted, judge}
 use Rattle.model.specs.Replication.{chosen}
 use Rattle.model.specs.Placement.{firstPlacement}
 use Rattle.model.specs.Steps.{nextStep, run}
@@ -13,6 +13,7 @@ use Rattle.model.specs.Calls.{countsCall, firstCall, checkCall, reportCall, ste
 use Rattle.model.specs.Listing.{listingOf, printed}
 use Rattle.model.specs.Writing.{planBytes}
 use Rattle.model.specs.Conversion.{withVersion}
+use Rattle.theory.specs.Refusal.{PastRow23}
 use Rattle.theory.specs.Writing.{AreBytes}
 
 -- The verdict that accepts the same plan in another version.
@@ -24,11 +25,18 @@ verdictWith version (accepted p) = accepted (withVersion version p)
 abbrev pub SameLimit : ℕ → ℕ → ℕ → Type 0
 SameLimit from to machines = min (maxReplicas to) machines ≡ min (maxReplicas from) machines
 
--- Versions 1 and 2 do on any number of machines, versions 3 and 4, too, and all versions on up to 8.
+-- Row 23 says the same of a budget in both versions.
+abbrev pub SameRow23 : ℕ → ℕ → ℕ → ℕ → Type 0
+SameRow23 from to room budget = check23 to room budget ≡ check23 from room budget
+
+-- Versions 1 and 2 allow as many copies on any number of machines, versions 3 and 4, too, and all versions on up to 8. Row 23 says the same
+-- of any budget in versions before 4, and in all versions of a budget that can be used.
 pub record Limits : Type 0 where
   pub early : (machines : ℕ) → SameLimit 1 2 machines
   pub later : (machines : ℕ) → SameLimit 4 3 machines
   pub few : (from to machines : ℕ) → machines ≤ 8 → SameLimit from to machines
+  pub unjudged : (from to room budget : ℕ) → from < 4 → to < 4 → SameRow23 from to room budget
+  pub usable : (from to room budget : ℕ) → budget ≤ room → SameRow23 from to room budget
 
 -- What a plan says is the same in another version.
 pub record VersionFree (version : ℕ) (p : Plan) : Type 0 where
@@ -78,15 +86,41 @@ abbrev pub Versions : Type 0
 Versions =
     (from to : ℕ) → Described from → Described to → (old new : List ℕ) → SameFields from to old new
     → SameLimit from to (racksIn old * rackSizeIn old)
+    → SameRow23 from to (racksIn old * rackSizeIn old * capacityIn old) (budgetIn old)
     → SameAnswers to old new
 
--- Every accepted version 4 plan with F = R has an accepted version 3 twin: a plan that is equal but for the version, and on which every call
--- answers the same, counts, first placement, steps and listing among them.
-pub record Twin (bytes : List ℕ) (p : Plan) : Type 0 where
-  pub accepts : judge (planBytes (withVersion 3 p)) ≡ accepted (withVersion 3 p)
-  pub same : SameAnswers 3 bytes (planBytes (withVersion 3 p))
+-- Where row 23 does not say the same: a version before 4, version 4, and a budget above M × C. A refusal by a row before 23 stays, and
+-- whatever else was answered, acceptance too, becomes 23.
+pub record TurnedBack (old new : List ℕ) : Type 0 where
+  pub earlier : (PastRow23 (refusal old) → ⊥) → refusal new ≡ refusal old
+  pub later : PastRow23 (refusal old) → refusal new ≡ 23
 
+abbrev pub VersionsApart : Type 0
+VersionsApart =
+    (from : ℕ) → Described from → from < 4 → (old new : List ℕ) → SameFields from 4 old new
+    → SameLimit from 4 (racksIn old * rackSizeIn old)
+    → racksIn old * rackSizeIn old * capacityIn old < budgetIn old
+    → TurnedBack old new
+
+-- The twin of an accepted plan in another version: a plan that is accepted, is equal but for the version, and on which every call answers
+-- the same, counts, first placement, steps and listing among them.
+pub record Twin (version : ℕ) (bytes : List ℕ) (p : Plan) : Type 0 where
+  pub accepts : judge (planBytes (withVersion version p)) ≡ accepted (withVersion version p)
+  pub same : SameAnswers version bytes (planBytes (withVersion version p))
+
+-- Every accepted version 4 plan with F = R has a version 3 twin.
 abbrev pub Twins : Type 0
 Twins =
     (bytes : List ℕ) → AreBytes bytes → (p : Plan) → judge bytes ≡ accepted p → p .version ≡ 4 → p .feeds ≡ p .racks
-    → Twin bytes p
+    → Twin 3 bytes p
+
+-- The converse fails exactly by 23: an accepted version 3 plan has a version 4 twin, with F = R, where its budget can be used, and
+-- otherwise that file is refused 23.
+pub record LaterTwin (bytes : List ℕ) (p : Plan) : Type 0 where
+  pub usable : p .budget ≤ places p → Twin 4 bytes p
+  pub unusable : places p < p .budget → judge (planBytes (withVersion 4 p)) ≡ refused 23
+
+abbrev pub LaterTwins : Type 0
+LaterTwins =
+    (bytes : List ℕ) → AreBytes bytes → (p : Plan) → judge bytes ≡ accepted p → p .version ≡ 3
+    → LaterTwin bytes p
