@@ -1,20 +1,21 @@
-//! Damaged plans (rows 1 to 11, 17 and 22) and damaged placements (rows 13 to 16, and 18).
+//! Damaged plans (rows 1 to 11, 17, 22 and 23) and damaged placements (rows 13 to 16, and 18).
 
 use crate::gen::{draft, filled, placement, Draft, Record, Rng, Size};
 use crate::placement::{broken_rows, copies_of, held_by, holds};
 use crate::plan::{most_copies, Plan};
 
-/// The rows for a plan of version 4, in the order of the checks.
-pub const PLAN_ROWS: [u8; 13] = [1, 2, 3, 4, 22, 5, 6, 7, 8, 9, 17, 10, 11];
+/// The rows for a plan of any version, in the order of the checks. In version 4 a plan that breaks 11 breaks 23 or 10, too,
+/// so that 11 is never given.
+pub const PLAN_ROWS: [u8; 14] = [1, 2, 3, 4, 22, 5, 6, 7, 8, 9, 17, 23, 10, 11];
 
 /// Those for a plan of version 2 or 3. Row 17 refuses none of version 1.
 pub const ROWS_BEFORE_FEEDS: [u8; 12] = [1, 2, 3, 4, 5, 6, 7, 8, 9, 17, 10, 11];
 
-/// A row that may refuse a plan of this version.
+/// A row that a plan of this version may break.
 pub fn any_row(rng: &mut Rng, version: u16) -> u8 {
     let since = |row: u8| match row {
         17 => 2,
-        22 => 4,
+        22 | 23 => 4,
         _ => 1,
     };
     let rows = PLAN_ROWS.into_iter();
@@ -22,8 +23,8 @@ pub fn any_row(rng: &mut Rng, version: u16) -> u8 {
     rng.one_of(&rows)
 }
 
-/// The plan file with one more flaw, that of the given row (1 to 11, 17 from version 2 on, and 22 in version 4). Rows that
-/// need a record are left out of a file that has none.
+/// The plan file with one more flaw, that of the given row (1 to 11, 17 from version 2 on, 22 and 23 in version 4). Rows
+/// that need a record are left out of a file that has none.
 pub fn flawed(rng: &mut Rng, mut bytes: Vec<u8>, row: u8) -> Vec<u8> {
     let above = above_most(&bytes);
     let later = header_length(&bytes) - 15;
@@ -48,6 +49,7 @@ pub fn flawed(rng: &mut Rng, mut bytes: Vec<u8>, row: u8) -> Vec<u8> {
         9 => flaw_record(rng, &mut bytes, 1, &[0, above, 65, 255]),
         10 => set(&mut bytes, 9 + later, &rng.one_of(&[[0; 4], [0, 0, 0, 1]])),
         17 => flaw_record(rng, &mut bytes, 2, &[2, 3, 128, 255]),
+        23 => flaw_budget(rng, &mut bytes),
         _ => {
             set(&mut bytes, 5, &[1, 1, 1]);
             set(&mut bytes, 7 + later, &[0, 1]);
@@ -102,6 +104,27 @@ fn flaw_feeds(rng: &mut Rng, bytes: &mut [u8]) {
         1 if !between.is_empty() => rng.one_of(&between),
         _ => rng.from_to(u64::from(racks.min(254)) + 1, 255) as u8,
     };
+}
+
+/// A budget above so many places: one above, the largest, or any.
+fn above(rng: &mut Rng, places: u64) -> u32 {
+    let most = u64::from(u32::MAX);
+    let budget = match rng.below(3) {
+        0 => places + 1,
+        1 => most,
+        _ => rng.from_to(places + 1, most),
+    };
+    budget as u32
+}
+
+/// A budget that row 23 refuses, in a file of version 4.
+fn flaw_budget(rng: &mut Rng, bytes: &mut [u8]) {
+    if header_length(bytes) == 15 || bytes.len() < 10 {
+        return;
+    }
+    let capacity = u16::from_be_bytes([bytes[8], bytes[9]]);
+    let places = u64::from(bytes[5]) * u64::from(bytes[6]) * u64::from(capacity);
+    set(bytes, 10, &above(rng, places).to_be_bytes());
 }
 
 /// The version of this file if it has one of less than 256, otherwise 1.
@@ -171,7 +194,7 @@ pub fn over_budget(rng: &mut Rng, size: Size) -> Option<Draft> {
     Some(draft)
 }
 
-/// A full plan, with one block more than the machines can hold: row 11.
+/// A full plan, with one block more than the machines can hold: row 11, in version 4 row 23.
 pub fn over_capacity(rng: &mut Rng, size: Size) -> Draft {
     let mut draft = filled(rng, size);
     draft.records.push(Record {
@@ -181,6 +204,32 @@ pub fn over_capacity(rng: &mut Rng, size: Size) -> Draft {
         pair: 0,
     });
     draft.budget = draft.least_sum() as u32 + rng.below(3) as u32;
+    draft
+}
+
+/// The same with more blocks, and a budget above M × C that is too small for their least copies: row 10, in version 4 row
+/// 23, which comes first.
+pub fn over_both(rng: &mut Rng, size: Size) -> Draft {
+    let mut draft = over_capacity(rng, size);
+    let last = *draft.records.last().expect("the block too many");
+    let more = rng.from_to(1, 3) as usize;
+    draft.records.extend(vec![last; more]);
+    draft.budget = rng.from_to(draft.places() + 1, draft.least_sum() - 1) as u32;
+    draft
+}
+
+/// A plan that the checks accept but for its budget, which is one below M × C, at it, one above or any above. In version
+/// 4 row 23 refuses it above; where the least copies fill the machines, row 10 refuses it below.
+pub fn near_places(rng: &mut Rng, size: Size) -> Draft {
+    let mut draft = match rng.below(3) {
+        0 => filled(rng, size),
+        _ => draft(rng, size),
+    };
+    let places = draft.places();
+    draft.budget = match rng.below(4) {
+        3 => above(rng, places),
+        more => (places + more - 1) as u32,
+    };
     draft
 }
 
@@ -201,7 +250,7 @@ pub fn two_records(rng: &mut Rng, size: Size, least_first: bool) -> Option<Draft
 }
 
 /// An accepted plan with a spread above R, in version 4 above F, that is not above the block's least copies: row 9.
-pub fn over_racks(rng: &mut Rng, size: Size) -> Option<Draft> {
+pub fn over_feeds(rng: &mut Rng, size: Size) -> Option<Draft> {
     let mut draft = draft(rng, size);
     let feeds = draft.feeds();
     if draft.records.is_empty()
@@ -286,7 +335,8 @@ pub fn mispaired(rng: &mut Rng, size: Size, how: Mispairing) -> Option<Draft> {
     if number < 3 || draft.machines() < 2 {
         return None;
     }
-    (draft.capacity, draft.budget) = (1024, u32::MAX);
+    draft.capacity = 1024;
+    draft.budget = draft.usable(u32::MAX.into());
     let i = rng.below(number as u64 - 2) as usize;
     match how {
         Mispairing::Neither => draft.records[i].pair = rng.from_to(2, 255) as u8,
@@ -316,12 +366,18 @@ pub fn with_block_flaw(rng: &mut Rng, mut draft: Draft, row: u8) -> Draft {
     draft
 }
 
-/// The plan with one more flaw of row 10 or 11; for the latter blocks come before the first.
+/// The plan with one more flaw of row 10, 11 or 23; for 11 blocks come before the first.
 pub fn with_sum_flaw(rng: &mut Rng, mut draft: Draft, row: u8) -> Draft {
-    if row == 10 {
-        draft.budget = rng.below(draft.least_sum()) as u32;
-        return draft;
+    match row {
+        10 => draft.budget = rng.below(draft.least_sum()) as u32,
+        23 => draft.budget = above(rng, draft.places()),
+        _ => fill_up(&mut draft),
     }
+    draft
+}
+
+/// Gives each machine one place, and the plan blocks before the first until they are too many.
+fn fill_up(draft: &mut Draft) {
     draft.capacity = 1;
     while draft.least_sum() <= draft.machines() {
         let record = Record {
@@ -332,7 +388,6 @@ pub fn with_sum_flaw(rng: &mut Rng, mut draft: Draft, row: u8) -> Draft {
         };
         draft.records.insert(0, record);
     }
-    draft
 }
 
 /// Sets a bit at or above M, in place of a copy or beside it.

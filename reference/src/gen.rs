@@ -68,6 +68,20 @@ impl Draft {
         u64::from(self.racks) * u64::from(self.per_rack)
     }
 
+    /// M × C, in full width.
+    pub fn places(&self) -> u64 {
+        self.machines() * u64::from(self.capacity)
+    }
+
+    /// This budget as the version can have it: in version 4 at most M × C, before it any.
+    pub fn usable(&self, budget: u64) -> u32 {
+        let most = match self.version {
+            4 => self.places(),
+            _ => u32::MAX.into(),
+        };
+        budget.min(most) as u32
+    }
+
     /// What a spread counts: feeds F, before version 4 racks R.
     pub fn feeds(&self) -> u8 {
         if self.version < 4 {
@@ -142,12 +156,22 @@ impl Draft {
         }
     }
 
-    /// The same plan in version 4 with so many feeds.
+    /// The same plan in version 4 with so many feeds, a budget above M × C lowered to it.
     pub fn fed(&self, feeds: u8) -> Draft {
-        Draft {
+        let mut draft = Draft {
             version: 4,
             feed_byte: feeds,
             ..self.wide()
+        };
+        draft.budget = draft.usable(draft.budget.into());
+        draft
+    }
+
+    /// The same plan with this budget, which its version may refuse.
+    pub fn with_budget(&self, budget: u32) -> Draft {
+        Draft {
+            budget,
+            ..self.clone()
         }
     }
 
@@ -375,10 +399,9 @@ fn capacity(rng: &mut Rng, draft: &Draft) -> u16 {
     wish.max(tight).min(1024) as u16
 }
 
-/// A budget with room for all least copies: at the edges and between.
+/// A budget with room for all least copies that the version can have: at the edges and between.
 fn budget(rng: &mut Rng, draft: &Draft) -> u32 {
-    let least = draft.least_sum();
-    let places = draft.machines() * u64::from(draft.capacity);
+    let (least, places) = (draft.least_sum(), draft.places());
     let number = draft.records.len() as u64;
     let wish = match rng.below(8) {
         0 => least,
@@ -389,7 +412,7 @@ fn budget(rng: &mut Rng, draft: &Draft) -> u32 {
         5 => u64::from(u32::MAX),
         _ => least + rng.below(2 * number + 2),
     };
-    wish.max(least) as u32
+    draft.usable(wish.max(least))
 }
 
 /// A plan that the checks accept.
@@ -431,7 +454,7 @@ pub fn filled(rng: &mut Rng, size: Size) -> Draft {
         records: Vec::new(),
     };
     draft.records = records(rng, &draft, size, 1024, machines * capacity);
-    draft.budget = draft.least_sum() as u32 + rng.one_of(&[0, 1, 1000]);
+    draft.budget = draft.usable(draft.least_sum() + rng.one_of(&[0, 1, 1000]));
     draft
 }
 

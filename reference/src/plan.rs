@@ -1,4 +1,4 @@
-//! The plan file, and why a plan is turned back (refusals 1 to 11, 17 and 22).
+//! The plan file, and why a plan is turned back (refusals 1 to 11, 17, 22 and 23).
 
 /// The number of a row in the table of refusals.
 pub type Refusal = u8;
@@ -82,10 +82,14 @@ impl Plan {
         most.min(most_copies(self.version))
     }
 
-    /// The most copies of all blocks together: the smaller of budget and M × C.
+    /// M × C: the copies that the machines can hold.
+    pub fn places(&self) -> u64 {
+        self.machines() as u64 * self.capacity as u64
+    }
+
+    /// The most copies of all blocks together: the smaller of budget and M × C. Version 4 has no larger budget.
     pub fn limit(&self) -> u64 {
-        self.budget
-            .min(self.machines() as u64 * self.capacity as u64)
+        self.budget.min(self.places())
     }
 
     /// The sum of least copies.
@@ -217,15 +221,17 @@ pub fn read(bytes: &[u8]) -> Result<Plan, Refusal> {
     read_of(bytes, &[1, 2, 3, 4])
 }
 
-/// Reads a plan of one of these versions; all others are refused 3.
+/// Reads a plan of one of these versions; all others are refused 3. After rows 8 and 9 of all blocks come 17, 23, 10 and
+/// 11. Row 23 is for version 4 alone, and leaves 11 none of its plans.
 pub fn read_of(bytes: &[u8], versions: &[u64]) -> Result<Plan, Refusal> {
     let plan = read_header(bytes, versions)?;
     for i in 0..plan.blocks.len() {
         judge_block(&plan, i)?;
     }
     refuse_if(mispaired(&plan), 17)?;
+    let places = plan.places();
+    refuse_if(plan.version == 4 && plan.budget > places, 23)?;
     refuse_if(plan.least_sum() > plan.budget, 10)?;
-    let places = plan.machines() as u64 * plan.capacity as u64;
     refuse_if(plan.least_sum() > places, 11)?;
     Ok(plan)
 }

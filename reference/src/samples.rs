@@ -41,7 +41,7 @@ pub fn h() -> Draft {
 
 /// Plan H with another budget.
 pub fn h_budget(budget: u32) -> Draft {
-    Draft { budget, ..h() }
+    h().with_budget(budget)
 }
 
 /// The example of row 11, with a capacity to choose.
@@ -242,6 +242,12 @@ pub fn largest_grown() -> Draft {
 /// copies, and in version 3 nine.
 pub fn calibration() -> Draft {
     plan_of((3, 3), 1, 9, &[(7, 1, 1)])
+}
+
+/// A budget of more copies than there are places: four machines with a place each, and a budget of nine. It gets counts
+/// 3, 1 in versions 1 to 3; version 4 refuses the budget, and gives the same with four.
+pub fn over_places() -> Draft {
+    plan_of((2, 2), 1, 9, &[(9, 1, 1), (2, 1, 1)])
 }
 
 /// Plan H in version 4, each of its two racks on a feed of its own, byte for byte.

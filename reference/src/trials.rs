@@ -1,6 +1,8 @@
 //! The stored trials: the specification's plans and examples first, generated ones after them; then the same for
-//! version 2, for reads, for version 3, for the converter, for the most copies of a block, and for version 4.
+//! version 2, for reads, for version 3, for the converter, for the most copies of a block, for version 4, and for budgets
+//! about M × C.
 
+mod budgets;
 mod conversions;
 mod copies;
 mod feeds;
@@ -8,7 +10,7 @@ mod pairs;
 mod reads;
 mod wide;
 
-use crate::damage::{broken, flawed, over_budget, over_capacity, over_racks, two_records};
+use crate::damage::{broken, flawed, over_budget, over_capacity, over_feeds, two_records};
 use crate::damage::{PLAN_ROWS, ROWS_BEFORE_FEEDS};
 use crate::gen::*;
 use crate::plan::{read, Plan};
@@ -244,7 +246,7 @@ fn damaged_at(w: &mut Writer, rng: &mut Rng, good: &[u8], rows: &[u8]) {
 /// Plans with blocks of rows 8 and 9 in this order or the other first, and plans of rows 10, 9 and 11.
 fn at_fault(rng: &mut Rng, size: Size, least_first: bool) -> Vec<Draft> {
     let two = [least_first, !least_first].map(|first| two_records(rng, size, first));
-    let over = [over_budget(rng, size), over_racks(rng, size)];
+    let over = [over_budget(rng, size), over_feeds(rng, size)];
     let all = two.into_iter().chain(over).flatten();
     let mut drafts: Vec<Draft> = all.collect();
     drafts.push(over_capacity(rng, size));
@@ -484,6 +486,7 @@ pub fn stream() -> Vec<u8> {
     conversions::all(&mut w, &mut Rng::new(5));
     copies::all(&mut w, &mut Rng::new(6));
     feeds::all(&mut w, &mut Rng::new(7));
+    budgets::all(&mut w, &mut Rng::new(8));
     w.calls("E");
     w.bytes
 }

@@ -456,14 +456,121 @@ fn the_place_of_row_twenty_two() {
             ((20, 5), 8),
             ((21, 3), 9),
             ((22, 2), 17),
+            ((13, 13), 23),
             ((13, 5), 10),
         ] {
             assert_eq!(with(&[later]), Some(row));
             assert_eq!(with(&[wrong, later]), Some(22));
         }
     }
-    assert_eq!(plan_row(&row_eleven(1).fed(1)), Some(11));
+    assert_eq!(plan_row(&row_eleven(1).fed(1)), Some(10));
     assert_eq!(plan_row(&row_eleven(1).fed(2)), Some(22));
+}
+
+/// Row 23: a budget above M × C, in version 4 alone. The versions before it take the smaller of both.
+#[test]
+fn row_twenty_three() {
+    for (budget, row) in [
+        (11, None),
+        (12, None),
+        (13, Some(23)),
+        (1 << 16, Some(23)),
+        (u32::MAX, Some(23)),
+    ] {
+        assert_eq!(plan_row(&h().fed(2).with_budget(budget)), row);
+        for draft in [h(), h().unpaired(), h().wide()] {
+            let draft = draft.with_budget(budget);
+            assert_eq!(enter_plan(&draft.bytes()).unwrap().budget, budget.into());
+            if row.is_some() {
+                let listing = text(&draft.with_budget(12).bytes(), 100_000);
+                assert_eq!(text(&draft.bytes(), 100_000), listing);
+            }
+        }
+    }
+    for machines in 1..=64 {
+        for capacity in [1, 2, 255, 256, 1023, 1024] {
+            let hall = plan_of((1, machines), capacity, 0, &[]);
+            let places = u32::from(machines) * u32::from(capacity);
+            for (budget, row) in [
+                (places - 1, None),
+                (places, None),
+                (places + 1, Some(23)),
+                (places + (1 << 16), Some(23)),
+                (u32::MAX, Some(23)),
+            ] {
+                assert_eq!(plan_row(&hall.fed(1).with_budget(budget)), row);
+                assert_eq!(plan_row(&hall.wide().with_budget(budget)), None);
+            }
+        }
+    }
+}
+
+/// Row 23 after all others but 10 and 11.
+#[test]
+fn row_twenty_three_after_seventeen() {
+    for budget in [13, u32::MAX] {
+        let wrong = k().fed(2).with_budget(budget).bytes();
+        assert_eq!(enter_plan(&wrong).err(), Some(23));
+        for (at, byte, row) in [
+            (0, 0, 2),
+            (4, 5, 3),
+            (5, 0, 4),
+            (7, 0, 22),
+            (7, 3, 22),
+            (9, 0, 5),
+            (14, 4, 6),
+            (15, 5, 7),
+            (20, 5, 8),
+            (41, 5, 8),
+            (21, 3, 9),
+            (42, 3, 9),
+            (22, 2, 17),
+            (43, 1, 17),
+            (26, 11, 17),
+        ] {
+            let mut bytes = wrong.clone();
+            bytes[at] = byte;
+            assert_eq!(enter_plan(&bytes).err(), Some(row));
+        }
+        assert_eq!(enter_plan(&wrong[..14]).err(), Some(1));
+        assert_eq!(enter_plan(&wrong[..15]).err(), Some(7));
+        assert_eq!(enter_plan(&wrong[..43]).err(), Some(7));
+    }
+}
+
+/// Row 23 before 10 and 11, on two places with five blocks of one copy. Version 4 is never refused 11.
+#[test]
+fn row_twenty_three_before_ten() {
+    let five = plan_of((1, 2), 1, 0, &[(1, 1, 1); 5]);
+    for (budget, before, now) in [
+        (0, 10, 10),
+        (2, 10, 10),
+        (3, 10, 23),
+        (4, 10, 23),
+        (5, 11, 23),
+        (u32::MAX, 11, 23),
+    ] {
+        for draft in [five.clone(), five.unpaired(), five.wide()] {
+            assert_eq!(plan_row(&draft.with_budget(budget)), Some(before));
+        }
+        assert_eq!(plan_row(&five.fed(1).with_budget(budget)), Some(now));
+    }
+}
+
+/// A budget that cannot be used: where every machine has one place, versions 1 to 3 share out as many copies as machines.
+#[test]
+fn the_smaller_of_budget_and_places() {
+    for budget in [4, 5, 9, u32::MAX] {
+        let draft = over_places().with_budget(budget);
+        for draft in [draft.clone(), draft.unpaired(), draft.wide()] {
+            let plan = draft.plan().unwrap();
+            assert_eq!(chosen(&plan), [3, 1]);
+            assert_eq!(first(&plan), [0b0111, 0b1000]);
+        }
+        let version_4 = draft.fed(1).with_budget(budget);
+        assert_eq!(plan_row(&version_4), (budget > 4).then_some(23));
+        assert_eq!(chosen(&draft.fed(1).plan().unwrap()), [3, 1]);
+    }
 }
 
 /// A file of version 4 in 15 bytes lacks the last byte of the number of blocks: it passes 6 and gets 7, whatever the byte
@@ -601,6 +708,7 @@ fn refusals_of_the_converter() {
         &K_4,
         &H_4[..15],
         &h().fed(0).bytes(),
+        &h().fed(2).with_budget(13).bytes(),
         &plan_of((0, 0), 0, 0, &[]).fed(0).bytes(),
     ] {
         assert_eq!(convert_row(bytes, 99), Some(3));
@@ -620,6 +728,9 @@ fn refusals_of_the_converter() {
     assert_eq!(convert_row(&row_eleven(1).bytes(), 28), Some(11));
     assert_eq!(convert_row(&row_eleven(2).bytes(), 28), Some(12));
     assert_eq!(convert_row(&row_eleven(2).bytes(), 29), None);
+    let above = h_budget(13).bytes();
+    assert_eq!(convert_row(&above, 35), Some(12));
+    assert_eq!(converted(&above).unwrap(), h_budget(13).wide().bytes());
 }
 
 fn step(kind: Kind, m: usize, n: usize, i: usize, j: Option<usize>) -> Step {

@@ -1,5 +1,6 @@
 //! Histories of reads: the claim over any sequence of calls from an empty list, and what the random histories meet.
 
+use placement_reference::damage::PLAN_ROWS;
 use placement_reference::gen::Rng;
 use placement_reference::histories::{history, manner, Caller, Event, Manner};
 use placement_reference::plan::{read, Plan, Refusal};
@@ -66,7 +67,7 @@ impl Record {
 
 /// Plays a history from an empty list, and holds every answer, and the list after every call, against the true times.
 /// Counts the answers by their refusals, 0 for none.
-fn claimed(events: &[Event], met: &mut [u64; 23]) {
+fn claimed(events: &[Event], met: &mut [u64; 24]) {
     let (mut caller, mut record) = (Caller::default(), Record::default());
     for event in events {
         let before = caller.clone();
@@ -105,7 +106,7 @@ fn claimed(events: &[Event], met: &mut [u64; 23]) {
 /// Each block's entries are its accepted reads in the window at every accepted tick since.
 #[test]
 fn entries_are_the_accepted_reads_in_the_window() {
-    let mut met = [0; 23];
+    let mut met = [0; 24];
     for case in 0..20_000 {
         let rng = &mut Rng::new(case);
         let manner = Manner {
@@ -123,7 +124,7 @@ fn entries_are_the_accepted_reads_in_the_window() {
 /// The same where a whole list is filled, of 4,096 records and of more.
 #[test]
 fn entries_of_a_whole_list() {
-    let mut met = [0; 23];
+    let mut met = [0; 24];
     for room in [MOST_ENTRIES, 4200] {
         let mut events = vec![
             Event::Plan(K.to_vec()),
@@ -145,7 +146,7 @@ fn entries_of_a_whole_list() {
 /// The random histories meet every row, entries dropped and kept, and lists and counts of every kind.
 #[test]
 fn random_histories_meet_everything() {
-    let (mut rows, mut dropped, mut over, mut longer) = ([0; 23], 0, 0, 0);
+    let (mut rows, mut dropped, mut over, mut longer) = ([0; 24], 0, 0, 0);
     for case in 0..3000 {
         let rng = &mut Rng::new(case);
         let manner = manner(rng);
@@ -166,7 +167,10 @@ fn random_histories_meet_everything() {
             }
         }
     }
-    for row in [0, 1, 2, 3, 4, 22, 5, 6, 7, 8, 9, 17, 10, 11, 19, 20, 21] {
+    for row in [0, 19, 20, 21]
+        .into_iter()
+        .chain(PLAN_ROWS.map(usize::from))
+    {
         assert!(rows[row] > 0, "{rows:?}");
     }
     assert!(

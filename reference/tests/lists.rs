@@ -133,7 +133,8 @@ fn lists(seed: u64, number: u64, size: Size) {
     for _ in 0..number {
         let draft = draft(rng, size);
         let (bytes, plan) = (draft.bytes(), draft.plan().expect("an accepted plan"));
-        let other = over_capacity(rng, TINY).bytes();
+        let version = size.version;
+        let other = over_capacity(rng, Size { version, ..TINY }).bytes();
         let list = calls(rng, &bytes, &other, plan.blocks.len());
         let mut words = leaning(rng, &plan);
         let replies = play(&list, &mut words);

@@ -262,27 +262,42 @@ fn bound_at_rest_by_brute_force() {
     }
 }
 
+/// The plan with room for all least copies, whatever its capacity and budget.
+fn roomy(draft: &Draft) -> Draft {
+    let mut roomy = draft.clone();
+    roomy.capacity = 1024;
+    roomy.budget = roomy.usable(u32::MAX.into());
+    roomy
+}
+
+/// A budget above M × C says nothing of lawful placements: the plan that 23 refuses is looked at with M × C for it.
 fn ten_and_eleven(seed: u64, drawn: impl Fn(&mut Rng) -> Draft) {
     let mut rng = Rng::new(seed);
-    let mut refused = [0; 12];
+    let (mut refused, mut version) = ([0; 24], 0);
     for _ in 0..600 {
         let mut draft = drawn(&mut rng);
         draft.capacity = rng.from_to(1, 2) as u16;
         draft.budget = rng.below(14) as u32;
-        let mut roomy = draft.clone();
-        (roomy.capacity, roomy.budget) = (1024, u32::MAX);
-        let mut plan = roomy.plan().expect("accepted");
+        let mut plan = roomy(&draft).plan().expect("accepted");
         (plan.capacity, plan.budget) = (draft.capacity.into(), draft.budget.into());
-        let verdict = read(&draft.bytes());
+        let mut verdict = read(&draft.bytes());
+        if verdict == Err(23) {
+            assert!(plan.version == 4 && plan.budget > plan.places());
+            refused[23] += 1;
+            verdict = read(&draft.fed(draft.feed_byte).bytes());
+        }
         assert_eq!(verdict.is_ok(), !all_placements(&plan).is_empty());
         if let Err(row) = verdict {
             refused[usize::from(row)] += 1;
         }
+        version = plan.version;
     }
-    assert!(refused[10] > 20 && refused[11] > 20, "{refused:?}");
+    let given = [10, 11, 23].map(|row: usize| refused[row] > 20);
+    assert_eq!(given, [true, version < 4, version == 4], "{refused:?}");
+    assert_eq!(refused[11] == 0, version == 4, "{refused:?}");
 }
 
-/// For plans past 17: no lawful placement exists exactly if 10 or 11 is given.
+/// For plans past 17 and 23: no lawful placement exists exactly if 10 or 11 is given, in version 4 exactly if 10 is.
 #[test]
 fn ten_and_eleven_are_exact() {
     ten_and_eleven(15, |rng| draft(rng, QUARTER));
@@ -294,7 +309,7 @@ fn ten_and_eleven_are_exact() {
 /// Random bytes, budgets and capacities over tiny plans of versions 2 to 4, whose feeds may be any too: the definition's
 /// own words, row by row.
 #[test]
-fn rows_8_to_11_17_and_22_of_any_bytes() {
+fn rows_8_to_11_17_22_and_23_of_any_bytes() {
     rows_of_any_bytes(19, PAIRED_QUARTER, 3, 14);
     rows_of_any_bytes(21, PAIRED_QUARTER.wide(), 3, 14);
     rows_of_any_bytes(28, ROOMY.paired(), 12, 50);
@@ -306,7 +321,7 @@ fn rows_8_to_11_17_and_22_of_any_bytes() {
 /// Least copies up to `most` and budgets below `budget`.
 fn rows_of_any_bytes(seed: u64, size: Size, most: u64, budget: u64) {
     let mut rng = Rng::new(seed);
-    let mut seen = [0; 23];
+    let mut seen = [0; 24];
     for _ in 0..60_000 {
         let mut draft = draft(&mut rng, size);
         draft.capacity = rng.from_to(1, 3) as u16;
@@ -329,10 +344,15 @@ fn rows_of_any_bytes(seed: u64, size: Size, most: u64, budget: u64) {
         assert_eq!(row, row_by_words(&draft));
         seen[usize::from(row)] += 1;
     }
-    for row in [0, 8, 9, 17, 10, 11] {
+    for row in [0, 8, 9, 17, 10] {
         assert!(seen[row] > 100, "{seen:?}");
     }
-    assert_eq!(seen[22] > 100, size.version == 4, "{seen:?}");
+    let (before, now) = match size.version {
+        4 => ([11, 11], [22, 23]),
+        _ => ([22, 23], [11, 11]),
+    };
+    assert_eq!(before.map(|row| seen[row]), [0, 0], "{seen:?}");
+    assert!(now.iter().all(|row| seen[*row] > 100), "{seen:?}");
 }
 
 /// The row of a plan whose header is in order but for its feeds, from its fields.
@@ -363,9 +383,14 @@ fn row_by_words(draft: &Draft) -> u8 {
             return 17;
         }
     }
+    let (budget, places) = (
+        u64::from(draft.budget),
+        machines * u64::from(draft.capacity),
+    );
     match draft.least_sum() {
-        sum if sum > u64::from(draft.budget) => 10,
-        sum if sum > machines * u64::from(draft.capacity) => 11,
+        _ if draft.version == 4 && budget > places => 23,
+        sum if sum > budget => 10,
+        sum if sum > places => 11,
         _ => 0,
     }
 }
@@ -391,7 +416,7 @@ fn first_row(rng: &mut Rng, size: Size, number: u64) {
             spread: 1,
             pair: 0,
         });
-        (plan.capacity, plan.budget) = (1024, u32::MAX);
+        let plan = roomy(&plan);
         let rows = match size.version {
             4 => &PLAN_ROWS[..8],
             _ => &ROWS_BEFORE_FEEDS[..7],
@@ -409,19 +434,40 @@ fn first_row(rng: &mut Rng, size: Size, number: u64) {
                 assert_eq!(read(&flawed(rng, plan.bytes(), a)), Err(a));
             }
         }
-        for (first, row) in [(true, 8), (false, 9)] {
-            let Some(two) = two_records(rng, size, first) else {
-                continue;
-            };
+        if size.version == 4 {
+            before_23(rng, &plan.bytes());
+        }
+        limits_in_order(rng, size);
+    }
+}
+
+/// Plans at fault with rows 8 and 9 in both orders, and with a limit of row 9, 10 or 11; in version 4 row 23 is first.
+fn limits_in_order(rng: &mut Rng, size: Size) {
+    for (first, row) in [(true, 8), (false, 9)] {
+        if let Some(two) = two_records(rng, size, first) {
             assert_eq!(read(&two.bytes()), Err(row));
         }
-        if let Some(over) = over_budget(rng, size) {
-            assert_eq!(read(&over.bytes()), Err(10));
-        }
-        if let Some(over) = over_racks(rng, size) {
-            assert_eq!(read(&over.bytes()), Err(9));
-        }
-        assert_eq!(read(&over_capacity(rng, size).bytes()), Err(11));
+    }
+    if let Some(over) = over_budget(rng, size) {
+        assert_eq!(read(&over.bytes()), Err(10));
+    }
+    if let Some(over) = over_feeds(rng, size) {
+        assert_eq!(read(&over.bytes()), Err(9));
+    }
+    let [above, both] = match size.version {
+        4 => [23, 23],
+        _ => [11, 10],
+    };
+    assert_eq!(read(&over_capacity(rng, size).bytes()), Err(above));
+    assert_eq!(read(&over_both(rng, size).bytes()), Err(both));
+}
+
+/// Row 23, alone and after each of the rows before it, of a plan of version 4 that has a block.
+fn before_23(rng: &mut Rng, good: &[u8]) {
+    let over = flawed(rng, good.to_vec(), 23);
+    assert_eq!(read(&over), Err(23));
+    for row in PLAN_ROWS.into_iter().take_while(|row| *row != 23) {
+        assert_eq!(read(&flawed(rng, over.clone(), row)), Err(row));
     }
 }
 
@@ -470,14 +516,14 @@ fn fifteen_bytes_of_version_4() {
             let flaw = flawed(&mut rng, good.clone(), row);
             assert_eq!(read(&cut_short(&mut rng, flaw)), Err(row));
         }
-        for row in [6, 7, 8, 9, 17, 10] {
+        for row in [6, 7, 8, 9, 17, 23, 10] {
             let flaw = flawed(&mut rng, good.clone(), row);
             assert_eq!(read(&cut_short(&mut rng, flaw)), Err(7));
         }
     }
 }
 
-/// Row 17 in each of its ways: alone, after a flaw of 8 or 9 at any block, before one of 10 or 11.
+/// Row 17 in each of its ways: alone, after a flaw of 8 or 9 at any block, before one of 10 or 11, and of 23.
 #[test]
 fn mispaired_plans_get_row_17() {
     let mut rng = Rng::new(20);
@@ -497,10 +543,14 @@ fn mispaired_plans_get_row_17() {
                 let two = with_block_flaw(&mut rng, alone.clone(), row);
                 assert_eq!(read(&two.bytes()), Err(row), "{how:?} {two:?}");
             }
-            for row in [10, 11] {
-                let two = with_sum_flaw(&mut rng, alone.clone(), row);
+            let later = match size.version {
+                4 => &[(10, 10), (11, 23), (23, 23)][..],
+                _ => &[(10, 10), (11, 11)],
+            };
+            for (flaw, row) in later {
+                let two = with_sum_flaw(&mut rng, alone.clone(), *flaw);
                 assert_eq!(read(&two.bytes()), Err(17), "{how:?} {two:?}");
-                assert_eq!(read(&two.unpaired().bytes()), Err(row));
+                assert_eq!(read(&two.unpaired().bytes()), Err(*row));
             }
         }
     }
@@ -646,6 +696,73 @@ fn same_everywhere(rng: &mut Rng, one: &Draft, other: &Draft) {
         let other = other.plan().expect("accepted");
         assert_eq!(check(&plan, &words), check(&other, &words));
     }
+}
+
+/// A budget above M × C in versions 1 to 3: all calls answer as with M × C, and so do those of version 4 with M × C and a
+/// feed for each rack.
+#[test]
+fn a_budget_above_the_places_is_cut() {
+    let mut rng = Rng::new(44);
+    let mut bound = [0; 3];
+    for (size, number) in [(TINY, 300), (SMALL, 300), (MEDIUM, 20)] {
+        for (k, size) in [size, size.paired(), size.wide()].into_iter().enumerate() {
+            for _ in 0..number {
+                let draft = near_places(&mut rng, size);
+                if u64::from(draft.budget) <= draft.places() {
+                    continue;
+                }
+                let cut = draft.with_budget(draft.places() as u32);
+                same_everywhere(&mut rng, &draft, &cut);
+                if size.version == 3 {
+                    same_everywhere(&mut rng, &draft, &draft.fed(draft.racks));
+                }
+                let plan = draft.plan().expect("accepted");
+                let endless = Plan {
+                    capacity: 1 << 40,
+                    ..plan.clone()
+                };
+                bound[k] += u64::from(chosen(&endless) != chosen(&plan));
+            }
+        }
+    }
+    assert!(bound.iter().all(|n| *n > 20), "{bound:?}");
+}
+
+/// An accepted plan of version 4 with a feed for each rack answers as the same plan in version 3. Conversely the version 4
+/// plan with the fields of an accepted one of version 3 answers alike, or 23 refuses it: exactly if the budget is above
+/// M × C.
+#[test]
+fn twins_but_for_the_budget() {
+    let mut rng = Rng::new(45);
+    let (mut alike, mut refused) = (0, [0; 24]);
+    for (size, number) in [(TINY, 300), (SMALL, 300), (MEDIUM, 20)] {
+        for k in 0..2 * number {
+            let size = [size.wide(), size.fed()][k % 2];
+            let drawn = near_places(&mut rng, size);
+            let fed = drawn.fed(drawn.racks).with_budget(drawn.budget);
+            let wide = drawn.wide();
+            let rows = [&wide, &fed].map(|draft| read(&draft.bytes()).err());
+            let over = u64::from(drawn.budget) > drawn.places();
+            match rows {
+                [None, None] => {
+                    assert!(!over);
+                    same_everywhere(&mut rng, &wide, &fed);
+                    alike += 1;
+                }
+                [row, Some(row_4)] => {
+                    assert_eq!(row_4 == 23, over);
+                    assert!(if over {
+                        row.is_none()
+                    } else {
+                        row == Some(row_4)
+                    });
+                    refused[usize::from(row_4)] += 1;
+                }
+                _ => panic!("{wide:?} is refused, in version 4 it is not"),
+            }
+        }
+    }
+    assert!(alike > 200 && refused[23] > 200 && refused[10] > 20);
 }
 
 /// The feeds of a block, counted as the document says: machine m is in rack m div S, rack r hangs on feed r mod F.

@@ -170,6 +170,7 @@ fn order_of_the_rows() {
         (H_4[..15].to_vec(), 7),
         (h().fed(3).bytes(), 22),
         (h().fed(1).bytes(), 9),
+        (h().fed(2).with_budget(13).bytes(), 23),
     ] {
         assert_eq!(refused_for(&bytes, 3, &full, 2, 0), row);
         assert_eq!(enter_popularity(&bytes, 3, &full, 2), Err(row));

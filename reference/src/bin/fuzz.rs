@@ -67,6 +67,21 @@ fn relabelled(version: &[u8], plan: &[u8]) -> Vec<u8> {
     [&version[..5], &plan[5..]].concat()
 }
 
+/// Plan H with a budget of all places and of one more, in versions 1, 3 and 4, and with the largest.
+fn budgets() -> Vec<Named> {
+    vec![
+        ("budget-above-the-places", h_budget(13).bytes()),
+        ("budget-above-in-version-3", h_budget(13).wide().bytes()),
+        ("budget-of-all-places", h().fed(2).with_budget(12).bytes()),
+        ("one-above-the-places", h().fed(2).with_budget(13).bytes()),
+        ("largest-budget", h().fed(2).with_budget(u32::MAX).bytes()),
+        (
+            "three-feeds-and-the-largest-budget",
+            h().fed(3).with_budget(u32::MAX).bytes(),
+        ),
+    ]
+}
+
 /// Small plans of versions 3 and 4, one that gets more copies there, each version in the length of another, and files of
 /// version 4 in 15 and 16 bytes.
 fn versions() -> Vec<Named> {
@@ -132,32 +147,36 @@ fn named() -> Vec<Named> {
         ),
     ];
     inputs.extend(versions());
+    inputs.extend(budgets());
     for draft in [&draft, &paired, &paired.wide(), &paired.fed(8)] {
         inputs.extend(wrong_lengths(&draft.bytes(), &garbage));
     }
     inputs
 }
 
-/// A plan that row 17 refuses, perhaps with a flaw of rows 8 to 11 beside it.
+/// A plan that row 17 refuses, perhaps with a flaw of rows 8 to 11 or 23 beside it.
 fn wrongly_paired(rng: &mut Rng, size: Size) -> Option<Draft> {
     let how = rng.one_of(&MISPAIRINGS);
     let alone = mispaired(rng, size, how)?;
     Some(match rng.below(8) {
         row @ (0 | 1) => with_block_flaw(rng, alone, 8 + row as u8),
         row @ (2 | 3) => with_sum_flaw(rng, alone, 8 + row as u8),
+        4 => with_sum_flaw(rng, alone, 23),
         _ => alone,
     })
 }
 
 /// A plan that some check refuses, or nearly so.
 fn damaged(rng: &mut Rng, size: Size) -> Vec<u8> {
-    let draft = match rng.below(8) {
+    let draft = match rng.below(10) {
         0 => two_records(rng, size, true),
         1 => two_records(rng, size, false),
         2 => over_budget(rng, size),
         3 => Some(over_capacity(rng, size)),
-        4 => over_racks(rng, size),
+        4 => over_feeds(rng, size),
         5 if size.version >= 2 => wrongly_paired(rng, size),
+        6 => Some(near_places(rng, size)),
+        7 => Some(over_both(rng, size)),
         _ => None,
     };
     let bytes = draft.unwrap_or_else(|| placement_reference::gen::draft(rng, size));
@@ -188,7 +207,8 @@ fn input(rng: &mut Rng) -> Vec<u8> {
         4..=13 => noise(rng, version as u8),
         14..=49 => damaged(rng, of(SMALL)),
         50..=69 => draft(rng, of(MEDIUM)).bytes(),
-        70..=89 => filled(rng, of(SMALL)).bytes(),
+        70..=84 => filled(rng, of(SMALL)).bytes(),
+        85..=89 => near_places(rng, of(SMALL)).bytes(),
         90..=129 => draft(rng, of(TINY)).bytes(),
         _ => draft(rng, of(SMALL)).bytes(),
     }
@@ -215,7 +235,7 @@ fn in_version(rng: &mut Rng, draft: Draft, version: u16) -> Draft {
 /// How many trials ended in which way.
 #[derive(Default)]
 struct Tally {
-    refused: [u64; 23],
+    refused: [u64; 24],
     rest: u64,
     spent: u64,
     converted: u64,

@@ -3,7 +3,9 @@
 use placement_reference::convert::converted;
 use placement_reference::gen::{patient, sized, Draft, Rng, SMALL};
 use placement_reference::listing::{text, STEP_BUDGET};
-use placement_reference::samples::{calibration, empty, feeds, h_budget, video, y, H, H_4};
+use placement_reference::samples::{
+    calibration, empty, feeds, h_budget, over_places, video, y, H, H_4,
+};
 use placement_reference::stream::replay;
 use placement_reference::trials::stream;
 use std::fs::{create_dir_all, write};
@@ -41,6 +43,12 @@ fn in_version_3(bytes: &[u8]) -> Vec<u8> {
     converted(bytes).expect("an accepted plan")
 }
 
+/// The plan of four places with a budget of nine in version 4, which row 23 refuses.
+fn over_places_in_version_4() -> Draft {
+    let budget = over_places().budget;
+    over_places().fed(2).with_budget(budget)
+}
+
 /// The example plans with their names.
 fn examples() -> Vec<(&'static str, Vec<u8>)> {
     vec![
@@ -57,6 +65,8 @@ fn examples() -> Vec<(&'static str, Vec<u8>)> {
         ("wide", video().bytes()),
         ("h-4", H_4.to_vec()),
         ("feeds", feeds().bytes()),
+        ("budget", over_places().wide().bytes()),
+        ("budget-refused", over_places_in_version_4().bytes()),
         // It needs 100,036 steps to rest, so the program's budget ends a little before.
         ("spent", patient(&mut Rng::new(0)).bytes()),
     ]

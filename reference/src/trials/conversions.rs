@@ -145,7 +145,7 @@ fn over_limits(w: &mut Writer, rng: &mut Rng) {
             drafts.extend(two_records(rng, size, true));
             drafts.extend(two_records(rng, size, false));
             drafts.extend(over_budget(rng, size));
-            drafts.extend(over_racks(rng, size));
+            drafts.extend(over_feeds(rng, size));
             drafts.push(over_capacity(rng, size));
         }
     }

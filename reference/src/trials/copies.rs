@@ -18,8 +18,8 @@ pub fn all(w: &mut Writer, rng: &mut Rng) {
     beside_converted(w);
 }
 
-/// The plan in its own version and in all later ones; a plan of version 2 may have pairs.
-fn in_versions(draft: &Draft) -> Vec<Draft> {
+/// The plan in its own version and in all later ones up to 3; a plan of version 2 may have pairs.
+pub(super) fn in_versions(draft: &Draft) -> Vec<Draft> {
     let later = |version: u16| Draft {
         version,
         ..draft.clone()
@@ -217,7 +217,7 @@ fn largest_plans(w: &mut Writer) {
 }
 
 /// A plan of version 1 or 2 before its conversion: every call on both, and the words of the one with the other.
-fn compared(w: &mut Writer, old: &Draft) {
+pub(super) fn compared(w: &mut Writer, old: &Draft) {
     let new = old.wide();
     every_call(w, old);
     w.convert(new.bytes().len());

@@ -8,7 +8,10 @@ use crate::damage::{mispaired, with_block_flaw, with_sum_flaw, MISPAIRINGS};
 use crate::placement::feeds_of;
 use crate::steps::step_plain;
 
-/// All trials of version 4.
+/// The rows for a plan of version 4 but 23, whose trials are those of budgets.
+const ROWS: [u8; 13] = [1, 2, 3, 4, 22, 5, 6, 7, 8, 9, 17, 10, 11];
+
+/// All trials of version 4 but for its budgets.
 pub fn all(w: &mut Writer, rng: &mut Rng) {
     beside_version_3(w, rng);
     numbers_of_feeds(w);
@@ -31,7 +34,7 @@ pub fn all(w: &mut Writer, rng: &mut Rng) {
 }
 
 /// A plan's judgement, counts and first placement, or why it is refused.
-fn judged(w: &mut Writer, draft: &Draft) {
+pub(super) fn judged(w: &mut Writer, draft: &Draft) {
     let number = draft.records.len();
     w.plan(&draft.bytes());
     w.lend(number);
@@ -40,12 +43,13 @@ fn judged(w: &mut Writer, draft: &Draft) {
 }
 
 /// The judgement alone.
-fn verdict(w: &mut Writer, bytes: &[u8]) {
+pub(super) fn verdict(w: &mut Writer, bytes: &[u8]) {
     w.plan(bytes);
     w.calls("p");
 }
 
-/// Plans of version 3, each before the same in version 4 with a feed for each rack: all calls answer alike.
+/// Plans of version 3, each before the same in version 4 with a feed for each rack: all calls answer alike but for a budget
+/// above M × C, which is lowered in version 4.
 fn beside_version_3(w: &mut Writer, rng: &mut Rng) {
     w.title("plans of version 3, each before itself with a feed for each rack");
     let mut drafts = vec![h(), h_budget(3), y(), z(), empty(), ties(), k(), video()];
@@ -211,7 +215,7 @@ fn refused(w: &mut Writer) {
         refused_plan(w, &changed(&H_4, at, byte));
     }
     refused_plan(w, &H_4[..36]);
-    refused_plan(w, &row_eleven(1).fed(1).bytes());
+    refused_plan(w, &row_eleven(1).fed(1).with_budget(2).bytes());
     for (at, byte) in [
         (22, 2),
         (43, 1),
@@ -274,7 +278,7 @@ fn damaged(w: &mut Writer, rng: &mut Rng) {
     w.lend(40);
     let size = SMALL.fed();
     let good = sized(rng, size, 4, 3, 6).bytes();
-    damaged_at(w, rng, &good, &PLAN_ROWS);
+    damaged_at(w, rng, &good, &ROWS);
     for _ in 0..4 {
         for draft in at_fault(rng, size, true) {
             judged(w, &draft);
@@ -478,7 +482,7 @@ fn conversions(w: &mut Writer, rng: &mut Rng) {
         }
     }
     for plan in [sized(rng, SMALL.fed(), 4, 2, 6), k().fed(2)] {
-        for row in PLAN_ROWS {
+        for row in ROWS {
             w.plan(&flawed(rng, plan.bytes(), row));
             w.convert(0);
             w.convert(8000);
