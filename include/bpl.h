@@ -5,10 +5,10 @@
  *
  * Results
  *   0         done: what is written below is written.
- *   1 to 22   refused, by the table below: nothing is written to any buffer.
+ *   1 to 23   refused, by the table below: nothing is written to any buffer.
  *   255       a lent buffer for results is too short (`out`, or the text of bpl_listing): nothing is written. A short
  *             `out` is judged first of all, before the plan is looked at.
- *   No other value is returned (proved: crates/capi/specs/Codes.antt, and for bpl_play by its contract).
+ *   No other value is returned (proved: crates/codes/specs/Codes.antt, and for bpl_play by its contract).
  *
  *    1  the plan is shorter than 15 bytes           10  the sum of least copies is above the budget
  *    2  its mark differs from 42 50 4C              11  the sum of least copies is above M * C
@@ -27,11 +27,19 @@
  *       above R, in version 4 above F               20  the last entry's tick has an age of 2^31 or more
  *                                                   21  the list is full after the dropping
  *                                                   22  F, in version 4, is 0 or does not divide R
+ *                                                   23  the budget, in version 4, is above M * C
  *
- *   The checks go in numerical order, but 22 stands directly after 4; 8 and 9 are made block by block, 8 first, and 17
- *   directly after them. 13 to 16 and 18 are made on a placement handed in (bpl_check, bpl_report, bpl_step, bpl_run,
- *   the calls of bpl_play), each over all blocks or machines before the next. 19 is made by bpl_read and
- *   bpl_popularity, after 1 to 11, 17 and 22, and then 20 and 21 by bpl_read.
+ *   The checks go in this order:
+ *     1, 2, 3, 4, 22, 5, 6, 7   the file's length and header;
+ *     8, 9                      block by block, 8 first;
+ *     17, 23, 10, 11            the whole plan: each over all blocks before the next;
+ *     12                        the counts or words lent, or the bytes for bpl_convert, which makes no later check;
+ *     13, 14, 15, 16, 18        a placement handed in (bpl_check, bpl_report, bpl_step, bpl_run, the calls of
+ *                               bpl_play), each over all blocks or machines before the next;
+ *     19, 20, 21                directly after 11, where 12 to 16 and 18 are not made: 19 in bpl_read and
+ *                               bpl_popularity, 20 and 21 in bpl_read alone.
+ *   17 refuses no plan of version 1, and 22 and 23 none before version 4. 11 refuses none of version 4: past 23 and 10
+ *   the sum is within M * C. Past 17 and 23 a plan has no lawful placement exactly if it is refused with 10 or 11.
  *
  * The plan file, versions 1 to 4
  *   All fields are unsigned, high byte first. The header has the mark in 3 bytes, the version in 2, the racks R and the
@@ -42,6 +50,7 @@
  *   and, from version 2 on, a pair byte: 1 pairs the block with the next one, and no machine holds copies of both.
  *   M / 2 is rounded down. Both of a pair are paired for 8, and so is every block behind a byte of 1.
  *   A version 4 plan of 15 bytes has no whole B: it passes 6 and gets 7.
+ *   All counts together are at most the smaller of budget and M * C. Before version 4 the budget may be above M * C.
  *
  * Buffers
  *   A buffer is a pointer and then the number of its items (bytes for uint8_t, words for uint64_t, records for struct
@@ -125,23 +134,23 @@ extern "C" {
 #define BPL_LEND(number) ((uint64_t)(number) << 35)
 #define BPL_LEND_ALL BPL_LEND(0x1FFFFFFF)
 
-/* Judges a plan: refusals 1 to 11, 17 and 22. Writes nothing. */
+/* Judges a plan: refusals 1 to 11, 17, 22 and 23. Writes nothing. */
 uint32_t bpl_plan(const uint8_t *plan, size_t plan_len);
 
 /*
- * The chosen counts: refusals 1 to 12, 17 and 22. Writes the B counts to the first B items of `counts`; the others
+ * The chosen counts: refusals 1 to 12, 17, 22 and 23. Writes the B counts to the first B items of `counts`; the others
  * stay. Each is from the block's least copies to its limit by check 8, so at most 8, in versions 3 and 4 at most 10.
  */
 uint32_t bpl_counts(const uint8_t *plan, size_t plan_len, uint8_t *counts, size_t counts_len);
 
-/* The first placement: refusals 1 to 12, 17 and 22. Writes the first B words. */
+/* The first placement: refusals 1 to 12, 17, 22 and 23. Writes the first B words. */
 uint32_t bpl_first(const uint8_t *plan, size_t plan_len, uint64_t *words, size_t words_len);
 
-/* Checks a placement: refusals 1 to 18 and 22. Writes nothing. */
+/* Checks a placement: refusals 1 to 18, 22 and 23. Writes nothing. */
 uint32_t bpl_check(const uint8_t *plan, size_t plan_len, const uint64_t *words, size_t words_len);
 
 /*
- * Reports on a placement: refusals 1 to 18 and 22, and 255 where out_len is below 4.
+ * Reports on a placement: refusals 1 to 18, 22 and 23, and 255 where out_len is below 4.
  * Writes out[0] the largest load of a machine, out[1] the smallest, out[2] the sum of all loads, out[3] the largest
  * share of a copy (0 if B is 0). All are in 2520ths of a read, so that the shares of 1 to 10 copies are whole.
  */
@@ -149,7 +158,7 @@ uint32_t bpl_report(const uint8_t *plan, size_t plan_len, const uint64_t *words,
                     uint64_t *out, size_t out_len);
 
 /*
- * Takes the next step of a placement: refusals 1 to 18 and 22, and 255 where out_len is below 6.
+ * Takes the next step of a placement: refusals 1 to 18, 22 and 23, and 255 where out_len is below 6.
  * Writes the placement after the step to the first B words, and out[0] 1, out[1] the kind, out[2] m, out[3] n,
  * out[4] i, out[5] j: the copy of block i passes from machine m to n and, for a swap, that of block j from n to m
  * (j is 0 for a move). At rest there is no step: the words stay as they were and out[0] to out[5] are 0.
@@ -158,8 +167,8 @@ uint32_t bpl_step(const uint8_t *plan, size_t plan_len, uint64_t *words, size_t 
                   uint64_t *out, size_t out_len);
 
 /*
- * Takes next steps of a placement until rest or until `budget` steps are taken: refusals 1 to 18 and 22, and 255 where
- * out_len is below 2.
+ * Takes next steps of a placement until rest or until `budget` steps are taken: refusals 1 to 18, 22 and 23, and 255
+ * where out_len is below 2.
  * Writes the placement after the last step to the first B words, out[0] 1 for rest and 0 where the budget is spent
  * and a step is still left, and out[1] the number of steps taken.
  */
@@ -167,8 +176,8 @@ uint32_t bpl_run(const uint8_t *plan, size_t plan_len, uint64_t *words, size_t w
                  uint32_t budget, uint64_t *out, size_t out_len);
 
 /*
- * The listing of a plan, of a run from its first placement with step budget `budget`: refusals 1 to 11, 17 and 22, and
- * 255 where out_len is below 1 or text_len below BPL_LISTING_ROOM.
+ * The listing of a plan, of a run from its first placement with step budget `budget`: refusals 1 to 11, 17, 22 and 23,
+ * and 255 where out_len is below 1 or text_len below BPL_LISTING_ROOM.
  * Writes the listing's bytes (ASCII, no 0 at the end) to the start of `text`, and their number to out[0]; the text
  * behind them stays.
  */
@@ -185,7 +194,7 @@ uint32_t bpl_listing(const uint8_t *plan, size_t plan_len, uint32_t budget, uint
  * so many of the words as it is lent, as the calls before it left them. A refused call writes nothing, and the next
  * one is made all the same. `other` may be empty: a call that gets it is refused with 1.
  * The words are as the last call left them. Writes that call's reply to out[0] to out[6]: out[0] its kind, and then
- *   BPL_REFUSED   out[1] the refusal, 1 to 18 or 22;
+ *   BPL_REFUSED   out[1] the refusal, 1 to 18, 22 or 23;
  *   BPL_CHECKED   nothing: the check passed, or the script is empty;
  *   BPL_STEPPED   out[1] to out[6] as bpl_step writes out[0] to out[5];
  *   BPL_RAN       out[1] and out[2] as bpl_run writes out[0] and out[1];
@@ -208,7 +217,7 @@ struct bpl_entry {
 };
 
 /*
- * Enters a read of a block at a millisecond tick of 32 bits, which starts over: refusals 1 to 11, 17 and 19 to 22, and
+ * Enters a read of a block at a millisecond tick of 32 bits, which starts over: refusals 1 to 11, 17 and 19 to 23, and
  * 255 where out_len is below 1. 12 is not tested.
  * The age of an entry is `tick` minus its own, modulo 2^32. Entries of age BPL_READ_WINDOW_MS and more are dropped,
  * those kept move to the front in order, the new one follows, and the later records of the usable length become 0.
@@ -225,7 +234,8 @@ uint32_t bpl_read(const uint8_t *plan, size_t plan_len, uint32_t block, uint32_t
                   struct bpl_entry *list, size_t list_len, uint64_t count, uint64_t *out, size_t out_len);
 
 /*
- * The popularity of a block, for the next plan file: refusals 1 to 11, 17, 19 and 22, and 255 where out_len is below 1.
+ * The popularity of a block, for the next plan file: refusals 1 to 11, 17, 19, 22 and 23, and 255 where out_len is
+ * below 1.
  * Writes the number of the block's entries to out[0], for both blocks of a pair the larger of their numbers. The list
  * is not written: only bpl_read drops entries.
  */

@@ -108,7 +108,7 @@ impl Size {
     }
 
     /// A plan with a budget of 4,000 copies for 1,024 blocks, and machines that can hold 5,120, or with twice as many; in
-    /// proportion for fewer blocks.
+    /// proportion for fewer blocks. So the budget is within M × C, as version 4 asks.
     fn draft(&self, seed: u64, popularity: impl Fn(&mut Rng) -> u32) -> Draft {
         let mut rng = Rng::new(seed);
         let blocks = u32::from(self.blocks);

@@ -8,14 +8,14 @@
  * steps until rest, report. It puts the listing together from their answers, and compares it with bpl_listing's. Then
  * it makes the steps anew as one script, and compares the placements. It converts an old plan to version 3 and, with
  * at most 8 machines, compares the listings. It writes a plan of version 3 as version 4, with a mains feed for each
- * rack, and compares the listings. Last it counts reads of the blocks, and makes the next plan file of their
- * popularities.
+ * rack and a budget that the machines have places for, and compares the listings. Last it counts reads of the blocks,
+ * and makes the next plan file of their popularities.
  * scripts/c-example compiles, runs and tests it. The status is 0 for a listing, 1 for a refused plan, 2 for a failure.
  *
  * How every call is used here:
  * - All memory is the caller's. A buffer is passed as a pointer and its number of items, not its size in bytes.
  * - The code that a call answers is looked at before anything else. Only with code 0 has the call written something;
- *   with a refusal, 1 to 22, every buffer is as it was.
+ *   with a refusal, 1 to 23, every buffer is as it was.
  * - BPL_SHORT_BUFFER is no property of the plan but a mistake of the caller: a buffer for results is too short.
  */
 #include "bpl.h"
@@ -41,6 +41,8 @@
 #define RACKS_AT 5
 #define RACK_SIZE_AT 6
 #define FEEDS_AT 7
+#define CAPACITY_AT 7
+#define BUDGET_AT 9
 #define BLOCKS_AT 13
 #define RECORDS_AT 15
 
@@ -75,6 +77,7 @@ static const char *reason(uint32_t code)
         [20] = "the last entry's tick has an age of 2^31 or more",
         [21] = "the list is full of reads that still count",
         [22] = "F is 0 or does not divide R",
+        [23] = "the budget is above M * C",
     };
     if (code < sizeof reasons / sizeof reasons[0])
         return reasons[code];
@@ -116,6 +119,13 @@ static uint32_t version_of(const uint8_t *plan)
 static size_t later_by(const uint8_t *plan)
 {
     return version_of(plan) == 4 ? 1 : 0;
+}
+
+/* M * C, the copies that all machines together can hold. */
+static uint32_t places_of(const uint8_t *plan)
+{
+    const uint32_t capacity = field(plan, CAPACITY_AT + later_by(plan), 2);
+    return field(plan, RACKS_AT, 1) * field(plan, RACK_SIZE_AT, 1) * capacity;
 }
 
 /* The number of blocks B. */
@@ -167,13 +177,22 @@ static size_t make_plan_h(uint8_t *plan, uint32_t budget)
     return at;
 }
 
-/* Writes a plan of version 3 as version 4, its racks on so many mains feeds. Answers its length, a byte more. */
+/* Puts another budget of copies into a plan. */
+static void put_budget(uint8_t *plan, uint32_t budget)
+{
+    put_field(plan, BUDGET_AT + later_by(plan), 4, budget);
+}
+
+/* Writes a plan of version 3 as version 4, its racks on so many mains feeds. A budget above M * C becomes M * C, all
+ * that version 3 uses of it. Answers the plan's length, a byte more. */
 static size_t put_on_feeds(uint8_t *plan, const uint8_t *old, size_t old_len, uint32_t feeds)
 {
     memcpy(plan, old, FEEDS_AT);
     put_field(plan, VERSION_AT, 2, 4);
     const size_t at = put_field(plan, FEEDS_AT, 1, feeds);
     memcpy(plan + at, old + FEEDS_AT, old_len - FEEDS_AT);
+    if (field(old, BUDGET_AT, 4) > places_of(old))
+        put_budget(plan, places_of(old));
     return old_len + 1;
 }
 
@@ -319,8 +338,8 @@ static bool same_text(const struct text *text, const struct text *other)
     return text->size == other->size && memcmp(text->bytes, other->bytes, text->size) == 0;
 }
 
-/* Whether a plan of version 3 has the same listing in version 4 with a mains feed for each rack: a spread over feeds is
- * then one over racks. A store whose racks share feeds would write their number. */
+/* Whether a plan of version 3 has the same listing in version 4 with a mains feed for each rack and a budget of at most
+ * M * C: a spread over feeds is then one over racks. A store whose racks share feeds would write their number. */
 static bool spreads_alike(const struct store *store, const struct text *text)
 {
     static uint8_t plan[BPL_MAX_PLAN_BYTES];
@@ -441,6 +460,22 @@ static bool show_refused_feeds(const struct store *store)
     return uneven == 22 && narrow == 9;
 }
 
+/* Plan H with a budget of 13 copies for its 12 places: version 3 takes it, and version 4 refuses it. */
+static bool show_refused_budget(const struct store *store)
+{
+    static uint8_t wide[BPL_MAX_PLAN_BYTES], plan[BPL_MAX_PLAN_BYTES];
+    uint64_t length[BPL_CONVERT_NUMBERS];
+    if (bpl_convert(store->plan, store->plan_len, wide, sizeof wide, length, BPL_CONVERT_NUMBERS) != 0)
+        return false;
+    const size_t plan_len = put_on_feeds(plan, wide, (size_t)length[0], 2);
+    put_budget(wide, 13);
+    put_budget(plan, 13);
+    const uint32_t unusable = bpl_plan(plan, plan_len);
+    say_refused("plan H in version 4 with a budget of 13 copies", unusable);
+    put_budget(plan, 12);
+    return unusable == 23 && bpl_plan(wide, (size_t)length[0]) == 0 && bpl_plan(plan, plan_len) == 0;
+}
+
 /* Two refusals, as a caller meets them: a plan that has no lawful placement, and a placement with a copy too few. */
 static bool show_refusals(void)
 {
@@ -475,7 +510,7 @@ int main(int argc, char **argv)
     if (argc < 2) {
         store.plan_len = make_plan_h(plan, 8);
         if (!show_refusals() || !show_refused_reads(&store) || !show_refused_conversions(&store) ||
-            !show_refused_feeds(&store)) {
+            !show_refused_feeds(&store) || !show_refused_budget(&store)) {
             fprintf(stderr, "place: the refusals are not as they should be\n");
             return FAILED;
         }

@@ -4,7 +4,7 @@ use crate::raw::{PLAY_NUMBERS, REPORT_NUMBERS, RUN_NUMBERS, STEP_NUMBERS};
 use std::error::Error;
 use std::fmt;
 
-/// Why a plan, a placement or a read is turned back: the number of the check, 1 to 22.
+/// Why a plan, a placement or a read is turned back: the number of the check, 1 to 23.
 #[derive(Clone, Copy, Debug, PartialEq, Eq, Hash)]
 pub struct Refusal(u8);
 
@@ -43,6 +43,7 @@ impl Refusal {
             20 => "the last entry's tick has an age of 2^31 or more",
             21 => "the list is full of reads that still count",
             22 => "the number of feeds is 0 or does not divide the number of racks",
+            23 => "the budget, in version 4, is above what the machines hold",
             _ => "no check has this number",
         }
     }

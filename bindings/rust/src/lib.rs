@@ -39,6 +39,12 @@
 //! bpl::first(&plan, &mut words)?;
 //! assert_eq!(words[0], 0b0011);
 //! assert_eq!(bpl::check(&plan, &[0b0101]).unwrap_err().number(), 15);
+//!
+//! // The machines hold four copies. Version 4 refuses a larger budget.
+//! plan[13] = 4;
+//! assert_eq!(bpl::plan(&plan), Ok(()));
+//! plan[13] = 5;
+//! assert_eq!(bpl::plan(&plan).unwrap_err().number(), 23);
 //! plan[7] = 3;
 //! assert_eq!(bpl::plan(&plan).unwrap_err().number(), 22);
 //! # Ok::<(), bpl::Refusal>(())
@@ -56,14 +62,14 @@ pub use script::{Call, Request, Source};
 
 use answers::settled;
 
-/// Judges a plan: refusals 1 to 11, 17 and 22.
+/// Judges a plan: refusals 1 to 11, 17, 22 and 23.
 pub fn plan(plan: &[u8]) -> Result<(), Refusal> {
     // SAFETY: the pointer and the length are those of a slice that is borrowed for the whole call.
     settled(unsafe { raw::bpl_plan(plan.as_ptr(), plan.len()) })
 }
 
-/// Writes the plan's B chosen counts into the first B items of `counts`: refusals 1 to 12, 17 and 22. Each is at most
-/// 8, in versions 3 and 4 at most 10.
+/// Writes the plan's B chosen counts into the first B items of `counts`: refusals 1 to 12, 17, 22 and 23. Each is at
+/// most 8, in versions 3 and 4 at most 10. Their sum is at most the smaller of the budget and what the machines hold.
 pub fn counts(plan: &[u8], counts: &mut [u8]) -> Result<(), Refusal> {
     // SAFETY: each pointer and length are those of a slice that is borrowed for the whole call; `counts` is borrowed
     // alone, so it overlaps no other buffer.
@@ -72,19 +78,19 @@ pub fn counts(plan: &[u8], counts: &mut [u8]) -> Result<(), Refusal> {
     })
 }
 
-/// Writes the first placement into the first B words: refusals 1 to 12, 17 and 22.
+/// Writes the first placement into the first B words: refusals 1 to 12, 17, 22 and 23.
 pub fn first(plan: &[u8], words: &mut [u64]) -> Result<(), Refusal> {
     // SAFETY: as in `counts`, for `words`.
     settled(unsafe { raw::bpl_first(plan.as_ptr(), plan.len(), words.as_mut_ptr(), words.len()) })
 }
 
-/// Checks a placement: refusals 1 to 18, and 22.
+/// Checks a placement: refusals 1 to 18, 22 and 23.
 pub fn check(plan: &[u8], words: &[u64]) -> Result<(), Refusal> {
     // SAFETY: as in `plan`; neither slice is written.
     settled(unsafe { raw::bpl_check(plan.as_ptr(), plan.len(), words.as_ptr(), words.len()) })
 }
 
-/// Reports on a placement: refusals 1 to 18, and 22.
+/// Reports on a placement: refusals 1 to 18, 22 and 23.
 pub fn report(plan: &[u8], words: &[u64]) -> Result<Report, Refusal> {
     let mut out = [0; raw::REPORT_NUMBERS];
     // SAFETY: as in `check`; `out` is a local of its own with the length that is passed.
@@ -101,7 +107,7 @@ pub fn report(plan: &[u8], words: &[u64]) -> Result<Report, Refusal> {
     Ok(Report::from_numbers(out))
 }
 
-/// Takes the next step of a placement, or leaves it as it is and answers `None` at rest: refusals 1 to 18, and 22.
+/// Takes the next step of a placement, or leaves it as it is and answers `None` at rest: refusals 1 to 18, 22 and 23.
 pub fn step(plan: &[u8], words: &mut [u64]) -> Result<Option<Step>, Refusal> {
     let mut out = [0; raw::STEP_NUMBERS];
     // SAFETY: as in `first`; `out` is a local of its own with the length that is passed.
@@ -118,7 +124,7 @@ pub fn step(plan: &[u8], words: &mut [u64]) -> Result<Option<Step>, Refusal> {
     Ok(Step::from_numbers(out))
 }
 
-/// Takes next steps of a placement until rest or until the step budget is used: refusals 1 to 18, and 22.
+/// Takes next steps of a placement until rest or until the step budget is used: refusals 1 to 18, 22 and 23.
 pub fn run(plan: &[u8], words: &mut [u64], budget: u32) -> Result<RunEnd, Refusal> {
     let mut out = [0; raw::RUN_NUMBERS];
     // SAFETY: as in `first`; `out` is a local of its own with the length that is passed.
@@ -136,7 +142,7 @@ pub fn run(plan: &[u8], words: &mut [u64], budget: u32) -> Result<RunEnd, Refusa
     Ok(RunEnd::from_numbers(out))
 }
 
-/// The listing of a plan, of a run from its first placement with the step budget: refusals 1 to 11, 17 and 22.
+/// The listing of a plan, of a run from its first placement with the step budget: refusals 1 to 11, 17, 22 and 23.
 pub fn listing(plan: &[u8], budget: u32) -> Result<String, Refusal> {
     let mut text = vec![0; raw::LISTING_ROOM];
     let mut out = [0; raw::LISTING_NUMBERS];

@@ -18,7 +18,7 @@ pub struct Entry {
 }
 
 /// Enters a read of a block at a millisecond tick, which starts over after 32 bits, and answers the new count of
-/// entries: refusals 1 to 11, 17 and 19 to 22.
+/// entries: refusals 1 to 11, 17 and 19 to 23.
 ///
 /// The entries are the first `count` records of `list`; start with a count of 0, and hand in the list and the count
 /// that the last accepted read left. Entries of two hours and more are dropped, those kept move to the front in order,
@@ -72,7 +72,7 @@ pub fn read(
 }
 
 /// The popularity of a block: the number of its entries, for both blocks of a pair the larger of their numbers.
-/// Refusals 1 to 11, 17, 19 and 22. Entries are dropped by reads alone.
+/// Refusals 1 to 11, 17, 19, 22 and 23. Entries are dropped by reads alone.
 pub fn popularity(plan: &[u8], block: u32, list: &[Entry], count: u64) -> Result<u64, Refusal> {
     let mut out = [0; raw::POPULARITY_NUMBERS];
     // SAFETY: as in `read`; the list is not written.

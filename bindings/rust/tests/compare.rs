@@ -22,7 +22,7 @@ fn blocks_of(bytes: &[u8]) -> usize {
 /// the racks suffice; steps that are others than with a feed for each rack.
 #[derive(Debug, Default)]
 struct Met {
-    checks: [u64; 23],
+    checks: [u64; 24],
     steps: [u64; 5],
     ends: [u64; 2],
     feeds: [u64; 3],

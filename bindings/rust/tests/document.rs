@@ -172,7 +172,7 @@ fn least_copies_of_a_pair() {
         (8, 5, [Err(8), Err(8), Err(8)]),
     ] {
         let pair = [(1, least, 1, 1), (1, least, 1, 0)];
-        let draft = samples::paired_plan((1, machines), 2, 22, &pair);
+        let draft = samples::paired_plan((1, machines), 3, 22, &pair);
         let said = [2, 3, 4].map(|version| judged(version, &draft));
         assert_eq!(said, rows, "{least} least copies of a pair, M {machines}");
     }
@@ -348,6 +348,69 @@ fn order_of_row_22() {
         let without_capacity = [&old[..7], &[0, 0], &old[9..]].concat();
         assert_eq!(row_of(&without_capacity), 5);
     }
+}
+
+/// Row 23, of plan H with so many copies in its budget: in version 4 it has at most 12, and the versions before it use no
+/// more of a larger one.
+#[test]
+fn budgets_of_plan_h() {
+    let on_two_feeds = |budget| row_of(&samples::h().fed(2).with_budget(budget).bytes());
+    let budgets = [11, 12, 13, 1 << 16, u32::MAX];
+    assert_eq!(budgets.map(on_two_feeds), [0, 0, 23, 23, 23]);
+    let unusable = bpl::plan(&samples::h().fed(2).with_budget(13).bytes()).unwrap_err();
+    assert_eq!(
+        unusable.to_string(),
+        "refused 23: the budget, in version 4, is above what the machines hold"
+    );
+    for old in [samples::h(), samples::h().unpaired(), samples::h().wide()] {
+        let all = bpl::listing(&old.with_budget(12).bytes(), 9).expect("an accepted plan");
+        for budget in [13, 1 << 16, u32::MAX] {
+            let listing = bpl::listing(&old.with_budget(budget).bytes(), 9);
+            assert_eq!(listing.as_ref(), Ok(&all));
+        }
+    }
+}
+
+/// A hall with four places and a budget of nine: counts 3, 1, and no machine without a copy, in versions 1 to 3. Version
+/// 4 writes nothing, and makes the same of a budget of four.
+#[test]
+fn budget_above_the_places() {
+    let old = samples::over_places();
+    let version_4 = old.fed(2);
+    for draft in [&old, &old.unpaired(), &old.wide(), &version_4] {
+        let (mut counts, mut words) = ([0; 2], [0; 2]);
+        assert_eq!(bpl::counts(&draft.bytes(), &mut counts), Ok(()));
+        assert_eq!(bpl::first(&draft.bytes(), &mut words), Ok(()));
+        assert_eq!((counts, words), ([3, 1], [0b0111, 0b1000]));
+    }
+    let mut words = [7; 2];
+    let unusable = version_4.with_budget(old.budget).bytes();
+    let refused = bpl::first(&unusable, &mut words).unwrap_err();
+    assert_eq!((refused.number(), words), (23, [7; 2]));
+}
+
+/// Row 23 stands after 17 and before 10 and 11, where all that come later hold as well.
+#[test]
+fn order_of_row_23() {
+    let pair = [(1, 1, 1, 1), (1, 1, 1, 0), (1, 1, 1, 0), (1, 1, 1, 0)];
+    let two_places = samples::paired_plan((1, 2), 1, 0, &pair).wide();
+    let row = |draft: &Draft, budget: u32, changes: &[(usize, u8)]| {
+        let mut bytes = draft.with_budget(budget).bytes();
+        for (at, byte) in changes {
+            bytes[*at] = *byte;
+        }
+        row_of(&bytes)
+    };
+    let latest = two_places.fed(1);
+    assert_eq!(row(&latest, 3, &[(7, 2), (9, 0), (20, 0)]), 22);
+    assert_eq!(row(&latest, 3, &[(20, 0), (22, 2)]), 8);
+    assert_eq!(row(&latest, 3, &[(42, 0), (22, 2)]), 9);
+    assert_eq!(row(&latest, 3, &[(22, 2)]), 17);
+    assert_eq!(row(&latest, 3, &[]), 23);
+    assert_eq!(row(&latest, 4, &[]), 23);
+    assert_eq!(row(&latest, 2, &[]), 10);
+    assert_eq!(row(&two_places, 3, &[]), 10);
+    assert_eq!(row(&two_places, 4, &[]), 11);
 }
 
 /// A version 4 file of 15 bytes gets 7, whatever its last byte would say of B alone, but 4, 22 and 5 come first.

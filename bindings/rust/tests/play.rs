@@ -127,15 +127,17 @@ fn relative(rng: &mut Rng, draft: &Draft) -> Vec<u8> {
 }
 
 /// Other bytes: refused ones, the plan's own, another accepted plan, one that is much like the plan, or the plan without
-/// its pairs, whose steps may bring them together, or with a feed for each rack, whose steps may lay a block on fewer.
+/// its pairs, whose steps may bring them together, or with a feed for each rack, whose steps may lay a block on fewer, or
+/// with the largest budget, which version 4 refuses.
 fn other_bytes(rng: &mut Rng, draft: &Draft) -> Vec<u8> {
-    match rng.below(10) {
+    match rng.below(11) {
         0 => Vec::new(),
         1..=3 => damaged(rng),
         4 => draft.bytes(),
         5 => accepted(rng).bytes(),
         6 => draft.unpaired().bytes(),
         7 => draft.fed(draft.racks).bytes(),
+        8 => draft.with_budget(u32::MAX).bytes(),
         _ => relative(rng, draft),
     }
 }
@@ -213,7 +215,7 @@ fn any_scene(rng: &mut Rng) -> Scene {
 /// how often a call with an accepted other plan did something.
 #[derive(Debug, Default)]
 struct Met {
-    refused: [u64; 23],
+    refused: [u64; 24],
     checked: u64,
     steps: [u64; 5],
     ends: [u64; 2],

@@ -70,7 +70,7 @@ impl Caller {
 /// Random histories: each call is handed the list and the count that the one before it left, or damaged ones.
 #[test]
 fn histories() {
-    let mut met = [0; 23];
+    let mut met = [0; 24];
     for case in 0..cases(40_000) {
         let rng = &mut Rng::new(7 << 32 | case);
         let manner = manner(rng);
@@ -81,7 +81,7 @@ fn histories() {
             }
         }
     }
-    let rows = [0, 1, 2, 3, 4, 22, 5, 6, 7, 8, 9, 17, 10, 11, 19, 20, 21];
+    let rows = [0, 1, 2, 3, 4, 22, 5, 6, 7, 8, 9, 17, 23, 10, 11, 19, 20, 21];
     assert!(
         cases(40_000) < 5000 || rows.iter().all(|row| met[*row] > 0),
         "not all was met: {met:?}"
@@ -174,6 +174,7 @@ fn order_of_the_rows() {
     for (plan, block, tick, row) in [
         (&[][..], 9, 8, 1),
         (&h().fed(3).bytes(), 9, 8, 22),
+        (&h().fed(2).with_budget(13).bytes(), 9, 8, 23),
         (&h_budget(3).bytes(), 9, 8, 10),
         (&wrong_pair, 9, 8, 17),
         (&empty().bytes(), 0, 8, 19),

@@ -74,7 +74,7 @@ pub fn accepted(rng: &mut Rng) -> Draft {
     }
 }
 
-/// A plan that row 17 refuses, at times with a flaw of rows 8 to 11 beside it.
+/// A plan that row 17 refuses, at times with a flaw of rows 8 to 11 or 23 beside it.
 fn wrongly_paired(rng: &mut Rng, size: Size) -> Option<Draft> {
     let how = rng.one_of(&MISPAIRINGS);
     let version = size.version.max(2);
@@ -82,17 +82,19 @@ fn wrongly_paired(rng: &mut Rng, size: Size) -> Option<Draft> {
     Some(match rng.below(8) {
         row @ (0 | 1) => with_block_flaw(rng, alone, 8 + row as u8),
         row @ (2 | 3) => with_sum_flaw(rng, alone, 8 + row as u8),
+        4 => with_sum_flaw(rng, alone, 23),
         _ => alone,
     })
 }
 
-/// A plan of this size that rows 8 to 11 or 17 refuse, if one is made.
+/// A plan of this size that rows 8 to 11, 17 or 23 refuse, if one is made.
 fn over_limits(rng: &mut Rng, size: Size) -> Option<Draft> {
-    match rng.below(5) {
+    match rng.below(6) {
         0 => over_budget(rng, size),
         1 => Some(over_capacity(rng, size)),
-        2 => over_racks(rng, size),
+        2 => over_feeds(rng, size),
         3 => wrongly_paired(rng, size),
+        4 => Some(over_both(rng, size)),
         _ => {
             let least_first = rng.once_in(2);
             two_records(rng, size, least_first)
@@ -104,7 +106,7 @@ fn over_limits(rng: &mut Rng, size: Size) -> Option<Draft> {
 pub fn damaged(rng: &mut Rng) -> Vec<u8> {
     let size = size(rng);
     let whole = accepted(rng);
-    let kind = rng.below(11);
+    let kind = rng.below(12);
     match kind {
         0..=4 => {
             if let Some(draft) = over_limits(rng, size) {
@@ -118,6 +120,7 @@ pub fn damaged(rng: &mut Rng) -> Vec<u8> {
     }
     let row = match kind {
         8 if whole.version == 4 => 22,
+        9 if whole.version == 4 => 23,
         _ => any_row(rng, whole.version),
     };
     let once = flawed(rng, whole.bytes(), row);
@@ -128,12 +131,15 @@ pub fn damaged(rng: &mut Rng) -> Vec<u8> {
     once
 }
 
-/// Bytes of either sort.
+/// Bytes of either sort, at times with a budget about M × C.
 pub fn any_bytes(rng: &mut Rng) -> Vec<u8> {
-    if rng.once_in(4) {
-        damaged(rng)
-    } else {
-        accepted(rng).bytes()
+    match rng.below(12) {
+        0..=2 => damaged(rng),
+        3 => {
+            let size = size(rng);
+            near_places(rng, size).bytes()
+        }
+        _ => accepted(rng).bytes(),
     }
 }
 
