@@ -451,42 +451,24 @@ fn small_calls(table: &mut Table, name: &str, draft: &Draft) {
         let own = [name.to_string(), call.to_string()];
         row(table, &own, times);
     };
-    add(
-        "plan",
-        compared(name, |side| timed(|| (side.plan)(&bytes))).0,
-    );
-    add(
-        "counts",
-        compared(name, |side| counts_timed(side, &bytes, blocks)).0,
-    );
-    add(
-        "first",
-        compared(name, |side| first_timed(side, &bytes, blocks)).0,
-    );
-    add(
-        "check",
-        compared(name, |side| timed(|| (side.check)(&bytes, &words))).0,
-    );
-    add(
-        "report",
-        compared(name, |side| timed(|| (side.report)(&bytes, &words))).0,
-    );
-    add(
-        "step",
-        compared(name, |side| step_timed(side, &bytes, &words)).0,
-    );
-    add(
-        "run",
-        compared(name, |side| run_timed(side, &bytes, &words, 100_000)).0,
-    );
-    add(
-        "listing",
-        compared(name, |side| timed(|| (side.listing)(&bytes, 100_000))).0,
-    );
-    add(
-        "convert",
-        compared(name, |side| convert_timed(side, &bytes)).0,
-    );
+    let times = compared(name, |side| timed(|| (side.plan)(&bytes))).0;
+    add("plan", times);
+    let times = compared(name, |side| counts_timed(side, &bytes, blocks)).0;
+    add("counts", times);
+    let times = compared(name, |side| first_timed(side, &bytes, blocks)).0;
+    add("first", times);
+    let times = compared(name, |side| timed(|| (side.check)(&bytes, &words))).0;
+    add("check", times);
+    let times = compared(name, |side| timed(|| (side.report)(&bytes, &words))).0;
+    add("report", times);
+    let times = compared(name, |side| step_timed(side, &bytes, &words)).0;
+    add("step", times);
+    let times = compared(name, |side| run_timed(side, &bytes, &words, 100_000)).0;
+    add("run", times);
+    let times = compared(name, |side| timed(|| (side.listing)(&bytes, 100_000))).0;
+    add("listing", times);
+    let times = compared(name, |side| convert_timed(side, &bytes)).0;
+    add("convert", times);
 }
 
 /// A conversion: seconds, and the plan written.

@@ -154,21 +154,24 @@ fn h_changed(at: usize, byte: u8) -> Vec<u8> {
 fn refused_examples(w: &mut Writer) {
     w.title("the examples of rows 1 to 11");
     w.words(&[15, 5, 2, 99]);
+    refused_headers(w);
+    refused_records(w);
+}
+
+/// The examples of rows 1 to 7.
+fn refused_headers(w: &mut Writer) {
     refused_plan(w, &[]);
     refused_plan(w, &H[..14]);
     for (at, byte) in [(0, 0), (2, 0x4D), (4, 5), (3, 1)] {
         refused_plan(w, &h_changed(at, byte));
     }
     for (racks, per_rack) in [(13, 5), (5, 13), (0, 1), (1, 0), (16, 16), (65, 1), (1, 65)] {
-        refused_plan(
-            w,
-            &Draft {
-                racks,
-                per_rack,
-                ..h()
-            }
-            .bytes(),
-        );
+        let shape = Draft {
+            racks,
+            per_rack,
+            ..h()
+        };
+        refused_plan(w, &shape.bytes());
     }
     for capacity in [0, 1025] {
         refused_plan(w, &Draft { capacity, ..h() }.bytes());
@@ -178,6 +181,10 @@ fn refused_examples(w: &mut Writer) {
     refused_plan(w, &H[..29]);
     refused_plan(w, &[&H[..], &[0]].concat());
     refused_plan(w, &[&H[..15], &[0; 5000]].concat());
+}
+
+/// The examples of rows 8 to 11.
+fn refused_records(w: &mut Writer) {
     for (at, byte) in [(23, 5), (23, 0), (19, 3), (19, 0), (24, 2)] {
         refused_plan(w, &h_changed(at, byte));
     }
@@ -193,14 +200,7 @@ fn refused_examples(w: &mut Writer) {
     }
     refused_plan(w, &h_budget(3).bytes());
     refused_plan(w, &row_eleven(1).bytes());
-    refused_plan(
-        w,
-        &Draft {
-            budget: 1,
-            ..row_eleven(1)
-        }
-        .bytes(),
-    );
+    refused_plan(w, &row_eleven(1).with_budget(1).bytes());
 }
 
 /// The examples of rows 12 to 16.

@@ -13,8 +13,8 @@ fn digest_is_fnv() {
     assert_eq!(digest(b"foobar".iter().copied()), "85944171f73967e8");
 }
 
-#[test]
-fn a_short_stream() {
+/// Some of each call but those on reads.
+fn short_stream() -> Vec<u8> {
     let mut w = Writer::default();
     w.title("short");
     w.plan(&H);
@@ -31,7 +31,12 @@ fn a_short_stream() {
     w.run(0);
     w.run(9);
     w.calls("sE");
-    let output = replay(&w.bytes);
+    w.bytes
+}
+
+#[test]
+fn a_short_stream() {
+    let output = replay(&short_stream());
     let said: Vec<&str> = output.lines().map(|l| l.trim_end()).collect();
     let begins = [
         "# short",

@@ -19,6 +19,8 @@ pub fn all(w: &mut Writer, rng: &mut Rng) {
     limits_of_copies(w);
     lengths(w);
     fifteen_bytes(w);
+    fifteen_bytes_broken(w);
+    fifteen_bytes_before(w);
     refused(w);
     orders_of_22(w);
     damaged(w, rng);
@@ -139,20 +141,28 @@ fn lengths(w: &mut Writer) {
     }
 }
 
+/// The first 15 bytes of H in version 4 with this last byte.
+fn cut_with(last: u8) -> Vec<u8> {
+    changed(&H_4[..15], 14, last)
+}
+
 /// Files of 15 bytes: in version 4 the last byte of the number of blocks is missing, so that 6 is passed and 7 given,
-/// whatever the byte before it says. 4, 22 and 5 come first.
+/// whatever the byte before it says.
 fn fifteen_bytes(w: &mut Writer) {
     w.title("version 4 in 15 bytes with every last byte");
-    let cut = |last: u8| changed(&H_4[..15], 14, last);
     for last in 0..=255 {
-        verdict(w, &cut(last));
+        verdict(w, &cut_with(last));
     }
     for last in [0, 3, 4, 255] {
-        refused_plan(w, &cut(last));
+        refused_plan(w, &cut_with(last));
         w.convert(99);
         w.read(0, 9);
         w.popularity(0);
     }
+}
+
+/// In 15 bytes 2 to 5 and 22 come before 7.
+fn fifteen_bytes_broken(w: &mut Writer) {
     w.title("version 4 in 15 bytes with 2 to 5 and 22 broken");
     for last in [0, 4, 5, 255] {
         for (at, byte) in [
@@ -168,13 +178,17 @@ fn fifteen_bytes(w: &mut Writer) {
             (8, 4),
             (9, 0),
         ] {
-            verdict(w, &changed(&cut(last), at, byte));
+            verdict(w, &changed(&cut_with(last), at, byte));
         }
         for (one, other) in [((5, 0), (7, 0)), ((7, 3), (9, 0)), ((6, 99), (8, 9))] {
-            let bytes = changed(&cut(last), one.0, one.1);
+            let bytes = changed(&cut_with(last), one.0, one.1);
             verdict(w, &changed(&bytes, other.0, other.1));
         }
     }
+}
+
+/// Before version 4 the number of blocks ends in the 15th byte.
+fn fifteen_bytes_before(w: &mut Writer) {
     w.title("versions 1 to 3 in 15 bytes: 6, 7, or no block");
     for version in 1..=3 {
         for (high, low) in [(0, 0), (0, 1), (4, 0), (4, 1), (255, 0)] {
@@ -184,50 +198,78 @@ fn fifteen_bytes(w: &mut Writer) {
     }
 }
 
+/// Bytes of H in version 4, each changed to one that a row refuses.
+const H_CHANGES: [(usize, u8); 22] = [
+    (0, 0),
+    (4, 0),
+    (4, 5),
+    (3, 4),
+    (5, 17),
+    (6, 0),
+    (7, 0),
+    (7, 3),
+    (7, 4),
+    (7, 255),
+    (7, 1),
+    (9, 0),
+    (8, 4),
+    (14, 4),
+    (14, 5),
+    (15, 4),
+    (27, 5),
+    (27, 0),
+    (21, 3),
+    (21, 0),
+    (28, 2),
+    (13, 3),
+];
+
+/// Bytes of K in version 4, each changed to one that row 17 refuses.
+const K_CHANGES: [(usize, u8); 7] = [
+    (22, 2),
+    (43, 1),
+    (29, 1),
+    (16, 1),
+    (17, 1),
+    (26, 11),
+    (28, 1),
+];
+
 /// The examples of rows 1 to 11, 17 and 22 with version 4.
 fn refused(w: &mut Writer) {
     w.title("the examples of rows 1 to 11, 17 and 22 with version 4");
     w.words(&[15, 5, 2, 99]);
-    for (at, byte) in [
-        (0, 0),
-        (4, 0),
-        (4, 5),
-        (3, 4),
-        (5, 17),
-        (6, 0),
-        (7, 0),
-        (7, 3),
-        (7, 4),
-        (7, 255),
-        (7, 1),
-        (9, 0),
-        (8, 4),
-        (14, 4),
-        (14, 5),
-        (15, 4),
-        (27, 5),
-        (27, 0),
-        (21, 3),
-        (21, 0),
-        (28, 2),
-        (13, 3),
-    ] {
+    for (at, byte) in H_CHANGES {
         refused_plan(w, &changed(&H_4, at, byte));
     }
     refused_plan(w, &H_4[..36]);
     refused_plan(w, &row_eleven(1).fed(1).with_budget(2).bytes());
-    for (at, byte) in [
-        (22, 2),
-        (43, 1),
-        (29, 1),
-        (16, 1),
-        (17, 1),
-        (26, 11),
-        (28, 1),
-    ] {
+    for (at, byte) in K_CHANGES {
         refused_plan(w, &changed(&K_4, at, byte));
     }
 }
+
+/// Bytes of a plan of three blocks, the first two a pair, each changed to one that a row but 22 refuses.
+const OTHER_CHANGES: [(usize, u8); 18] = [
+    (0, 0),
+    (3, 1),
+    (4, 9),
+    (5, 0),
+    (5, 65),
+    (6, 0),
+    (6, 17),
+    (8, 5),
+    (9, 0),
+    (14, 9),
+    (15, 4),
+    (20, 0),
+    (20, 11),
+    (21, 0),
+    (21, 9),
+    (22, 2),
+    (36, 1),
+    (13, 1),
+];
 
 /// Row 22 in each of its ways, with each other row broken as well: directly after 4, before 5.
 fn orders_of_22(w: &mut Writer) {
@@ -237,26 +279,7 @@ fn orders_of_22(w: &mut Writer) {
     for feeds in [0, 3, 5, 8] {
         let wrong = good.fed(feeds).bytes();
         refused_plan(w, &wrong);
-        for (at, byte) in [
-            (0, 0),
-            (3, 1),
-            (4, 9),
-            (5, 0),
-            (5, 65),
-            (6, 0),
-            (6, 17),
-            (8, 5),
-            (9, 0),
-            (14, 9),
-            (15, 4),
-            (20, 0),
-            (20, 11),
-            (21, 0),
-            (21, 9),
-            (22, 2),
-            (36, 1),
-            (13, 1),
-        ] {
+        for (at, byte) in OTHER_CHANGES {
             w.plan(&changed(&wrong, at, byte));
             w.calls("ps");
         }
