@@ -17,6 +17,7 @@ use Rattle.model.specs.Plan.{Plan, places, minTotal, maxReplicas, upper, isPair
 use Rattle.model.specs.Refusal.{check1, check2, check3, check4, check22, check5, check6, check7, check8, check9, alike, check17, check23, check10, check11, check12, blockRefusal, blocksRefusal, pairRefusal, pairsRefusal, planRefusal, refusal, accepted, judge}
 use Rattle.model.specs.Replication.{limit, share, largestShare, need, reachable, figure, chosen}
 use Rattle.model.specs.Calls.{unless, onPlan, countsCall}
+use Rattle.theory.specs.Refusal.{PastRow17}
 use Rattle.theory.proofs.Refusal.{refuseIf-all, check23-above, check23-early, check23-usable, totalRefusal, refusal-shaped, refusal-budget, accepted-laws}
 use Rattle.theorems.specs.Exact.{Infeasible}
 use Rattle.theorems.specs.Budgets.{ElevenIdle, Budgets, plan-whole, wide-whole, budgeted, wide-budgeted, crowded, wide-crowded, BudgetExamples}
@@ -57,6 +58,10 @@ module _ (bytes : List ℕ) where
         ]
       ]
 
+  row23-given : PastRow17 (refusal bytes) → (4 ≤ versionIn bytes) × (places (planIn bytes) < planIn bytes .budget) → refusal bytes ≡ 23
+  unfolding planIn
+  row23-given past unusable = refusal-budget bytes past ∙ check23-above _ _ _ _ (unusable .0) (unusable .1)
+
   -- its least copies are within the budget, too, which is above the places
   row23-feasible : refusal bytes ≡ 23 → minTotal (planIn bytes) ≤ places (planIn bytes) → Infeasible (planIn bytes) → ⊥
   unfolding limit
@@ -78,7 +83,7 @@ pub budgets : (bytes : List ℕ) → Budgets bytes
 unfolding limit
 budgets bytes =
     record {
-      row23-is = row23-above bytes;
+      row23-exact = λ past. (row23-above bytes, row23-given bytes past);
       row23-open = row23-feasible bytes;
       never-eleven = eleven-never bytes;
       whole = λ p e late. let usable = accepted-laws bytes p e .valid .budget-usable late in omega arith;

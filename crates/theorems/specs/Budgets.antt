@@ -1,12 +1,14 @@
 -- Document 02, U7: a budget that cannot be used. Row 23 is of version 4 alone, and it leaves row 11 nothing there.
 use mathlib.Core.Path.{_≡_}
 use mathlib.Core.List.{List, [], _∷_}
+use mathlib.Core.Logic.{_↔_}
 use Prim.Native.Nat.{ℕ, _<_, _≤_}
 use lib.ListN.{set}
 use Rattle.model.specs.Plan.{Plan, places, minTotal, versionIn, planIn}
 use Rattle.model.specs.Refusal.{check23, check10, check11, refusal, judge, refused, accepted}
 use Rattle.model.specs.Replication.{limit}
 use Rattle.model.specs.Calls.{countsCall}
+use Rattle.theory.specs.Refusal.{PastRow17}
 use Rattle.theorems.specs.Trials.{gives}
 use Rattle.theorems.specs.Exact.{Infeasible}
 
@@ -18,8 +20,8 @@ ElevenIdle =
     ≡ check23 version room budget (check10 budget total later)
 
 pub record Budgets (bytes : List ℕ) : Type 0 where
-  -- 23 is given for a version 4 budget above M × C alone: earlier versions are still read
-  pub row23-is : refusal bytes ≡ 23 → (4 ≤ versionIn bytes) × (places (planIn bytes) < planIn bytes .budget)
+  -- past 17, 23 is given exactly for a version 4 budget above M × C: earlier versions are still read
+  pub row23-exact : PastRow17 (refusal bytes) → (refusal bytes ≡ 23) ↔ ((4 ≤ versionIn bytes) × (places (planIn bytes) < planIn bytes .budget))
   -- it does not mean that no lawful placement exists: one does where M × C has room for the least copies
   pub row23-open : refusal bytes ≡ 23 → minTotal (planIn bytes) ≤ places (planIn bytes) → Infeasible (planIn bytes) → ⊥
   -- a version 4 plan is never refused 11
