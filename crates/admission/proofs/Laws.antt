@@ -6,7 +6,7 @@ use Prim.Native.Nat.{ℕ, _*_, min}
 use lib.ListN.{length, getD}
 use Rattle.order.proofs.Tables.{getD-filled}
 use Rattle.model.specs.Plan.{Plan, blockCount}
-use Rattle.model.specs.Replication.{limit as limitOf}
+use Rattle.model.specs.Replication.{copyLimit as limitOf}
 use Rattle.cluster.specs.declared.Cluster.{Cluster}
 use Rattle.cluster.specs.Cluster.{machinesIn, ClusterOf}
 use Rattle.cluster.specs.Blocks.{PlacementFits}
@@ -19,10 +19,10 @@ use Rattle.admission.specs.Admission.{Prepared, PlanReady}
 
 -- the demands of an accepted plan, and the copies that it allows
 pub limited-of : (bytes : List ℕ) (h : Header) → AcceptedHeader bytes h → (demands₀ demands : List ℕ) → Decoded bytes h demands₀ demands
-    → (limit : ℕ) → limit ≡ min (h .budget) (machinesIn (h .cluster) * h .cluster .capacity)
-    → LimitedDemands (planOf bytes h) (h .cluster) demands limit
+    → (allowed : ℕ) → allowed ≡ min (h .budget) (machinesIn (h .cluster) * h .cluster .capacity)
+    → LimitedDemands (planOf bytes h) (h .cluster) demands allowed
 unfolding limitOf planOf
-limited-of bytes h laws demands₀ demands decoded limit e =
+limited-of bytes h laws demands₀ demands decoded allowed e =
     record {
       demands-of =
           record {

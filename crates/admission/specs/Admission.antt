@@ -5,7 +5,8 @@ use Prim.Native.Nat.{ℕ, _≤_}
 use Rattle.model.specs.Plan.{Plan, blockCount}
 use Rattle.model.specs.Refusal.{check12, judge, accepted}
 use Rattle.model.specs.Replication.{largestShare, chosen}
-use Rattle.model.specs.Calls.{callRefusal, placementRefusal}
+use Rattle.model.specs.Calls.{placementRefusal}
+use Rattle.theory.specs.Calls.{callRefusal}
 use Rattle.cluster.specs.declared.Cluster.{Cluster}
 use Rattle.cluster.specs.Blocks.{ProfilesFit, ProfilesOf, PlacementFits, PlacementOf}
 use Rattle.loads.specs.Loads.{LoadsOf}

@@ -42,8 +42,8 @@ pub fn prepare(bytes: &[u8], h: Header, profiles: &mut [u64]) -> u64
 {
     let cluster = h.cluster;
     plan::decode(bytes, h, profiles);
-    let limit = smaller(h.budget, cluster.machines() * cluster.capacity);
-    replication::choose(profiles, limit, cluster)
+    let allowed = smaller(h.budget, cluster.machines() * cluster.capacity);
+    replication::choose(profiles, allowed, cluster)
 }
 
 // A refused call has no cluster.

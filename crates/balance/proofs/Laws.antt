@@ -20,7 +20,7 @@ use Rattle.theory.proofs.Placement.{held-apart}
 use Rattle.cluster.specs.declared.Cluster.{Cluster}
 use Rattle.cluster.specs.Blocks.{shareIn, PlacementFits, PlacementOf}
 use Rattle.loads.specs.declared.Loads.{Loads}
-use Rattle.loads.specs.Loads.{loadSum, copySum, ShiftAsked as SharesAsked, ShiftedTo}
+use Rattle.loads.specs.Loads.{loadSum, copySum, LoadShiftAsked as SharesAsked, ShiftedTo}
 use Rattle.loads.proofs.Laws.{loads-narrow, copies-max}
 use Rattle.transfers.specs.Route.{Shift}
 use Rattle.search.specs.Scene.{Found, stepOf, NextFound}

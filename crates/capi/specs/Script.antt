@@ -17,11 +17,11 @@ use Rattle.codes.specs.Told.{replyOutcome}
 abbrev pub playOutcome : Played → Outcome Reply
 playOutcome p = replyOutcome (p .reply) (p .words)
 
-abbrev pub played : List ℕ → List ℕ → List ℕ → List ℕ → Played
-played plan other script words = play checked (callsOf plan other script) words
+abbrev pub playedWith : List ℕ → List ℕ → List ℕ → List ℕ → Played
+playedWith plan other script words = play checked (callsOf plan other script) words
 
 pub record PlayedInto (plan other script words out : List ℕ) (code : ℕ) (words' out' : List ℕ) : Type 0 where
-  pub equal : effectOf code words' out' ≡ effect 7 replyNumbers words out (playOutcome (played plan other script words))
+  pub equal : effectOf code words' out' ≡ effect 7 replyNumbers words out (playOutcome (playedWith plan other script words))
   pub claimed : 7 ≤ length out → (p : Plan) → judge plan ≡ accepted p → Feasible p (chosen p) words
       → Allowed plan (blockCount p) (callsOf plan other script) words
-      → After p words (record { reply = played plan other script words .reply; words = words' })
+      → After p words (record { reply = playedWith plan other script words .reply; words = words' })

@@ -80,29 +80,29 @@ pub extern "C" fn bpl_step(plan: &[u8], words: &mut [u64], out: &mut [u64]) -> u
     codes::tell_step(answer, out)
 }
 
-// Takes next steps until rest or until the step budget is used: 1 for rest and 0 for spent, and the number of steps.
+// Takes next steps until rest or until the step limit is used: 1 for rest and 0 for spent, and the number of steps.
 #[no_mangle]
-pub extern "C" fn bpl_run(plan: &[u8], words: &mut [u64], budget: u32, out: &mut [u64]) -> u32
+pub extern "C" fn bpl_run(plan: &[u8], words: &mut [u64], limit: u32, out: &mut [u64]) -> u32
     ensures { λ r. ⌜ effectOf r (now (words .exit)) (now (out .exit))
-        ≡ effect 2 runNumbers (now (words .entry)) (now (out .entry)) (runCall (now (plan .entry)) (now (words .entry)) budget) ⌝ }
+        ≡ effect 2 runNumbers (now (words .entry)) (now (out .entry)) (runCall (now (plan .entry)) (now (words .entry)) limit) ⌝ }
 {
     if out.len() < 2 {
         return SHORT_OUT;
     }
-    let answer = service::run(plan, words, budget);
+    let answer = service::run(plan, words, limit);
     codes::tell_run(answer, out)
 }
 
-// Lists a plan in a lent text: a run from the first placement with the step budget. The number of bytes is answered.
+// Lists a plan in a lent text: a run from the first placement with the step limit. The number of bytes is answered.
 #[no_mangle]
-pub extern "C" fn bpl_listing(plan: &[u8], budget: u32, text: &mut [u8], out: &mut [u64]) -> u32
+pub extern "C" fn bpl_listing(plan: &[u8], limit: u32, text: &mut [u8], out: &mut [u64]) -> u32
     ensures { λ r. ⌜ effectOf r (now (text .exit)) (now (out .exit))
-        ≡ effect 1 oneNumber (now (text .entry)) (now (out .entry)) (listingCall (now (plan .entry)) budget (now (text .entry))) ⌝ }
+        ≡ effect 1 oneNumber (now (text .entry)) (now (out .entry)) (listingCall (now (plan .entry)) limit (now (text .entry))) ⌝ }
 {
     if out.len() < 1 {
         return SHORT_OUT;
     }
-    let answer = listing::listing(plan, budget, text);
+    let answer = listing::listing(plan, limit, text);
     codes::tell_listing(answer, out)
 }
 

@@ -98,7 +98,7 @@ unfolding verdictCode
 verdict-done zero p = (λ e. (p, refl), λ d. refl)
 verdict-done (suc code) p = (λ e. absurd (omega arith), λ d. absurd (let e = d .1 in clash (cc)))
 
-module _ (plan items out : List ℕ) (budget : ℕ) where
+module _ (plan items out : List ℕ) (limit : ℕ) where
   counts-told : Told (countsCall plan items .answer)
   unfolding countsCall
   counts-told = plan-told items plan _ _ (buffer-le (length items) (blockCount (planIn plan))) tt
@@ -119,7 +119,7 @@ module _ (plan items out : List ℕ) (budget : ℕ) where
   unfolding stepCall
   step-told = placement-told items plan _ tt
 
-  run-told : Told (runCall plan items budget .answer)
+  run-told : Told (runCall plan items limit .answer)
   unfolding runCall
   run-told = placement-told items plan _ tt
 
@@ -127,7 +127,7 @@ module _ (plan items out : List ℕ) (budget : ℕ) where
   room-row true = inr refl
   room-row false = inl (lit≤ tt)
 
-  listing-told : Told (listingCall plan budget items .answer)
+  listing-told : Told (listingCall plan limit items .answer)
   unfolding listingCall roomRefusal wrote
   listing-told = unless-told items _ _ (room-row (ltb (length items) listingRoom)) (plan-told items plan _ _ (lit≤ tt) tt)
 
@@ -138,7 +138,7 @@ module _ (plan items out : List ℕ) (budget : ℕ) where
       (inl (buffer-le (length items) (length (converted (planIn plan)))))
       tt
 
-  pub codes : Codes plan items out budget
+  pub codes : Codes plan items out limit
   unfolding judge
   codes =
       record {

@@ -35,7 +35,7 @@ abbrev pub EffectTells : {I A : Type 0} → ℕ → (A → List ℕ) → List I 
 EffectTells need numbers items out call = Tells need out (call .answer) (effect need numbers items out call .code)
 
 -- Of every exported function that makes one call, whatever it is lent. Playing a script is never refused: it is short of `out`, or done.
-pub record Codes (plan items out : List ℕ) (budget : ℕ) : Type 0 where
+pub record Codes (plan items out : List ℕ) (limit : ℕ) : Type 0 where
   pub plan-known : (verdictCode (judge plan) ≡ 0) ⊎ RefusalCode (verdictCode (judge plan))
   pub plan-done : (verdictCode (judge plan) ≡ 0) ↔ ((p : Plan) × (judge plan ≡ accepted p))
   pub counts-tells : EffectTells 0 noNumbers items [] (countsCall plan items)
@@ -43,8 +43,8 @@ pub record Codes (plan items out : List ℕ) (budget : ℕ) : Type 0 where
   pub check-tells : EffectTells 0 noNumbers items [] (checkCall plan items)
   pub report-tells : EffectTells 4 reportNumbers items out (reportCall plan items)
   pub step-tells : EffectTells 6 stepNumbers items out (stepCall plan items)
-  pub run-tells : EffectTells 2 runNumbers items out (runCall plan items budget)
-  pub listing-tells : EffectTells 1 oneNumber items out (listingCall plan budget items)
+  pub run-tells : EffectTells 2 runNumbers items out (runCall plan items limit)
+  pub listing-tells : EffectTells 1 oneNumber items out (listingCall plan limit items)
   pub convert-tells : EffectTells 1 oneNumber items out (convertCall plan items)
 
 -- And of those on reads.

@@ -2,6 +2,7 @@
 use conversion::ConvertAnswer;
 use listing::ListingAnswer;
 use plan::Reading;
+use readwindow::ReadsAnswer;
 use script::LastReply;
 use service::CheckAnswer;
 use service::CountsAnswer;
@@ -9,7 +10,6 @@ use service::FirstAnswer;
 use service::ReportAnswer;
 use service::RunAnswer;
 use service::StepAnswer;
-use window::ReadsAnswer;
 ghost use mathlib.Core.List.{[]};
 ghost use Prim.Native.Nat.{_≤_};
 ghost use lib.ListN.{length};

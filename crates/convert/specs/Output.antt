@@ -20,8 +20,8 @@ abbrev pub errorsFor : List ℕ → List ℕ
 errorsFor bytes = convertedErrors (convertVerdict bytes)
 
 -- The same for the bytes that came; nothing at all where a read failed.
-abbrev pub outputOf : Source → List ℕ
-outputOf s = onInput [] outputFor (s .bytes) (s .input)
+abbrev pub convertedStream : Source → List ℕ
+convertedStream s = onInput [] outputFor (s .bytes) (s .input)
 
 abbrev pub errorsOf : Source → List ℕ
 errorsOf s = onInput [] errorsFor (s .bytes) (s .input)
@@ -52,8 +52,8 @@ pub record Sends (answer : ConvertAnswer) (buffer output errors : List ℕ) : Ty
   pub errors-is : answerErrors answer ≡ errors
 
 -- What is written is what is due for the whole input.
-pub record WholeInput : Type 0 where
+pub record ConvertsWhole : Type 0 where
   pub output-is : (s : Source) → SourceIs s → (whole : List ℕ) → InputIs (s .bytes) (s .input) whole
-      → outputOf s ≡ convertedOutput (convertVerdict whole)
+      → convertedStream s ≡ convertedOutput (convertVerdict whole)
   pub errors-is : (s : Source) → SourceIs s → (whole : List ℕ) → InputIs (s .bytes) (s .input) whole
       → errorsOf s ≡ convertedErrors (convertVerdict whole)

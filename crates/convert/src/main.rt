@@ -9,7 +9,7 @@ ghost use mathlib.Core.Path.{_≡_};
 ghost use Prim.Native.Nat.{_≤_};
 ghost use lib.ListN.{length};
 ghost use Rattle.input.specs.Input.{SourceIs};
-ghost use Rattle.convert.specs.Output.{outputOf, errorsOf, resultRoom, lineRoom, resultSize, answerOutput, answerErrors, Sends};
+ghost use Rattle.convert.specs.Output.{convertedStream, errorsOf, resultRoom, lineRoom, resultSize, answerOutput, answerErrors, Sends};
 
 // Bytes that every new file fits in, and every line of a refusal.
 const RESULT_ROOM: usize = 7183;
@@ -19,7 +19,7 @@ const LINE_ROOM: usize = 12;
 // Converts the bytes that came; where a read failed, no byte is converted and nothing is refused.
 fn answer(source: Source, buffer: &mut [u8]) -> ConvertAnswer
     requires { ⌜ SourceIs source × (resultRoom ≤ length (now buffer)) ⌝ }
-    ensures { λ r. ⌜ Sends r (now (buffer .exit)) (outputOf source) (errorsOf source) ⌝ }
+    ensures { λ r. ⌜ Sends r (now (buffer .exit)) (convertedStream source) (errorsOf source) ⌝ }
 {
     let bytes = source.bytes;
     let input = source.input;
@@ -56,7 +56,7 @@ fn errors<'a>(answer: ConvertAnswer, line: &'a mut [u8]) -> &'a mut [u8]
 
 // Writes to both streams what is due for what was read, and nothing else, or says what failed.
 fn write(source: Source, output: &[u8], errors: &[u8])
-    requires { ⌜ SourceIs source × (now output ≡ outputOf source) × (now errors ≡ errorsOf source) ⌝ }
+    requires { ⌜ SourceIs source × (now output ≡ convertedStream source) × (now errors ≡ errorsOf source) ⌝ }
 {
     let input = source.input;
     if let Input::Failed = input {

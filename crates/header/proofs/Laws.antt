@@ -15,7 +15,7 @@ use Rattle.model.specs.Refusal.{maxBlocks, check6, check7}
 use Rattle.theory.proofs.Plan.{formatOf-popularity, formatOf-feeds}
 use Rattle.theory.proofs.Refusal.{check6-short}
 use Rattle.header.specs.Format.{FormatFits}
-use Rattle.header.specs.Header.{countIn}
+use Rattle.header.specs.Header.{countedBlocks}
 
 pub formatOf-fits : (version : ℕ) → FormatFits (formatOf version)
 unfolding formatOf
@@ -28,21 +28,21 @@ formatOf-fits version =
       pair-max = cond-all (λ n. n ≤ 1) (ltb version 2) 0 1 (λ e. omega arith) (omega arith);
     }
 
--- ── countIn ────────────────────────────────────────────────────────────────────────────────────────────────────────────
+-- ── countedBlocks ────────────────────────────────────────────────────────────────────────────────────────────────────────────
 
 -- where its bytes are there, it is B; where one is missing, it is not above the limit, and rows 6 and 7 judge alike by either
 module _ (bytes : List ℕ) where
-  pub countIn-long : headerLength (formatIn bytes) ≤ length bytes → countIn bytes ≡ blockCountIn bytes
-  unfolding countIn
-  countIn-long l = rw (le-ltb (length bytes) (headerLength (formatIn bytes)) l)
+  pub countedBlocks-long : headerLength (formatIn bytes) ≤ length bytes → countedBlocks bytes ≡ blockCountIn bytes
+  unfolding countedBlocks
+  countedBlocks-long l = rw (le-ltb (length bytes) (headerLength (formatIn bytes)) l)
 
-  countIn-short : length bytes < headerLength (formatIn bytes) → countIn bytes ≡ 0
-  unfolding countIn
-  countIn-short l = rw (lt-ltb (length bytes) (headerLength (formatIn bytes)) l)
+  countedBlocks-short : length bytes < headerLength (formatIn bytes) → countedBlocks bytes ≡ 0
+  unfolding countedBlocks
+  countedBlocks-short l = rw (lt-ltb (length bytes) (headerLength (formatIn bytes)) l)
 
-  pub countIn-counted : (f : Format) (count : ℕ) → f ≡ formatIn bytes → count ≡ countIn bytes
+  pub countedBlocks-counted : (f : Format) (count : ℕ) → f ≡ formatIn bytes → count ≡ countedBlocks bytes
       → length bytes < headerLength f → count ≤ maxBlocks
-  countIn-counted f count same is l = omega (arith, is, countIn-short (rw same at l))
+  countedBlocks-counted f count same is l = omega (arith, is, countedBlocks-short (rw same at l))
 
   -- the code of rows 6 and 7 for so many blocks
   abbrev rows : ℕ → ℕ → ℕ
@@ -55,8 +55,8 @@ module _ (bytes : List ℕ) where
       check6-short (formatIn bytes) (length bytes) count _ l
       ∙ (rw (ne-eqb (length bytes) (recordAt (formatIn bytes) count) (λ e. omega arith)))
 
-  pub countIn-rows : (later : ℕ) → rows later (blockCountIn bytes) ≡ rows later (countIn bytes)
-  countIn-rows later = elim (decLt (length bytes) (headerLength (formatIn bytes))) [
-    | yes short ↦ rows-short short later (blockCountIn bytes) ∙ sym (rows-short short later (countIn bytes))
-    | no long ↦ ap (rows later) (sym (countIn-long (omega arith)))
+  pub countedBlocks-rows : (later : ℕ) → rows later (blockCountIn bytes) ≡ rows later (countedBlocks bytes)
+  countedBlocks-rows later = elim (decLt (length bytes) (headerLength (formatIn bytes))) [
+    | yes short ↦ rows-short short later (blockCountIn bytes) ∙ sym (rows-short short later (countedBlocks bytes))
+    | no long ↦ ap (rows later) (sym (countedBlocks-long (omega arith)))
   ]

@@ -33,8 +33,8 @@ abbrev pub headerIn : List ℕ → Header
 headerIn bytes = headerCounted (blockCountIn bytes) bytes
 
 -- B, and 0 where one of its bytes is missing.
-unfoldable pub countIn : List ℕ → ℕ
-countIn bytes = cond (ltb (length bytes) (headerLength (formatIn bytes))) 0 (blockCountIn bytes)
+unfoldable pub countedBlocks : List ℕ → ℕ
+countedBlocks bytes = cond (ltb (length bytes) (headerLength (formatIn bytes))) 0 (blockCountIn bytes)
 
 -- The common bytes, and their format.
 pub record FieldsAsked (bytes : List ℕ) (f : Format) : Type 0 where

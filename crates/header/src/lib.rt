@@ -8,7 +8,7 @@ ghost use lib.ListN.{length};
 ghost use Rattle.model.specs.Plan.{field, commonLength, formatOf, formatIn, feedsIn, recordAt};
 ghost use Rattle.model.specs.Refusal.{maxBlocks};
 ghost use Rattle.header.specs.Format.{asFormat, FormatFits};
-ghost use Rattle.header.specs.Header.{countIn, headerCounted, HallRows, SizeRows, Narrow, FieldsAsked, SizesAsked, MarkChecked, HeaderChecked};
+ghost use Rattle.header.specs.Header.{countedBlocks, headerCounted, HallRows, SizeRows, Narrow, FieldsAsked, SizesAsked, MarkChecked, HeaderChecked};
 
 // The bytes that every version's header has, the mark, the latest version, and the most copies that a machine can be said to hold.
 const COMMON_LENGTH: usize = 15;
@@ -211,7 +211,7 @@ fn feeds_in(bytes: &[u8], format: Format) -> usize
 // B, which is 0 where one of its bytes is missing: row 6 is not judged on the other one.
 fn count_in(bytes: &[u8], format: Format) -> usize
     requires { ⌜ FieldsAsked (now bytes) format ⌝ }
-    ensures { λ r. ⌜ r ≡ countIn (now (bytes .entry)) ⌝ }
+    ensures { λ r. ⌜ r ≡ countedBlocks (now (bytes .entry)) ⌝ }
 {
     if bytes.len() < COMMON_LENGTH + format.feeds_width {
         return 0;
@@ -222,7 +222,7 @@ fn count_in(bytes: &[u8], format: Format) -> usize
 // The header's fields.
 fn fields(bytes: &[u8], format: Format) -> Header
     requires { ⌜ FieldsAsked (now bytes) format ⌝ }
-    ensures { λ r. ⌜ (r ≡ headerCounted (countIn (now (bytes .entry))) (now (bytes .entry))) × Narrow r ⌝ }
+    ensures { λ r. ⌜ (r ≡ headerCounted (countedBlocks (now (bytes .entry))) (now (bytes .entry))) × Narrow r ⌝ }
 {
     let shift = format.feeds_width;
     let cluster = Cluster {

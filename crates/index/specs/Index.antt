@@ -132,8 +132,8 @@ pub record AboveAsked (index : List ℕ) (c : Cluster) : Type 0 where
   pub blocks-max : c .blocks ≤ maxBlocks
   pub rising : (r q : ℕ) → r ≤ q → q < c .blocks → shareAt index r ≤ shareAt index q
 
--- r is the first rank whose share is above the limit, or past the last block.
-pub record AboveOf (index : List ℕ) (limit : ℕ) (c : Cluster) (r : ℕ) : Type 0 where
+-- r is the first rank whose share is above the bound, or past the last block.
+pub record AboveOf (index : List ℕ) (bound : ℕ) (c : Cluster) (r : ℕ) : Type 0 where
   pub within : r ≤ c .blocks
-  pub passed : (k : ℕ) → k < r → shareAt index k ≤ limit
-  pub above : (k : ℕ) → r ≤ k → k < c .blocks → limit < shareAt index k
+  pub passed : (k : ℕ) → k < r → shareAt index k ≤ bound
+  pub above : (k : ℕ) → r ≤ k → k < c .blocks → bound < shareAt index k

@@ -18,15 +18,6 @@ pub const KEYS_AT: usize = 2048;
 
 pub const RANKS_AT: usize = 3072;
 
-// A route: a step takes a block from machine m to machine n. What m's load may fall by stays below `margin`; `parted` says whether the
-// two lie in different failure domains.
-pub struct Route {
-    pub parted: bool,
-    pub m: usize,
-    pub n: usize,
-    pub margin: u64,
-}
-
 // The first B of the items at the start of a part of the index.
 fn copy_part(index: &mut [u64], part: usize, from: &[u64], blocks: usize)
     requires { ⌜ CopyAsked (now index) part (now from) blocks ⌝ }
@@ -111,16 +102,16 @@ pub fn next(index: &[u64], part: usize, m: usize, n: usize, from: usize, cluster
     k
 }
 
-// The first rank whose share is above `limit`; past the last block where there is none.
-pub fn first_above(index: &[u64], limit: u64, cluster: Cluster) -> usize
+// The first rank whose share is above `bound`; past the last block where there is none.
+pub fn first_above(index: &[u64], bound: u64, cluster: Cluster) -> usize
     requires { ⌜ AboveAsked (now index) cluster ⌝ }
-    ensures { λ r. ⌜ AboveOf (now (index .entry)) limit cluster r ⌝ }
+    ensures { λ r. ⌜ AboveOf (now (index .entry)) bound cluster r ⌝ }
 {
     let mut low: usize = 0;
     let mut high = cluster.blocks;
     while low < high {
         let middle = (low + high) / 2;
-        if ranking::share_of(index[KEYS_AT + middle]) <= limit {
+        if ranking::key_share(index[KEYS_AT + middle]) <= bound {
             low = middle + 1;
         } else {
             high = middle;

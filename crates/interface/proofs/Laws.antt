@@ -8,7 +8,7 @@ use lib.ListN.{length, getD, drop, set}
 use lib.Seq.{ext-getD}
 use Rattle.order.specs.Table.{table, filled}
 use Rattle.order.proofs.Tables.{length-table, getD-table, filled-none, filled-more}
-use Rattle.model.specs.Steps.{Step, none, move, swap}
+use Rattle.model.specs.Steps.{Step, none, relocate, exchange}
 use Rattle.interface.specs.Interface.{over, stepNumbers}
 
 -- the first i of the numbers stand in the list
@@ -41,5 +41,5 @@ pub stepNumbers-six : (s : Step) → let n = stepNumbers s in
     (2 ∷ n)
 unfolding stepNumbers
 stepNumbers-six none = refl
-stepNumbers-six (move racks m n i) = refl
-stepNumbers-six (swap racks m n i j) = refl
+stepNumbers-six (relocate racks m n i) = refl
+stepNumbers-six (exchange racks m n i j) = refl

@@ -4,7 +4,7 @@ use mathlib.Core.List.{List, [], _∷_, _++_}
 use Prim.Native.Nat.{ℕ}
 use lib.Dec.{ltb}
 use lib.ListN.{length, drop}
-use Rattle.model.specs.Steps.{Step, none, move, swap}
+use Rattle.model.specs.Steps.{Step, none, relocate, exchange}
 use Rattle.model.specs.Claims.{Reply, refusedBy, checked, stepped, ran}
 use Rattle.model.specs.Calls.{Answer, turnedBack, answered, OutcomeOver, Report, RunReply}
 
@@ -53,8 +53,8 @@ swapKind racks = cond racks 3 1
 -- Of a step: 1 if there is one, its kind, m, n, i, j; 0 where there is none.
 unfoldable pub stepNumbers : Step → List ℕ
 stepNumbers none = 0 ∷ 0 ∷ 0 ∷ 0 ∷ 0 ∷ 0 ∷ []
-stepNumbers (move racks m n i) = 1 ∷ moveKind racks ∷ m ∷ n ∷ i ∷ 0 ∷ []
-stepNumbers (swap racks m n i j) = 1 ∷ swapKind racks ∷ m ∷ n ∷ i ∷ j ∷ []
+stepNumbers (relocate racks m n i) = 1 ∷ moveKind racks ∷ m ∷ n ∷ i ∷ 0 ∷ []
+stepNumbers (exchange racks m n i j) = 1 ∷ swapKind racks ∷ m ∷ n ∷ i ∷ j ∷ []
 
 -- Of a run: 1 for rest and 0 for spent, and the number of steps taken.
 unfoldable pub runNumbers : RunReply → List ℕ

@@ -39,7 +39,7 @@ pub record ListAsked (bytes : List ℕ) (h : Header) (text : List ℕ) : Type 0 
   pub accepts : judge bytes ≡ accepted (planOf bytes h)
   pub room : listingRoom ≤ length text
 
-pub record WordsAsked (bytes : List ℕ) (h : Header) (words text : List ℕ) : Type 0 where
+pub record PutAsked (bytes : List ℕ) (h : Header) (words text : List ℕ) : Type 0 where
   pub asked : ListAsked bytes h text
   pub words-are : length words ≡ h .cluster .blocks
 

@@ -7,7 +7,7 @@ ghost use mathlib.Core.Path.{_≡_};
 ghost use Rattle.model.specs.Listing.{listingOf, listingCall, printCall};
 ghost use Rattle.plan.specs.Reading.{planOf};
 ghost use Rattle.text.specs.Pasted.{Put};
-ghost use Rattle.listing.specs.FirstRun.{FirstRunAsked, FirstRunAs, ListAsked, WordsAsked, readingCode};
+ghost use Rattle.listing.specs.FirstRun.{FirstRunAsked, FirstRunAs, ListAsked, PutAsked, readingCode};
 ghost use Rattle.listing.specs.Entries.{listingOutcome};
 
 // Bytes that every listing fits in, and the code for a shorter text, above all refusal numbers.
@@ -44,7 +44,7 @@ fn run_first(
 
 // Puts the listing of an accepted plan, with room for its words.
 fn put_listing(bytes: &[u8], h: Header, limit: u32, words: &mut [u64], text: &mut [u8]) -> usize
-    requires { ⌜ WordsAsked (now bytes) h (now words) (now text) ⌝ }
+    requires { ⌜ PutAsked (now bytes) h (now words) (now text) ⌝ }
     ensures { λ r. ⌜ Put 0 (listingOf (planOf (now (bytes .entry)) h) limit) (now (text .entry)) (now (text .exit)) r ⌝ }
 {
     let cluster = h.cluster;

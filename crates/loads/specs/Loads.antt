@@ -44,7 +44,7 @@ pub record LoadsOf (c : Cluster) (words profiles loads copies : List ℕ) : Type
   pub copies-are : (m : ℕ) → m < maxMachines → getD copies m 0 ≡ copySum c words m
 
 -- A share that passes from m, which has it, to n.
-pub record ShiftAsked (l : Loads) (m n share : ℕ) : Type 0 where
+pub record LoadShiftAsked (l : Loads) (m n share : ℕ) : Type 0 where
   pub m-below : m < maxMachines
   pub n-below : n < maxMachines
   pub has-share : share ≤ getD (l .load) m 0

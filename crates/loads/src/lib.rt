@@ -2,7 +2,7 @@
 use cluster::Cluster;
 use cluster::MAX_MACHINES;
 ghost use Rattle.cluster.specs.Blocks.{PlacementFits};
-ghost use Rattle.loads.specs.Loads.{AddAsked, AddedTo, LoadsOf, ShiftAsked, ShiftedTo, ReportAsked, ReportOf};
+ghost use Rattle.loads.specs.Loads.{AddAsked, AddedTo, LoadsOf, LoadShiftAsked, ShiftedTo, ReportAsked, ReportOf};
 
 // For each of 64 machines: the sum of its copies' shares, and the number of its copies.
 pub struct Loads {
@@ -53,7 +53,7 @@ pub fn sum_words(words: &[u64], profiles: &[u64], cluster: Cluster) -> Loads
 
 // The loads and copies once a copy of that share has passed from m to n.
 pub fn shift(loads: Loads, m: usize, n: usize, share: u64) -> Loads
-    requires { ⌜ ShiftAsked loads m n share ⌝ }
+    requires { ⌜ LoadShiftAsked loads m n share ⌝ }
     ensures { λ r. ⌜ ShiftedTo loads m n share r ⌝ }
 {
     let mut load = loads.load;

@@ -34,11 +34,6 @@ unfoldable pub unless : {I A : Type 0} → ℕ → List I → OutcomeOver I A �
 unless zero items call = call
 unless (suc code) items call = refuse (suc code) items
 
--- The refusal code of a call: the plan's, else that of the call's own rows; 0 for none.
-unfoldable pub callRefusal : Verdict → (Plan → ℕ) → ℕ
-callRefusal (refused code) rows = code
-callRefusal (accepted p) rows = rows p
-
 -- A call that is made where neither the plan nor the call's own rows are refused.
 unfoldable pub onPlan : {I A : Type 0} → Verdict → List I → (Plan → ℕ) → (Plan → OutcomeOver I A) → OutcomeOver I A
 onPlan (refused code) items rows call = refuse code items
@@ -111,8 +106,8 @@ pub record RunReply : Type 0 where
   pub steps : ℕ
 
 unfoldable pub runCall : List ℕ → List ℕ → ℕ → Outcome RunReply
-runCall bytes words budget =
+runCall bytes words limit =
     onPlacement bytes words
     (λ p.
-    let r = run p budget words in
+    let r = run p limit words in
     record { answer = answered (record { rested = r .rested; steps = r .steps }); items = r .words })

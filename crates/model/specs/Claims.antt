@@ -47,7 +47,7 @@ played reply outcome = record { reply = replyOf reply (outcome .answer); words =
 unfoldable pub respond : Request → List ℕ → List ℕ → Played
 respond askCheck bytes words = played (λ n. checked) (checkCall bytes words)
 respond askStep bytes words = played stepped (stepCall bytes words)
-respond (askRun budget) bytes words = played ran (runCall bytes words budget)
+respond (askRun limit) bytes words = played ran (runCall bytes words limit)
 
 -- A call acts on the words that it is lent; those past them stay.
 unfoldable pub does : Call → List ℕ → Played

@@ -80,10 +80,10 @@ lastLine p r =
     line (endWord (r .rested))
     (r .steps ∷ report .maximum ∷ report .minimum ∷ report .total ∷ report .top ∷ [])
 
--- The listing of a plan: a run from the first placement with a step budget; block lines of the placement after the run.
+-- The listing of a plan: a run from the first placement with a step limit; block lines of the placement after the run.
 unfoldable pub listingOf : Plan → ℕ → List ℕ
-listingOf p budget =
-    let r = run p budget (firstPlacement p) in
+listingOf p limit =
+    let r = run p limit (firstPlacement p) in
     planLine p ++ joined (blockCount p) (blockLine p (r .words)) ++ lastLine p r
 
 -- A plan refused at any check prints `refused` and its number and nothing more.
@@ -91,12 +91,12 @@ unfoldable pub refusedLine : ℕ → List ℕ
 refusedLine code = line refusedWord (code ∷ [])
 
 unfoldable pub printedOf : Verdict → ℕ → List ℕ
-printedOf (refused code) budget = refusedLine code
-printedOf (accepted p) budget = listingOf p budget
+printedOf (refused code) limit = refusedLine code
+printedOf (accepted p) limit = listingOf p limit
 
 -- What is printed for any bytes.
 unfoldable pub printed : List ℕ → ℕ → List ℕ
-printed bytes budget = printedOf (judge bytes) budget
+printed bytes limit = printedOf (judge bytes) limit
 
 -- The program runs "with step budget 100,000".
 abbrev pub stepLimit : ℕ
@@ -122,9 +122,9 @@ wrote bytes text = record { answer = answered (length bytes); items = bytes ++ d
 
 -- Listing a plan in a lent text: too short a text is refused first, and a refusal writes nothing.
 unfoldable pub listingCall : List ℕ → ℕ → List ℕ → Outcome ℕ
-listingCall bytes budget text =
-    unless (roomRefusal (length text)) text (onPlan (judge bytes) text (λ p. 0) (λ p. wrote (listingOf p budget) text))
+listingCall bytes limit text =
+    unless (roomRefusal (length text)) text (onPlan (judge bytes) text (λ p. 0) (λ p. wrote (listingOf p limit) text))
 
 -- Printing in a lent text: a refused plan's line is written too.
 unfoldable pub printCall : List ℕ → ℕ → List ℕ → Outcome ℕ
-printCall bytes budget text = unless (roomRefusal (length text)) text (wrote (printed bytes budget) text)
+printCall bytes limit text = unless (roomRefusal (length text)) text (wrote (printed bytes limit) text)

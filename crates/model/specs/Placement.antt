@@ -10,7 +10,7 @@ use Rattle.order.specs.Sum.{sum}
 use Rattle.order.specs.Table.{table}
 use Rattle.order.specs.Search.{allb, largest, smallest}
 use Rattle.model.specs.Plan.{Plan, machines, domain, domains, blockCount, blockOf, isPaired, partner, upper}
-use Rattle.model.specs.Replication.{limit, FeasibleCounts, share, chosen}
+use Rattle.model.specs.Replication.{copyLimit, FeasibleCounts, share, chosen}
 
 -- A placement is one word per block; bit m is 1 where machine m holds a copy.
 unfoldable pub bit : ℕ → ℕ → ℕ
@@ -69,7 +69,7 @@ allApart p words = allb (blockCount p) (λ i. cond (isPaired p i) (keptApart p w
 unfoldable pub countsFeasible : Plan → (ℕ → ℕ) → Bool
 countsFeasible p count =
     allb (blockCount p) (λ i. leb (blockOf p i .minReplicas) (count i) && leb (count i) (upper p i))
-    && leb (sum (blockCount p) count) (limit p)
+    && leb (sum (blockCount p) count) (copyLimit p)
 
 unfoldable pub isFeasible : Plan → List ℕ → Bool
 isFeasible p words =

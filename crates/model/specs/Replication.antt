@@ -7,14 +7,14 @@ use Rattle.order.specs.Search.{least, allb, largest}
 use Rattle.model.specs.Plan.{Plan, places, blockCount, blockOf, upper}
 
 -- The most replicas in all: the smaller of budget and M × C. From version 4 on that is the budget, since row 23 refuses a larger one.
-unfoldable pub limit : Plan → ℕ
-limit p = min (p .budget) (places p)
+unfoldable pub copyLimit : Plan → ℕ
+copyLimit p = min (p .budget) (places p)
 
 -- Lawful counts: each from least copies to the upper count, and the sum within the limit.
 pub record FeasibleCounts (p : Plan) (count : ℕ → ℕ) : Type 0 where
   pub at-least : (i : ℕ) → i < blockCount p → blockOf p i .minReplicas ≤ count i
   pub at-most : (i : ℕ) → i < blockCount p → count i ≤ upper p i
-  pub in-limit : sum (blockCount p) count ≤ limit p
+  pub in-limit : sum (blockCount p) count ≤ copyLimit p
 
 -- The units in a read, which 1 to 10 divide, and the share of a copy: P × 2520 / count.
 abbrev pub unit : ℕ
@@ -36,7 +36,7 @@ need p figure i =
 -- Whether lawful counts keep every share within the figure.
 unfoldable pub reachable : Plan → ℕ → Bool
 reachable p figure =
-    allb (blockCount p) (λ i. leb (need p figure i) (upper p i)) && leb (sum (blockCount p) (need p figure)) (limit p)
+    allb (blockCount p) (λ i. leb (need p figure i) (upper p i)) && leb (sum (blockCount p) (need p figure)) (copyLimit p)
 
 -- The chosen counts: the least figure that is reachable, then for each block the least count within it.
 unfoldable pub figure : Plan → ℕ

@@ -10,12 +10,25 @@ use Rattle.order.specs.Search.{firstUp}
 use Rattle.model.specs.Plan.{Plan, machines, rackOf, blockCount}
 use Rattle.model.specs.Placement.{held, wordOf, used, isFeasible, load}
 
--- A step, or none. The first argument is whether m and n lie in different racks: Move and Swap are `move false` and `swap false`,
--- RackMove and RackSwap `move true` and `swap true`. The others are m, n, i and, of a swap, j.
+-- A step, or none. Of a relocation block i passes from machine m to machine n, of an exchange also block j from n to m. The first argument
+-- says whether m and n lie in different racks; the others are m, n, i and, of an exchange, j, in the order of steps.
 pub data Step : Type 0 where
   none : Step
-  move : Bool → ℕ → ℕ → ℕ → Step
-  swap : Bool → ℕ → ℕ → ℕ → ℕ → Step
+  relocate : Bool → ℕ → ℕ → ℕ → Step
+  exchange : Bool → ℕ → ℕ → ℕ → ℕ → Step
+
+-- The four kinds as the document writes them: Move(m, i, n), Swap(m, i, n, j), RackMove(m, i, n), RackSwap(m, i, n, j).
+abbrev pub Move : ℕ → ℕ → ℕ → Step
+Move m i n = relocate false m n i
+
+abbrev pub Swap : ℕ → ℕ → ℕ → ℕ → Step
+Swap m i n j = exchange false m n i j
+
+abbrev pub RackMove : ℕ → ℕ → ℕ → Step
+RackMove m i n = relocate true m n i
+
+abbrev pub RackSwap : ℕ → ℕ → ℕ → ℕ → Step
+RackSwap m i n j = exchange true m n i j
 
 -- A word with the copy on m, which it has, on n instead, which it has not.
 unfoldable pub shifted : ℕ → ℕ → ℕ → ℕ
@@ -30,8 +43,8 @@ afterSwap words m n i j = afterMove (afterMove words m n i) n m j
 
 unfoldable pub after : List ℕ → Step → List ℕ
 after words none = words
-after words (move racks m n i) = afterMove words m n i
-after words (swap racks m n i j) = afterSwap words m n i j
+after words (relocate racks m n i) = afterMove words m n i
+after words (exchange racks m n i j) = afterSwap words m n i j
 
 -- A step must leave a lawful placement, and both machines' loads afterwards must be strictly below Lm.
 unfoldable pub improves : Plan → List ℕ → List ℕ → ℕ → ℕ → Bool
@@ -60,8 +73,8 @@ canSwap p words m n i j =
 -- The first step of a kind by m, n, i, j, each lowest first; `racks` says whether m and n lie in different racks.
 abbrev pub isStep : Step → Bool
 isStep none = false
-isStep (move racks m n i) = true
-isStep (swap racks m n i j) = true
+isStep (relocate racks m n i) = true
+isStep (exchange racks m n i j) = true
 
 abbrev pub first : ℕ → (ℕ → Step) → Step
 first n f = firstUp isStep none f n
@@ -72,20 +85,20 @@ routes p racks f =
 
 unfoldable pub nextMove : Plan → List ℕ → Bool → Step
 nextMove p words racks =
-    routes p racks (λ m n. first (blockCount p) (λ i. cond (canMove p words m n i) (move racks m n i) none))
+    routes p racks (λ m n. first (blockCount p) (λ i. cond (canMove p words m n i) (relocate racks m n i) none))
 
 unfoldable pub nextSwap : Plan → List ℕ → Bool → Step
 nextSwap p words racks =
     routes p racks
     (λ m n.
     first (blockCount p)
-    (λ i. first (blockCount p) (λ j. cond (canSwap p words m n i j) (swap racks m n i j) none)))
+    (λ i. first (blockCount p) (λ j. cond (canSwap p words m n i j) (exchange racks m n i j) none)))
 
 -- The first of two steps.
 abbrev pub orStep : Step → Step → Step
 orStep none later = later
-orStep (move racks m n i) later = move racks m n i
-orStep (swap racks m n i j) later = swap racks m n i j
+orStep (relocate racks m n i) later = relocate racks m n i
+orStep (exchange racks m n i j) later = exchange racks m n i j
 
 -- The next step: the first by kind (Move, Swap, RackMove, RackSwap). At rest (a local optimum) exactly if there is none.
 unfoldable pub nextStep : Plan → List ℕ → Step
@@ -106,9 +119,9 @@ pub record Run : Type 0 where
 
 unfoldable pub run : Plan → ℕ → List ℕ → Run
 run p zero words = record { rested = not (isStep (nextStep p words)); steps = 0; words = words }
-run p (suc budget) words =
+run p (suc limit) words =
     let next = nextStep p words in
-    let later = run p budget (after words next) in
+    let later = run p limit (after words next) in
     let stepped : Run = record { rested = later .rested; steps = suc (later .steps); words = later .words } in
     cond (isStep next) stepped (record { rested = true; steps = 0; words = words })
 

@@ -21,21 +21,21 @@ pub record FractionFits (f : Fraction) : Type 0 where
   pub count-pos : 1 ≤ f .count
   pub count-max : f .count ≤ mostReplicas
 
-abbrev pub shareAt : Fraction → ℕ
-shareAt f = share (f .popularity) (f .count)
+abbrev pub fractionShare : Fraction → ℕ
+fractionShare f = share (f .popularity) (f .count)
 
 -- A next share, and one block's share more that is not above it.
-pub record NextAsked (next : NextShare) (share : Fraction) : Type 0 where
+pub record NextShareAsked (next : NextShare) (share : Fraction) : Type 0 where
   pub next-fits : FractionFits (next .share)
   pub share-fits : FractionFits share
-  pub share-max : shareAt share ≤ shareAt (next .share)
+  pub share-max : fractionShare share ≤ fractionShare (next .share)
   pub blocks-room : next .blocks < maxBlocks
 
 -- That share, and how many blocks have it.
 pub record NextAs (next : NextShare) (share : Fraction) (r : NextShare) : Type 0 where
   pub share-is : r .share ≡ share
-  pub tied : shareAt share ≡ shareAt (next .share) → r .blocks ≡ suc (next .blocks)
-  pub replaced : shareAt share < shareAt (next .share) → r .blocks ≡ 1
+  pub tied : fractionShare share ≡ fractionShare (next .share) → r .blocks ≡ suc (next .blocks)
+  pub replaced : fractionShare share < fractionShare (next .share) → r .blocks ≡ 1
 
 -- Estimates are reckoned in parts of a copy.
 abbrev pub parts : ℕ

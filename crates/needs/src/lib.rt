@@ -6,7 +6,7 @@ ghost use lib.Dec.{ltb};
 ghost use Rattle.model.specs.Plan.{Plan};
 ghost use Rattle.theory.specs.Widths.{shareBound};
 ghost use Rattle.cluster.specs.Blocks.{DemandsFit, DemandsOf};
-ghost use Rattle.needs.specs.Needs.{FractionFits, shareAt, NextAsked, NextAs, ScaleOf, NeedAsked, NeedOf, FigureAsked, TallyFits, TallyOf, ExtentFits, ExtentOf};
+ghost use Rattle.needs.specs.Needs.{FractionFits, fractionShare, NextShareAsked, NextAs, ScaleOf, NeedAsked, NeedOf, FigureAsked, TallyFits, TallyOf, ExtentFits, ExtentOf};
 
 // The units in a read.
 pub const UNIT: u64 = 2520;
@@ -58,7 +58,7 @@ pub fn larger(a: u64, b: u64) -> u64
 // The share in units: the popularity times the unit's quotient by the count.
 pub fn share_at(at: Fraction) -> u64
     requires { ⌜ FractionFits at ⌝ }
-    ensures { λ r. ⌜ r ≡ shareAt at ⌝ }
+    ensures { λ r. ⌜ r ≡ fractionShare at ⌝ }
 {
     at.popularity * (UNIT / at.count as u64)
 }
@@ -66,7 +66,7 @@ pub fn share_at(at: Fraction) -> u64
 // The larger of a share and another one, which is divided only where it is the larger.
 fn raised(top: u64, share: Fraction) -> u64
     requires { ⌜ (top < shareBound) × FractionFits share ⌝ }
-    ensures { λ r. ⌜ r ≡ max top (shareAt share) ⌝ }
+    ensures { λ r. ⌜ r ≡ max top (fractionShare share) ⌝ }
 {
     if top * (share.count as u64) < share.popularity * UNIT {
         return share_at(share);
@@ -77,14 +77,14 @@ fn raised(top: u64, share: Fraction) -> u64
 // Shares are compared without a division: by the popularities, each times the other's count.
 fn is_less(a: Fraction, b: Fraction) -> bool
     requires { ⌜ FractionFits a × FractionFits b ⌝ }
-    ensures { λ r. ⌜ r ≡ ltb (shareAt a) (shareAt b) ⌝ }
+    ensures { λ r. ⌜ r ≡ ltb (fractionShare a) (fractionShare b) ⌝ }
 {
     a.popularity * (b.count as u64) < b.popularity * (a.count as u64)
 }
 
 // The next share with one block more, whose share with one copy less is not above it.
 fn next_with(next: NextShare, share: Fraction) -> NextShare
-    requires { ⌜ NextAsked next share ⌝ }
+    requires { ⌜ NextShareAsked next share ⌝ }
     ensures { λ r. ⌜ NextAs next share r ⌝ }
 {
     let smallest = next.share;

@@ -11,10 +11,10 @@ abbrev pub printedFor : List ℕ → List ℕ
 printedFor bytes = printed bytes stepLimit
 
 -- What is printed for the bytes that came; nothing where a read failed.
-abbrev pub outputOf : Source → List ℕ
-outputOf s = onInput [] printedFor (s .bytes) (s .input)
+abbrev pub listedOutput : Source → List ℕ
+listedOutput s = onInput [] printedFor (s .bytes) (s .input)
 
 -- What is written is what is printed for the whole input.
-abbrev pub WholeInput : Type 0
-WholeInput =
-    (s : Source) → SourceIs s → (whole : List ℕ) → InputIs (s .bytes) (s .input) whole → outputOf s ≡ printed whole stepLimit
+abbrev pub ListsWhole : Type 0
+ListsWhole =
+    (s : Source) → SourceIs s → (whole : List ℕ) → InputIs (s .bytes) (s .input) whole → listedOutput s ≡ printed whole stepLimit

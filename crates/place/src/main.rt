@@ -9,7 +9,7 @@ ghost use lib.ListN.{length};
 ghost use Rattle.model.specs.Listing.{printed, stepLimit, listingRoom, printCall};
 ghost use Rattle.listing.specs.Entries.{listingOutcome};
 ghost use Rattle.input.specs.Input.{SourceIs};
-ghost use Rattle.place.specs.Output.{outputOf};
+ghost use Rattle.place.specs.Output.{listedOutput};
 
 const STEP_LIMIT: u32 = 100000;
 
@@ -35,7 +35,7 @@ fn list<'a>(bytes: &[u8], text: &'a mut [u8]) -> &'a mut [u8]
 // The part of a lent text that holds the output: what is printed for the bytes that came, nothing where a read failed.
 fn output<'a>(source: Source, text: &'a mut [u8]) -> &'a mut [u8]
     requires { ⌜ SourceIs source × (listingRoom ≤ length (now text)) ⌝ }
-    ensures { λ r. ⌜ now r ≡ outputOf source ⌝ }
+    ensures { λ r. ⌜ now r ≡ listedOutput source ⌝ }
 {
     let bytes = source.bytes;
     let input = source.input;
@@ -48,7 +48,7 @@ fn output<'a>(source: Source, text: &'a mut [u8]) -> &'a mut [u8]
 
 // Writes the output for what was read, and nothing else, or says what failed.
 fn write(source: Source, text: &[u8])
-    requires { ⌜ SourceIs source × (now text ≡ outputOf source) ⌝ }
+    requires { ⌜ SourceIs source × (now text ≡ listedOutput source) ⌝ }
 {
     let input = source.input;
     if let Input::Failed = input {

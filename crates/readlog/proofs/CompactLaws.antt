@@ -11,7 +11,7 @@ use Rattle.order.specs.Select.{select}
 use Rattle.order.proofs.Selects.{select-snoc}
 use Rattle.model.specs.declared.Entry.{Entry}
 use Rattle.model.specs.ReadLog.{noEntry, inWindow, current}
-use Rattle.window.specs.Window.{keptWith}
+use Rattle.readwindow.specs.Window.{keptWith}
 use Rattle.readlog.specs.Records.{Swept, sweep, swept, SweptTo, cleared, compacted, CompactedAs}
 use Rattle.readlog.proofs.SweptLaws.{swept-length, swept-kept}
 
@@ -91,31 +91,31 @@ module _ (tick : ℕ) (list : List Entry) where
       front-more i (swept tick list i .list) (swept tick list i .kept) below (swept-length tick list i) (swept-kept tick list i)
       (swept-front i (omega arith))
 
-pub swept-most : (tick limit count : ℕ) (list list' : List Entry) (kept : ℕ) → count ≤ limit → SweptTo tick count list list' kept → kept ≤ limit
-swept-most tick limit count list list' kept below to =
+pub swept-most : (tick span count : ℕ) (list list' : List Entry) (kept : ℕ) → count ≤ span → SweptTo tick count list list' kept → kept ≤ span
+swept-most tick span count list list' kept below to =
     let most = swept-kept tick list count in
     let is = to .kept-is in
     omega (arith, most, is)
 
-pub cleared-compacted : (tick limit count : ℕ) (list list' : List Entry) (kept : ℕ) → limit ≤ length list → count ≤ limit
-    → SweptTo tick count list list' kept → CompactedAs tick limit count list (cleared kept limit list') kept
+pub cleared-compacted : (tick span count : ℕ) (list list' : List Entry) (kept : ℕ) → span ≤ length list → count ≤ span
+    → SweptTo tick count list list' kept → CompactedAs tick span count list (cleared kept span list') kept
 unfolding cleared compacted
-cleared-compacted tick limit count list list' kept room below to =
+cleared-compacted tick span count list list' kept room below to =
     let at = swept-front tick list count (omega arith) in
     let number : kept ≡ length (current tick (take count list)) = to .kept-is ∙ at .number in
     let front : take kept list' ≡ current tick (take count list)
     = ap₂ (λ (n : ℕ) (l : List Entry). take n l) (to .kept-is) (to .list-is) ∙ at .front in
-    let split : count + (limit - count) ≡ limit = omega arith in
-    let rest : drop limit list' ≡ drop limit list
-    = ap (drop limit) (to .list-is)
+    let split : count + (span - count) ≡ span = omega arith in
+    let rest : drop span list' ≡ drop span list
+    = ap (drop span) (to .list-is)
     ∙ ap (λ (n : ℕ). drop n (swept tick list count .list)) (sym split)
-    ∙ sym (drop-drop (limit - count) count (swept tick list count .list))
-    ∙ ap (drop (limit - count)) (at .rest)
-    ∙ drop-drop (limit - count) count list
+    ∙ sym (drop-drop (span - count) count (swept tick list count .list))
+    ∙ ap (drop (span - count)) (at .rest)
+    ∙ drop-drop (span - count) count list
     ∙ ap (λ (n : ℕ). drop n list) split in
     record {
       list-is =
-          ap₂ (λ (f r : List Entry). f ++ replicate (limit - kept) noEntry ++ r) front rest
-          ∙ ap (λ (n : ℕ). current tick (take count list) ++ replicate (limit - n) noEntry ++ drop limit list) number;
+          ap₂ (λ (f r : List Entry). f ++ replicate (span - kept) noEntry ++ r) front rest
+          ∙ ap (λ (n : ℕ). current tick (take count list) ++ replicate (span - n) noEntry ++ drop span list) number;
       kept-is = number;
     }

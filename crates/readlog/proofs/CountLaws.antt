@@ -12,7 +12,7 @@ use lib.ListN.{length, getD, take}
 use Rattle.order.specs.Select.{select}
 use Rattle.model.specs.declared.Entry.{Entry}
 use Rattle.model.specs.ReadLog.{readsOf, noEntry}
-use Rattle.window.specs.Window.{tallied}
+use Rattle.readwindow.specs.Window.{tallied}
 
 -- ── readsOf ────────────────────────────────────────────────────────────────────────────────────────────────────────────
 

@@ -10,7 +10,7 @@ use lib.Dec.{ltb}
 use lib.ListN.{length, getD, length-set}
 use Rattle.model.specs.declared.Entry.{Entry}
 use Rattle.model.specs.ReadLog.{noEntry, age, window}
-use Rattle.window.specs.Window.{keptWith}
+use Rattle.readwindow.specs.Window.{keptWith}
 use Rattle.readlog.specs.Records.{sweep, swept}
 
 pub keptWith-max : (kept now tick : ℕ) → keptWith kept now tick ≤ kept + 1

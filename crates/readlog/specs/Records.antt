@@ -7,7 +7,7 @@ use lib.Dec.{ltb, eqb}
 use lib.ListN.{length, getD, set, take, drop, replicate}
 use Rattle.model.specs.declared.Entry.{Entry}
 use Rattle.model.specs.ReadLog.{noEntry, current}
-use Rattle.window.specs.Window.{keptWith}
+use Rattle.readwindow.specs.Window.{keptWith}
 
 -- The tick of the last of so many entries; `tick` where there is none.
 unfoldable pub lastOr : List Entry → ℕ → ℕ → ℕ
@@ -32,20 +32,20 @@ pub record SweptTo (tick count : ℕ) (list list' : List Entry) (kept : ℕ) : T
   pub list-is : list' ≡ swept tick list count .list
   pub kept-is : kept ≡ swept tick list count .kept
 
--- The records from `start` up to `limit` become 0.
+-- The records from `start` up to `span` become 0.
 unfoldable pub cleared : ℕ → ℕ → List Entry → List Entry
-cleared start limit list = take start list ++ replicate (limit - start) noEntry ++ drop limit list
+cleared start span list = take start list ++ replicate (span - start) noEntry ++ drop span list
 
--- The entries kept of the first `count`, cleared records up to `limit`, and the list's own behind them.
+-- The entries kept of the first `count`, cleared records up to `span`, and the list's own behind them.
 unfoldable pub compacted : ℕ → ℕ → ℕ → List Entry → List Entry
-compacted tick limit count list =
+compacted tick span count list =
     let kept = current tick (take count list) in
-    kept ++ replicate (limit - length kept) noEntry ++ drop limit list
+    kept ++ replicate (span - length kept) noEntry ++ drop span list
 
-pub record CompactedAs (tick limit count : ℕ) (list list' : List Entry) (kept : ℕ) : Type 0 where
-  pub list-is : list' ≡ compacted tick limit count list
+pub record CompactedAs (tick span count : ℕ) (list list' : List Entry) (kept : ℕ) : Type 0 where
+  pub list-is : list' ≡ compacted tick span count list
   pub kept-is : kept ≡ length (current tick (take count list))
 
--- The list with an entry at a place below `limit`.
+-- The list with an entry at a place below `span`.
 unfoldable pub appended : Entry → ℕ → ℕ → List Entry → List Entry
-appended e at limit list = cond (ltb at limit) (set list at e) list
+appended e at span list = cond (ltb at span) (set list at e) list

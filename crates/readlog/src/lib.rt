@@ -1,5 +1,5 @@
 // A lent list of entries: the last tick, the number of a block's entries, old ones dropped, a new one appended. These functions only go over
-// the records; what becomes of each is decided in `window`.
+// the records; what becomes of each is decided in `readwindow`.
 use model::Entry;
 ghost use mathlib.Core.Path.{_≡_};
 ghost use Prim.Native.Nat.{_≤_};
@@ -26,7 +26,7 @@ pub fn reads_of(list: &[Entry], count: usize, block: u32) -> usize
     let mut found: usize = 0;
     let mut i: usize = 0;
     while i < count {
-        found = window::tally(found, list[i].block, block);
+        found = readwindow::tally(found, list[i].block, block);
         i += 1;
     }
     found
@@ -43,41 +43,41 @@ fn compact(list: &mut [Entry], count: usize, tick: u32) -> usize
     while i < count {
         let e = list[i];
         list[kept] = e;
-        kept = window::keep(kept, tick, e.tick);
+        kept = readwindow::keep(kept, tick, e.tick);
         i += 1;
     }
     kept
 }
 
-// Clears the records from `start` up to `limit`.
-fn clear(list: &mut [Entry], start: usize, limit: usize)
-    requires { ⌜ (start ≤ limit) × (limit ≤ length (now list)) ⌝ }
-    ensures { λ r. ⌜ now (list .exit) ≡ cleared start limit (now (list .entry)) ⌝ }
+// Clears the records from `start` up to `span`.
+fn clear(list: &mut [Entry], start: usize, span: usize)
+    requires { ⌜ (start ≤ span) × (span ≤ length (now list)) ⌝ }
+    ensures { λ r. ⌜ now (list .exit) ≡ cleared start span (now (list .entry)) ⌝ }
 {
     let mut i = start;
-    while i < limit {
+    while i < span {
         list[i] = Entry { block: 0, tick: 0 };
         i += 1;
     }
 }
 
-// Drops the entries that are too old: the others move to the front in order, and the later records below `limit` are cleared. Answers how
+// Drops the entries that are too old: the others move to the front in order, and the later records below `span` are cleared. Answers how
 // many are kept.
-pub fn drop_old(list: &mut [Entry], limit: usize, count: usize, tick: u32) -> usize
-    requires { ⌜ (limit ≤ length (now list)) × (count ≤ limit) ⌝ }
-    ensures { λ r. ⌜ CompactedAs tick limit count (now (list .entry)) (now (list .exit)) r ⌝ }
+pub fn drop_old(list: &mut [Entry], span: usize, count: usize, tick: u32) -> usize
+    requires { ⌜ (span ≤ length (now list)) × (count ≤ span) ⌝ }
+    ensures { λ r. ⌜ CompactedAs tick span count (now (list .entry)) (now (list .exit)) r ⌝ }
 {
     let kept = compact(list, count, tick);
-    clear(list, kept, limit);
+    clear(list, kept, span);
     kept
 }
 
-// Stores an entry at a place below `limit`; nothing where the place is not.
-pub fn append(list: &mut [Entry], at: usize, limit: usize, block: u32, tick: u32)
-    requires { ⌜ limit ≤ length (now list) ⌝ }
-    ensures { λ r. ⌜ now (list .exit) ≡ appended (entry block tick) at limit (now (list .entry)) ⌝ }
+// Stores an entry at a place below `span`; nothing where the place is not.
+pub fn append(list: &mut [Entry], at: usize, span: usize, block: u32, tick: u32)
+    requires { ⌜ span ≤ length (now list) ⌝ }
+    ensures { λ r. ⌜ now (list .exit) ≡ appended (entry block tick) at span (now (list .entry)) ⌝ }
 {
-    if at < limit {
+    if at < span {
         list[at] = Entry {
             block: block,
             tick: tick,

@@ -21,10 +21,10 @@ use Rattle.model.specs.ReadLog.{entry, noEntry, tickBound, inWindow, age, usabl
 use Rattle.theory.proofs.Refusal.{judge-some}
 use Rattle.theory.proofs.ReadLog.{age-self}
 use Rattle.cluster.specs.Blocks.{mate}
-use Rattle.lookup.specs.declared.Judged.{Judged}
-use Rattle.lookup.specs.declared.Searched.{Searched}
-use Rattle.window.specs.Window.{gapCode, unrefused, readNumber, popularityNumber}
-use Rattle.lookup.specs.Lookup.{soughtIn, sought, judged, searched}
+use Rattle.readlookup.specs.declared.Judged.{Judged}
+use Rattle.readlookup.specs.declared.Searched.{Searched}
+use Rattle.readwindow.specs.Window.{gapCode, unrefused, readNumber, popularityNumber}
+use Rattle.readlookup.specs.Lookup.{soughtIn, sought, judged, searched}
 use Rattle.readlog.specs.Records.{lastOr, compacted, CompactedAs, appended}
 use Rattle.readlog.proofs.CompactLaws.{shape, shape-keep}
 use Rattle.reads.specs.Answers.{readsOutcome}
@@ -45,13 +45,13 @@ module _ (verdict : Verdict) (block tick last lent count : ℕ) where
   abbrev work : Judged
   work = judged verdict block tick last lent (standing lent count)
 
-  pub limit-room : work .limit ≤ lent
+  pub span-room : work .span ≤ lent
   unfolding judged
-  limit-room = let most = unrefused-max (work .code) (usable lent) in omega (arith, most)
+  span-room = let most = unrefused-max (work .code) (usable lent) in omega (arith, most)
 
-  pub count-limit : work .count ≤ work .limit
+  pub count-span : work .count ≤ work .span
   unfolding judged unrefused
-  count-limit = go (eqb (work .code) 0)
+  count-span = go (eqb (work .code) 0)
     where
       go : (b : Bool) → cond b (standing lent count) 0 ≤ cond b (usable lent) 0
       go true = omega arith
@@ -92,7 +92,7 @@ last-judged (e ∷ list) (suc n) tick later room fits =
 module _ (block tick count : ℕ) (list list' : List Entry) (kept : ℕ) where
   -- What the parts of a read come to, from what it works on.
   abbrev outcome : Judged → OutcomeOver Entry ℕ
-  outcome w = readsOutcome (readNumber (w .code) kept (w .limit)) (appended (entry block tick) kept (w .limit) list')
+  outcome w = readsOutcome (readNumber (w .code) kept (w .span)) (appended (entry block tick) kept (w .span) list')
 
   abbrev entries : List Entry
   entries = entriesIn list count
@@ -104,7 +104,7 @@ module _ (block tick count : ℕ) (list list' : List Entry) (kept : ℕ) where
       (record { answer = answered (length (noted block tick entries)); items = relisted (noted block tick entries) list })
 
   outcome-refused : (code : ℕ) → CompactedAs tick 0 0 list list' kept
-      → outcome (record { code = suc code; limit = 0; count = 0 }) ≡ refuse (suc code) list
+      → outcome (record { code = suc code; span = 0; count = 0 }) ≡ refuse (suc code) list
   unfolding readsOutcome readNumber appended compacted select
   outcome-refused code done =
       let none : kept ≡ 0 = done .kept-is in
@@ -141,7 +141,7 @@ module _ (block tick count : ℕ) (list list' : List Entry) (kept : ℕ) where
       ∙ take-append-drop (usable (length list)) list
 
   outcome-passed : CompactedAs tick (usable (length list)) (standing (length list) count) list list' kept
-      → outcome (record { code = 0; limit = usable (length list); count = standing (length list) count }) ≡ passed
+      → outcome (record { code = 0; span = usable (length list); count = standing (length list) count }) ≡ passed
   unfolding readsOutcome readNumber appended check21 unless
   outcome-passed done = elim (decLt kept (usable (length list))) [
     | yes room ↦
@@ -157,7 +157,7 @@ module _ (block tick count : ℕ) (list list' : List Entry) (kept : ℕ) where
 
   judged-as : (v : Verdict) (last code : ℕ) → gapCode (sought v block .code) tick last ≡ code
       → let w = judged v block tick last (length list) (standing (length list) count) in
-      CompactedAs tick (w .limit) (w .count) list list' kept → outcome w ≡ unless code list passed
+      CompactedAs tick (w .span) (w .count) list list' kept → outcome w ≡ unless code list passed
   unfolding judged unrefused unless
   judged-as v last zero e done = rw e (outcome-passed (rw e at done))
   judged-as v last (suc code) e done = rw (e, ne-eqb (suc code) 0 (λ z. omega arith)) (outcome-refused code (rw (e, ne-eqb (suc code) 0 (λ z. omega arith)) at done))
@@ -166,7 +166,7 @@ module _ (block tick count : ℕ) (list list' : List Entry) (kept : ℕ) where
   read-over : (v : Verdict) → ((code : ℕ) → v ≡ refused code → 1 ≤ code) → tick < tickBound
       → let held = standing (length list) count in
       let w = judged v block tick (lastOr list held tick) (length list) held in
-      CompactedAs tick (w .limit) (w .count) list list' kept
+      CompactedAs tick (w .span) (w .count) list list' kept
       → outcome w
       ≡ onPlan v list (readRefusal block tick list count)
       (λ p. record { answer = answered (length (noted block tick entries)); items = relisted (noted block tick entries) list })
@@ -195,8 +195,8 @@ module _ (block tick count : ℕ) (list list' : List Entry) (kept : ℕ) where
 pub read-is : (bytes : List ℕ) (block tick count : ℕ) (list list' : List Entry) (kept : ℕ) → tick < tickBound
     → let held = standing (length list) count in
     let work = judged (judge bytes) block tick (lastOr list held tick) (length list) held in
-    CompactedAs tick (work .limit) (work .count) list list' kept
-    → readsOutcome (readNumber (work .code) kept (work .limit)) (appended (entry block tick) kept (work .limit) list')
+    CompactedAs tick (work .span) (work .count) list list' kept
+    → readsOutcome (readNumber (work .code) kept (work .span)) (appended (entry block tick) kept (work .span) list')
     ≡ readCall bytes block tick list count
 unfolding readCall
 read-is bytes block tick count list list' kept fits done =

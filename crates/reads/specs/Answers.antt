@@ -3,8 +3,8 @@ use mathlib.Core.List.{List}
 use Prim.Native.Nat.{ℕ}
 use Rattle.model.specs.declared.Entry.{Entry}
 use Rattle.model.specs.Calls.{OutcomeOver, answered, refuse}
-use Rattle.window.specs.declared.ReadsAnswer.{ReadsAnswer}
-use Rattle.window.specs.declared.ReadsAnswer.the-variants.{Refused, Number}
+use Rattle.readwindow.specs.declared.ReadsAnswer.{ReadsAnswer}
+use Rattle.readwindow.specs.declared.ReadsAnswer.the-variants.{Refused, Number}
 
 unfoldable pub readsOutcome : ReadsAnswer → List Entry → OutcomeOver Entry ℕ
 readsOutcome (Refused code) list = refuse code list

@@ -1,7 +1,7 @@
 // The calls on reads: a read noted in a lent list of entries, and a block's popularity counted there. Both take a plan's bytes, the list and
-// the count of its entries; what they do with them is decided in `window` and `lookup` and done in `readlog`.
+// the count of its entries; what they do with them is decided in `readwindow` and `lookup` and done in `readlog`.
 use model::Entry;
-use window::ReadsAnswer;
+use readwindow::ReadsAnswer;
 ghost use mathlib.Core.Path.{_≡_};
 ghost use Rattle.model.specs.ReadLog.{readCall, popularityCall};
 ghost use Rattle.reads.specs.Answers.{readsOutcome};
@@ -12,12 +12,12 @@ pub fn read(plan: &[u8], block: u32, tick: u32, list: &mut [Entry], count: u64) 
     ensures { λ r. ⌜ readsOutcome r (now (list .exit)) ≡ readCall (now (plan .entry)) block tick (now (list .entry)) count ⌝ }
 {
     let lent = list.len();
-    let standing = window::standing(lent, count);
+    let standing = readwindow::standing(lent, count);
     let last = readlog::last_tick(list, standing, tick);
-    let judged = lookup::judge_read(plan, block, tick, last, lent, standing);
-    let kept = readlog::drop_old(list, judged.limit, judged.count, tick);
-    readlog::append(list, kept, judged.limit, block, tick);
-    window::read_answer(judged.code, kept, judged.limit)
+    let judged = readlookup::judge_read(plan, block, tick, last, lent, standing);
+    let kept = readlog::drop_old(list, judged.span, judged.count, tick);
+    readlog::append(list, kept, judged.span, block, tick);
+    readwindow::read_answer(judged.code, kept, judged.span)
 }
 
 // A block's popularity: the number of its entries, of a paired block the larger of the two. Nothing is written.
@@ -25,8 +25,8 @@ pub fn popularity(plan: &[u8], block: u32, list: &[Entry], count: u64) -> ReadsA
     ensures { λ r. ⌜ readsOutcome r (now (list .entry)) ≡ popularityCall (now (plan .entry)) block (now (list .entry)) count ⌝ }
 {
     let lent = list.len();
-    let searched = lookup::search(plan, block, lent, count);
+    let searched = readlookup::search(plan, block, lent, count);
     let own = readlog::reads_of(list, searched.own, block);
     let other = readlog::reads_of(list, searched.other, searched.mate);
-    window::popularity_answer(searched.code, own, other)
+    readwindow::popularity_answer(searched.code, own, other)
 }

@@ -7,7 +7,7 @@ use Prim.Native.Nat.{ℕ, _<_, _≤_}
 use native.Mathlib.Nat.{le-trans, le-of-eq, le-of-lt}
 use lib.ListN.{getD}
 use Rattle.model.specs.Plan.{Plan, upper}
-use Rattle.model.specs.Replication.{limit as limitOf, share, largestShare, reachable}
+use Rattle.model.specs.Replication.{copyLimit as limitOf, share, largestShare, reachable}
 use Rattle.theory.specs.Refusal.{Valid}
 use Rattle.theory.proofs.Replication.{need-falls, reachable-parts, largestShare-term}
 use Rattle.cluster.specs.declared.Cluster.{Cluster}

@@ -6,7 +6,7 @@ use Prim.Native.Nat.{ℕ, _*_, _-_, _<_, _≤_}
 use Rattle.order.specs.Table.{filled}
 use Rattle.model.specs.Plan.{Plan, blockCount, upper}
 use Rattle.model.specs.Refusal.{maxMachines, maxCapacity, maxBlocks}
-use Rattle.model.specs.Replication.{limit as limitOf, largestShare, need, reachable, chosen}
+use Rattle.model.specs.Replication.{copyLimit as limitOf, largestShare, need, reachable, chosen}
 use Rattle.theory.specs.Refusal.{Valid}
 use Rattle.theory.specs.Widths.{mostReplicas, popularityBound, shareBound}
 use Rattle.cluster.specs.declared.Cluster.{Cluster}
@@ -17,12 +17,12 @@ use Rattle.needs.specs.Needs.{TallyOf}
 use Rattle.replication.specs.declared.Bracket.{Bracket}
 
 -- The numbers that the bisection starts from, with those of a plan.
-pub record BracketAsked (e : Extent) (limit blocks : ℕ) : Type 0 where
+pub record BracketAsked (e : Extent) (allowed blocks : ℕ) : Type 0 where
   pub low-narrow : e .low < shareBound
   pub high-narrow : e .high < shareBound
   pub popularity-max : e .popularity ≤ popularityBound * maxBlocks
-  pub copies-max : e .copies ≤ limit
-  pub limit-max : limit ≤ maxMachines * maxCapacity
+  pub copies-max : e .copies ≤ allowed
+  pub limit-max : allowed ≤ maxMachines * maxCapacity
   pub blocks-max : blocks ≤ maxBlocks
 
 -- Where the bisection stands: in range, and of plan p.
@@ -38,30 +38,30 @@ pub record BracketOf (p : Plan) (b : Bracket) : Type 0 where
   pub reached : reachable p (b .high) ≡ true
 
 -- A probe of it.
-pub record NarrowAsked (b : Bracket) (wanted : ℕ) (t : Tally) (limit : ℕ) : Type 0 where
+pub record NarrowAsked (b : Bracket) (wanted : ℕ) (t : Tally) (allowed : ℕ) : Type 0 where
   pub fits : BracketFits b
   pub low-max : b .low ≤ wanted
   pub wanted-less : wanted < b .high
   pub next-above : wanted < t .next
   pub fewer-max : t .fewer ≤ mostReplicas * maxBlocks
-  pub limit-max : limit ≤ maxMachines * maxCapacity
+  pub limit-max : allowed ≤ maxMachines * maxCapacity
 
 -- What is left after it.
-pub record NarrowedTo (b : Bracket) (wanted : ℕ) (t : Tally) (limit : ℕ) (r : Bracket) : Type 0 where
+pub record NarrowedTo (b : Bracket) (wanted : ℕ) (t : Tally) (allowed : ℕ) (r : Bracket) : Type 0 where
   pub fits : BracketFits r
   pub less : r .high - r .low < b .high - b .low
-  pub of : (p : Plan) → Valid p → limit ≡ limitOf p → TallyOf p wanted t → BracketOf p b → BracketOf p r
+  pub of : (p : Plan) → Valid p → allowed ≡ limitOf p → TallyOf p wanted t → BracketOf p b → BracketOf p r
 
 -- The demands and the copies in all that plan p allows.
-pub record LimitedDemands (p : Plan) (c : Cluster) (demands : List ℕ) (limit : ℕ) : Type 0 where
+pub record LimitedDemands (p : Plan) (c : Cluster) (demands : List ℕ) (allowed : ℕ) : Type 0 where
   pub demands-of : DemandsOf p c demands
-  pub limit-is : limit ≡ limitOf p
+  pub limit-is : allowed ≡ limitOf p
 
 -- The demands belong to some plan.
-pub record ChooseAsked (c : Cluster) (demands : List ℕ) (limit : ℕ) : Type 0 where
+pub record ChooseAsked (c : Cluster) (demands : List ℕ) (allowed : ℕ) : Type 0 where
   pub fit : DemandsFit c demands
   pub plan : Plan
-  pub limited : LimitedDemands plan c demands limit
+  pub limited : LimitedDemands plan c demands allowed
 
 -- The needs at this figure are plan p's chosen counts.
 pub record FigureOf (p : Plan) (f : ℕ) : Type 0 where

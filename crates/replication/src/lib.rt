@@ -35,16 +35,16 @@ fn smaller(a: u64, b: u64) -> u64
 }
 
 // The bracket before the first probe. At its lower end each block is reckoned to use half of its last copy.
-fn bracket_of(extent: Extent, limit: usize, blocks: usize) -> Bracket
-    requires { ⌜ BracketAsked extent limit blocks ⌝ }
+fn bracket_of(extent: Extent, allowed: usize, blocks: usize) -> Bracket
+    requires { ⌜ BracketAsked extent allowed blocks ⌝ }
     ensures { λ r. ⌜ (r .low ≡ extent .low) × (r .high ≡ extent .high) × BracketFits r ⌝ }
 {
     let copies = extent.popularity * UNIT / (extent.low + 1) + blocks as u64 / 2;
     let mut over: u64 = 0;
-    if copies > limit as u64 {
-        over = smaller(copies - limit as u64, MOST_OVER);
+    if copies > allowed as u64 {
+        over = smaller(copies - allowed as u64, MOST_OVER);
     }
-    let spare = limit - extent.copies;
+    let spare = allowed - extent.copies;
     Bracket {
         low: extent.low,
         high: extent.high,
@@ -83,13 +83,13 @@ fn turn_after(turn: u64) -> u64
 
 // The bracket after a probe. The upper end moves to the probe where that is reachable. Else the lower end moves to the next share; where
 // that is reachable it is the least figure, and the bracket closes.
-fn narrowed(bracket: Bracket, wanted: u64, tally: Tally, limit: usize) -> Bracket
-    requires { ⌜ NarrowAsked bracket wanted tally limit ⌝ }
-    ensures { λ r. ⌜ NarrowedTo bracket wanted tally limit r ⌝ }
+fn narrowed(bracket: Bracket, wanted: u64, tally: Tally, allowed: usize) -> Bracket
+    requires { ⌜ NarrowAsked bracket wanted tally allowed ⌝ }
+    ensures { λ r. ⌜ NarrowedTo bracket wanted tally allowed r ⌝ }
 {
     let turn = turn_after(bracket.turn);
-    if tally.total <= limit {
-        let spare = limit - tally.total;
+    if tally.total <= allowed {
+        let spare = allowed - tally.total;
         return Bracket {
             low: bracket.low,
             high: wanted,
@@ -98,7 +98,7 @@ fn narrowed(bracket: Bracket, wanted: u64, tally: Tally, limit: usize) -> Bracke
             turn,
         };
     }
-    if tally.fewer <= limit {
+    if tally.fewer <= allowed {
         return Bracket {
             low: tally.next,
             high: smaller(tally.next, bracket.high),
@@ -107,7 +107,7 @@ fn narrowed(bracket: Bracket, wanted: u64, tally: Tally, limit: usize) -> Bracke
             turn,
         };
     }
-    let over = tally.fewer - limit;
+    let over = tally.fewer - allowed;
     Bracket {
         low: tally.next,
         high: bracket.high,
@@ -119,22 +119,22 @@ fn narrowed(bracket: Bracket, wanted: u64, tally: Tally, limit: usize) -> Bracke
 
 // A figure whose needs are the chosen counts, by bisection: the least that is reachable, or one whose needs use the whole limit. Where the
 // least copies do, no other figure is tried.
-fn best_figure(demands: &[u64], limit: usize, cluster: Cluster) -> u64
-    requires { ⌜ ChooseAsked cluster (now demands) limit ⌝ }
-    ensures { λ r. ⌜ ((p : Plan) → LimitedDemands p cluster (now (demands .entry)) limit → FigureOf p r) × (r < shareBound) ⌝ }
+fn best_figure(demands: &[u64], allowed: usize, cluster: Cluster) -> u64
+    requires { ⌜ ChooseAsked cluster (now demands) allowed ⌝ }
+    ensures { λ r. ⌜ ((p : Plan) → LimitedDemands p cluster (now (demands .entry)) allowed → FigureOf p r) × (r < shareBound) ⌝ }
 {
     let extent = needs::extent_of(demands, cluster);
-    if extent.copies == limit {
+    if extent.copies == allowed {
         return extent.high;
     }
-    let mut bracket = bracket_of(extent, limit, cluster.blocks);
+    let mut bracket = bracket_of(extent, allowed, cluster.blocks);
     while bracket.low < bracket.high {
         let wanted = probe(bracket);
         let tally = needs::tally_of(demands, cluster, wanted);
-        if tally.total == limit {
+        if tally.total == allowed {
             return wanted;
         }
-        bracket = narrowed(bracket, wanted, tally, limit);
+        bracket = narrowed(bracket, wanted, tally, allowed);
     }
     bracket.high
 }
@@ -162,11 +162,11 @@ fn fill(items: &mut [u64], cluster: Cluster, wanted: u64) -> u64
 }
 
 // Puts the blocks' profiles at the chosen counts in the place of their demands, and answers the largest share.
-pub fn choose(items: &mut [u64], limit: usize, cluster: Cluster) -> u64
-    requires { ⌜ ChooseAsked cluster (now items) limit ⌝ }
-    ensures { λ r. ⌜ ((p : Plan) → LimitedDemands p cluster (now (items .entry)) limit
+pub fn choose(items: &mut [u64], allowed: usize, cluster: Cluster) -> u64
+    requires { ⌜ ChooseAsked cluster (now items) allowed ⌝ }
+    ensures { λ r. ⌜ ((p : Plan) → LimitedDemands p cluster (now (items .entry)) allowed
         → ChosenAs p cluster (now (items .entry)) (now (items .exit)) r) ⌝ }
 {
-    let figure = best_figure(items, limit, cluster);
+    let figure = best_figure(items, allowed, cluster);
     fill(items, cluster, figure)
 }

@@ -8,7 +8,7 @@ use native.Mathlib.Omega.{arith}
 use lib.ListN.{getD}
 use Rattle.model.specs.Placement.{bit}
 use Rattle.index.specs.Index.{byRank, spot, shareAt}
-use Rattle.screen.specs.Screen.{Alone, Passed, SweptTo, Rising}
+use Rattle.screen.specs.Screen.{Alone, Passed, SweptBelow, SharesRise}
 
 -- the bits of one word of the index
 pub spot-word : (index : List ℕ) (m base : ℕ) → base % 64 ≡ 0 → (t : ℕ) → t < 64
@@ -42,7 +42,7 @@ module _ (mine theirs : ℕ → ℕ) (index : List ℕ) (margin blocks : ℕ) wh
       }
 
   -- at the start nothing is passed
-  pub start : SweptTo mine theirs index margin blocks 0 0 0 0
+  pub start : SweptBelow mine theirs index margin blocks 0 0 0 0
   start =
       record {
         passed = λ x l h.
@@ -58,7 +58,7 @@ module _ (mine theirs : ℕ → ℕ) (index : List ℕ) (margin blocks : ℕ) wh
   module _ (top reach under : ℕ) where
     -- blocks that both machines or neither have change nothing
     pub skip : (k later : ℕ) → k ≤ later → ((j : ℕ) → k ≤ j → j < later → mine j ≡ theirs j)
-        → SweptTo mine theirs index margin blocks k top reach under → SweptTo mine theirs index margin blocks later top reach under
+        → SweptBelow mine theirs index margin blocks k top reach under → SweptBelow mine theirs index margin blocks later top reach under
     skip k later l same s =
         record {
           passed = λ x b h. carry old (s .passed x (omega arith) h);
@@ -80,7 +80,7 @@ module _ (mine theirs : ℕ → ℕ) (index : List ℕ) (margin blocks : ℕ) wh
     -- one of m's own, for which nothing can be returned
     pub own-block : (k : ℕ) → Alone mine theirs k
         → (top < shareAt index k → reach ≤ shareAt index k) → (shareAt index k ≤ top → under ≤ shareAt index k)
-        → SweptTo mine theirs index margin blocks k top reach under → SweptTo mine theirs index margin blocks (k + 1) top reach under
+        → SweptBelow mine theirs index margin blocks k top reach under → SweptBelow mine theirs index margin blocks (k + 1) top reach under
     own-block k here high low s =
         record {
           passed = λ x b h. carry old (s .passed x (omega arith) h);
@@ -109,11 +109,11 @@ module _ (mine theirs : ℕ → ℕ) (index : List ℕ) (margin blocks : ℕ) wh
             ]
 
     -- one of n's own: the sharper bounds
-    pub other-block : (k top′ under′ : ℕ) → Rising index blocks → Alone theirs mine k
+    pub other-block : (k top′ under′ : ℕ) → SharesRise index blocks → Alone theirs mine k
         → (top < shareAt index k → (top′ ≡ shareAt index k) × (under′ ≡ reach))
         → (shareAt index k ≤ top → (top′ ≡ top) × (under′ ≡ under))
-        → SweptTo mine theirs index margin blocks k top reach under
-        → SweptTo mine theirs index margin blocks (k + 1) top′ (margin + shareAt index k) under′
+        → SweptBelow mine theirs index margin blocks k top reach under
+        → SweptBelow mine theirs index margin blocks (k + 1) top′ (margin + shareAt index k) under′
     other-block k top′ under′ rises here high low s =
         record {
           passed = λ x b h. elim (decLt top (shareAt index k)) [

@@ -13,8 +13,8 @@ use Rattle.index.specs.Index.{indexLength, byRank, spot, shareAt}
 use Rattle.screen.specs.declared.Sweep.{Sweep}
 
 -- The shares of the index rise.
-abbrev pub Rising : List ℕ → ℕ → Type 0
-Rising index blocks = (r q : ℕ) → r ≤ q → q < blocks → shareAt index r ≤ shareAt index q
+abbrev pub SharesRise : List ℕ → ℕ → Type 0
+SharesRise index blocks = (r q : ℕ) → r ≤ q → q < blocks → shareAt index r ≤ shareAt index q
 
 -- An index with the blocks by rising share, two of its machines, and what the first has more in load.
 pub record ScreenAsked (c : Cluster) (index : List ℕ) (m n margin : ℕ) : Type 0 where
@@ -23,7 +23,7 @@ pub record ScreenAsked (c : Cluster) (index : List ℕ) (m n margin : ℕ) : Typ
   pub m-below : m < maxMachines
   pub n-below : n < maxMachines
   pub margin-narrow : margin < loadBound
-  pub rising : Rising index (c .blocks)
+  pub rising : SharesRise index (c .blocks)
 
 -- The block at rank k is on the first machine alone.
 pub record Alone (mine theirs : ℕ → ℕ) (k : ℕ) : Type 0 where
@@ -60,12 +60,12 @@ pub record Passed (mine theirs : ℕ → ℕ) (index : List ℕ) (margin k ahead
   pub next : (q : ℕ) → q < k → Alone theirs mine q → shareAt index q < top → margin + shareAt index q ≤ under
 
 -- No exchange among the ranks below k, and what the ranks from k on are held against.
-pub record SweptTo (mine theirs : ℕ → ℕ) (index : List ℕ) (margin blocks k top reach under : ℕ) : Type 0 where
+pub record SweptBelow (mine theirs : ℕ → ℕ) (index : List ℕ) (margin blocks k top reach under : ℕ) : Type 0 where
   pub passed : (x : ℕ) → k ≤ x → x < blocks → Passed mine theirs index margin k (shareAt index x) top reach under
   pub barren : (x q : ℕ) → x < k → q < k → x < blocks → q < blocks → Alone mine theirs x → Alone theirs mine q
       → shareAt index q < shareAt index x → margin + shareAt index q ≤ shareAt index x
 
-pub record BlockAsked (share margin : ℕ) : Type 0 where
+pub record SweepAsked (share margin : ℕ) : Type 0 where
   pub share-narrow : share < 2 ^ 54
   pub margin-narrow : margin < loadBound
 
@@ -76,9 +76,9 @@ Side mine theirs k false = Alone theirs mine k
 
 abbrev pub BlockSwept : Sweep → Bool → ℕ → ℕ → Sweep → Type 0
 BlockSwept s own share margin r =
-    (mine theirs : ℕ → ℕ) (index : List ℕ) (blocks k : ℕ) → Rising index blocks → share ≡ shareAt index k → Side mine theirs k own
-    → SweptTo mine theirs index margin blocks k (s .top) (s .reach) (s .under) → r .found ≡ false
-    → SweptTo mine theirs index margin blocks (k + 1) (r .top) (r .reach) (r .under)
+    (mine theirs : ℕ → ℕ) (index : List ℕ) (blocks k : ℕ) → SharesRise index blocks → share ≡ shareAt index k → Side mine theirs k own
+    → SweptBelow mine theirs index margin blocks k (s .top) (s .reach) (s .under) → r .found ≡ false
+    → SweptBelow mine theirs index margin blocks (k + 1) (r .top) (r .reach) (r .under)
 
 pub record WordAsked (index : List ℕ) (base margin : ℕ) : Type 0 where
   pub sized : length index ≡ indexLength
@@ -92,6 +92,6 @@ pub record Bits (mine theirs : ℕ → ℕ) (a b base : ℕ) : Type 0 where
 
 abbrev pub WordSwept : ℕ → ℕ → List ℕ → ℕ → ℕ → Sweep → Sweep → Type 0
 WordSwept a b index base margin s r =
-    (mine theirs : ℕ → ℕ) (blocks : ℕ) → Rising index blocks → Bits mine theirs a b base
-    → SweptTo mine theirs index margin blocks base (s .top) (s .reach) (s .under) → r .found ≡ false
-    → SweptTo mine theirs index margin blocks (base + 64) (r .top) (r .reach) (r .under)
+    (mine theirs : ℕ → ℕ) (blocks : ℕ) → SharesRise index blocks → Bits mine theirs a b base
+    → SweptBelow mine theirs index margin blocks base (s .top) (s .reach) (s .under) → r .found ≡ false
+    → SweptBelow mine theirs index margin blocks (base + 64) (r .top) (r .reach) (r .under)

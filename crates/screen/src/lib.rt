@@ -5,7 +5,7 @@ use index::BY_RANK;
 use index::KEYS_AT;
 ghost use mathlib.Core.Path.{_≡_};
 ghost use mathlib.Core.Bool.{Bool};
-ghost use Rattle.screen.specs.Screen.{ScreenAsked, NoMove, NoExchange, RuledOut, BlockAsked, BlockSwept, WordAsked, WordSwept};
+ghost use Rattle.screen.specs.Screen.{ScreenAsked, NoMove, NoExchange, RuledOut, SweepAsked, BlockSwept, WordAsked, WordSwept};
 
 // The blocks passed by rising share: whether one of m's can be exchanged; n's largest share, and below which share of m's it or
 // the next smaller one can be returned (0 where there is none).
@@ -23,7 +23,7 @@ fn no_move(index: &[u64], cluster: Cluster, m: usize, n: usize, margin: u64) -> 
 {
     let mut k = index::next(index, BY_RANK, m, n, 0, cluster);
     while k < cluster.blocks {
-        let share = ranking::share_of(index[KEYS_AT + k]);
+        let share = ranking::key_share(index[KEYS_AT + k]);
         if share != 0 {
             return margin <= share;
         }
@@ -34,7 +34,7 @@ fn no_move(index: &[u64], cluster: Cluster, m: usize, n: usize, margin: u64) -> 
 
 // One block more: m's own, to be exchanged for one passed before, or n's own.
 fn sweep_block(sweep: Sweep, own: bool, share: u64, margin: u64) -> Sweep
-    requires { ⌜ BlockAsked share margin ⌝ }
+    requires { ⌜ SweepAsked share margin ⌝ }
     ensures { λ r. ⌜ BlockSwept sweep own share margin r ⌝ }
 {
     let top = sweep.top;
@@ -85,7 +85,7 @@ fn sweep_word(a: u64, b: u64, index: &[u64], base: usize, margin: u64, start: Sw
         sweep = sweep_block(
             sweep,
             own,
-            ranking::share_of(index[KEYS_AT + base + t]),
+            ranking::key_share(index[KEYS_AT + base + t]),
             margin,
         );
         if sweep.found {

@@ -14,7 +14,7 @@ use Rattle.model.specs.Calls.{Outcome, refuse, onPlacement, placementRefusal, c
 use Rattle.model.specs.Claims.{Request, askCheck, askStep, askRun, refusedBy, respond, does, Gets, Refuses, Allowed}
 use Rattle.theory.proofs.Calls.{callRefusal-accepted, onPlan-verdict, onPlan-refused}
 use Rattle.theory.proofs.Refusal.{check12-short}
-use Rattle.script.specs.Script.{sourceOf, lentOf, requestIn, bytesOf, callWith, callOf, callsOf}
+use Rattle.script.specs.Script.{sourceOf, lentOf, requestIn, sourceBytes, callWith, callOf, callsOf}
 use Rattle.script.specs.Promise.{EveryScript}
 
 -- every request is refused where its placement is
@@ -50,8 +50,8 @@ module _ (bytes other : List ℕ) (p : Plan) (code : ℕ) (reads : judge bytes �
           check12-short _ _ _ (rw (length-take (lentOf item) words) (omega (arith, min-le-left (lentOf item) (length words))))
 
   allowed-call : (source item : ℕ) (words : List ℕ)
-      → Gets bytes (blockCount p) (callWith (bytesOf source bytes other) item) ⊎ Refuses (callWith (bytesOf source bytes other) item) words
-  unfolding bytesOf
+      → Gets bytes (blockCount p) (callWith (sourceBytes source bytes other) item) ⊎ Refuses (callWith (sourceBytes source bytes other) item) words
+  unfolding sourceBytes
   allowed-call zero item words =
       elim (decLe (blockCount p) (lentOf item)) [
         | yes l ↦ inl (refl, l)

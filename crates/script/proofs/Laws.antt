@@ -15,7 +15,7 @@ use Rattle.model.specs.Claims.{askCheck, askStep, askRun, checked, stepped, ran
 use Rattle.theorems.proofs.Claim.{claim}
 use Rattle.script.specs.declared.LastReply.{LastReply}
 use Rattle.script.specs.declared.LastReply.the-variants.{Checked}
-use Rattle.script.specs.Script.{sourceOf, lentOf, requestOf, requestIn, bytesOf, callWith, callOf, callsOf, replyIs, playedBy}
+use Rattle.script.specs.Script.{sourceOf, lentOf, requestOf, requestIn, sourceBytes, callWith, callOf, callsOf, replyIs, playedBy}
 use Rattle.script.specs.Promise.{ScriptPlayed}
 
 -- taking and dropping so many, or as many as there are
@@ -108,15 +108,15 @@ module _ (bytes words : List ℕ) (limit : ℕ) {out : Played} where
   kind-more (suc (suc kind)) a b same = same
 
 -- the bytes of a source that a test found
-source-zero : (source : ℕ) (bytes other : List ℕ) → source < 2 → (source ≡ 1 → ⊥) → bytesOf source bytes other ≡ bytes
-unfolding bytesOf
+source-zero : (source : ℕ) (bytes other : List ℕ) → source < 2 → (source ≡ 1 → ⊥) → sourceBytes source bytes other ≡ bytes
+unfolding sourceBytes
 source-zero zero bytes other l d = refl
 source-zero (suc source) bytes other l d = absurd (d (omega arith))
 
 module _ (bytes other words : List ℕ) (item : ℕ) {out : Played} where
   pub from-other : sourceOf item ≡ 1 → out ≡ does (callWith other item) words
       → out ≡ does (callOf bytes other item) words
-  unfolding callOf bytesOf
+  unfolding callOf sourceBytes
   from-other e same = rw e same
 
   pub from-plan : (sourceOf item ≡ 1 → ⊥) → out ≡ does (callWith bytes item) words

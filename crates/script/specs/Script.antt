@@ -36,16 +36,16 @@ abbrev pub requestIn : ℕ → Request
 requestIn item = requestOf (kindOf item) (limitOf item)
 
 -- The bytes of a source.
-unfoldable pub bytesOf : ℕ → List ℕ → List ℕ → List ℕ
-bytesOf zero bytes other = bytes
-bytesOf (suc source) bytes other = other
+unfoldable pub sourceBytes : ℕ → List ℕ → List ℕ → List ℕ
+sourceBytes zero bytes other = bytes
+sourceBytes (suc source) bytes other = other
 
 -- The call of an item, with the bytes that it gets.
 abbrev pub callWith : List ℕ → ℕ → Call
 callWith bytes item = record { bytes = bytes; lent = lentOf item; request = requestIn item }
 
 unfoldable pub callOf : List ℕ → List ℕ → ℕ → Call
-callOf bytes other item = callWith (bytesOf (sourceOf item) bytes other) item
+callOf bytes other item = callWith (sourceBytes (sourceOf item) bytes other) item
 
 -- The calls of a script.
 unfoldable pub callsOf : List ℕ → List ℕ → List ℕ → List Call

@@ -13,7 +13,7 @@ use lib.Dec.{eqb}
 use Rattle.order.proofs.Arithmetic.{mod-digits}
 use Rattle.order.proofs.Booleans.{no-contradiction}
 use Rattle.model.specs.Plan.{Plan}
-use Rattle.model.specs.Steps.{Step, none, move, swap, isStep, routes, nextMove, nextSwap, orStep, nextStep}
+use Rattle.model.specs.Steps.{Step, none, relocate, exchange, isStep, routes, nextMove, nextSwap, orStep, nextStep}
 use Rattle.cluster.specs.declared.Cluster.{Cluster}
 use Rattle.cluster.specs.Cluster.{domainIn, InRange}
 use Rattle.cluster.specs.Blocks.{PlacementOf}
@@ -83,13 +83,13 @@ module _ (c : Cluster) (range : InRange c) where
 -- a kind that is found comes before the later ones, and one that is not leaves them
 take-first : (s later : Step) → isStep s ≡ true → s ≡ orStep s later
 take-first none later e = no-contradiction (sym e)
-take-first (move racks m n i) later e = refl
-take-first (swap racks m n i j) later e = refl
+take-first (relocate racks m n i) later e = refl
+take-first (exchange racks m n i j) later e = refl
 
 pass-first : (s later : Step) → isStep s ≡ false → later ≡ orStep s later
 pass-first none later e = refl
-pass-first (move racks m n i) later e = no-contradiction e
-pass-first (swap racks m n i j) later e = no-contradiction e
+pass-first (relocate racks m n i) later e = no-contradiction e
+pass-first (exchange racks m n i j) later e = no-contradiction e
 
 module _ (swapping across : Bool) {c : Cluster} {words profiles : List ℕ} {r : Hit}
     (found : HitIs c words profiles across (λ p. kindStep p words swapping across) r) (p : Plan) (count : ℕ → ℕ) (placement : PlacementOf p count c words profiles) where

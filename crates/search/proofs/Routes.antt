@@ -11,7 +11,7 @@ use Rattle.order.proofs.Booleans.{not-so}
 use Rattle.model.specs.Plan.{Plan, machines, blockCount}
 use Rattle.model.specs.Refusal.{maxMachines}
 use Rattle.model.specs.Placement.{held, used, shareOf, load}
-use Rattle.model.specs.Steps.{none, move, swap, canMove, canSwap, Step, isStep}
+use Rattle.model.specs.Steps.{none, relocate, exchange, canMove, canSwap, Step, isStep}
 use Rattle.theory.specs.Refusal.{Shaped}
 use Rattle.theory.specs.Steps.{LocalMove, LocalSwap}
 use Rattle.theory.proofs.StepsLocal.{canMove-local, canSwap-local}
@@ -20,7 +20,7 @@ use Rattle.cluster.specs.Cluster.{machinesIn, InRange}
 use Rattle.cluster.specs.Blocks.{PlacementOf}
 use Rattle.cluster.proofs.Laws.{cluster-size, cluster-capacity, cluster-blocks, placement-machine, placement-share}
 use Rattle.loads.proofs.Laws.{loads-narrow, copies-used, loads-load}
-use Rattle.index.specs.declared.Route.{Route}
+use Rattle.transfers.specs.declared.Route.{Route}
 use Rattle.index.specs.Index.{rankAt, shareAt}
 use Rattle.screen.specs.Screen.{ScreenAsked, Alone, rankedOn, RuledOut}
 use Rattle.transfers.specs.declared.Hit.{Hit}
@@ -51,11 +51,11 @@ module _ (p : Plan) (count : ℕ → ℕ) (c : Cluster) (words profiles : List �
   pub routeStep-none : (swapping across : Bool) → Barren p words swapping m n → none ≡ routeStep p words swapping across m n
   unfolding routeStep
   routeStep-none false across barren =
-      sym (test-none (blockCount p) (canMove p words m n) (move across m n) (λ i l.
+      sym (test-none (blockCount p) (canMove p words m n) (relocate across m n) (λ i l.
       not-so _ (λ t. barren i l (canMove-local p shaped count words (placement .feasible) m n i m-in n-in l .0 t))))
   routeStep-none true across barren =
       sym (none-found (blockCount p) _ (λ i l.
-      ap isStep (test-none (blockCount p) (canSwap p words m n i) (swap across m n i) (λ j h.
+      ap isStep (test-none (blockCount p) (canSwap p words m n i) (exchange across m n i) (λ j h.
       not-so _ (λ t. barren i j l h (canSwap-local p shaped count words (placement .feasible) m n i j m-in n-in l h .0 t))))))
 
 -- ── OpenAsked: what the screen rules out, and the route that is handed on ───────────────────────────────────────────────

@@ -7,7 +7,7 @@ use lib.Dec.{eqb, leb}
 use Rattle.model.specs.Plan.{Plan, machines}
 use Rattle.model.specs.Refusal.{maxMachines}
 use Rattle.theory.specs.Widths.{loadBound}
-use Rattle.model.specs.Steps.{Step as ModelStep, none, move, swap, acrossRacks, first, nextStep}
+use Rattle.model.specs.Steps.{Step as ModelStep, none, relocate, exchange, acrossRacks, first, nextStep}
 use Rattle.cluster.specs.declared.Cluster.{Cluster}
 use Rattle.cluster.specs.Cluster.{machinesIn, domainIn, InRange}
 use Rattle.cluster.specs.Blocks.{PlacementFits, PlacementOf}
@@ -22,10 +22,10 @@ use Rattle.search.specs.declared.Row.{Row}
 -- The answer as the model's step.
 unfoldable pub stepOf : Step → ModelStep
 stepOf Rest = none
-stepOf (Move m n i) = move false m n i
-stepOf (Swap m n i j) = swap false m n i j
-stepOf (RackMove m n i) = move true m n i
-stepOf (RackSwap m n i j) = swap true m n i j
+stepOf (Move m n i) = relocate false m n i
+stepOf (Swap m n i j) = exchange false m n i j
+stepOf (RackMove m n i) = relocate true m n i
+stepOf (RackSwap m n i j) = exchange true m n i j
 
 -- What an answer names can be carried out: block i from m to n, and of an exchange block j from n to m.
 abbrev pub Found : Cluster → List ℕ → Step → Type 0

@@ -1,7 +1,7 @@
 // The next step of the definition: the first Move, Swap, RackMove or RackSwap, by machines and blocks lowest first.
 use cluster::Cluster;
-use index::Route;
 use transfers::Hit;
+use transfers::Route;
 ghost use mathlib.Core.Path.{_≡_};
 ghost use Prim.Native.Nat.{_%_, _≤_};
 ghost use Rattle.cluster.specs.Cluster.{InRange};

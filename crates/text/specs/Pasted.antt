@@ -14,7 +14,7 @@ pub record Room (at : ℕ) (piece text : List ℕ) : Type 0 where
   pub fits : at + length piece ≤ length text
 
 -- Few numbers, whose piece fits.
-pub record FieldsAsked (at : ℕ) (piece numbers text : List ℕ) : Type 0 where
+pub record PiecesAsked (at : ℕ) (piece numbers text : List ℕ) : Type 0 where
   pub room : Room at piece text
   pub numbers-max : length numbers ≤ maxBlocks
 

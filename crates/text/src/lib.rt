@@ -1,7 +1,7 @@
 // Pieces of a text, written into a lent buffer: bytes, words, decimal numbers, fields, lines. Each answers the position past its piece.
 ghost use mathlib.Core.List.{[], _∷_};
 ghost use Rattle.model.specs.Listing.{decimal, numberField, fields, line};
-ghost use Rattle.text.specs.Pasted.{Room, FieldsAsked, Put};
+ghost use Rattle.text.specs.Pasted.{Room, PiecesAsked, Put};
 
 // Puts one byte.
 pub fn put_byte(text: &mut [u8], at: usize, byte: u8) -> usize
@@ -49,7 +49,7 @@ pub fn put_field(text: &mut [u8], at: usize, n: u64) -> usize
 
 // Puts numbers, each after a space.
 pub fn put_fields(text: &mut [u8], at: usize, numbers: &[u64]) -> usize
-    requires { ⌜ FieldsAsked at (fields (now numbers)) (now numbers) (now text) ⌝ }
+    requires { ⌜ PiecesAsked at (fields (now numbers)) (now numbers) (now text) ⌝ }
     ensures { λ r. ⌜ Put at (fields (now (numbers .entry))) (now (text .entry)) (now (text .exit)) r ⌝ }
 {
     let mut next = at;
@@ -63,7 +63,7 @@ pub fn put_fields(text: &mut [u8], at: usize, numbers: &[u64]) -> usize
 
 // Puts a line: its word, its numbers, a line feed.
 pub fn put_line(text: &mut [u8], at: usize, word: &[u8], numbers: &[u64]) -> usize
-    requires { ⌜ FieldsAsked at (line (now word) (now numbers)) (now numbers) (now text) ⌝ }
+    requires { ⌜ PiecesAsked at (line (now word) (now numbers)) (now numbers) (now text) ⌝ }
     ensures { λ r. ⌜ Put at (line (now (word .entry)) (now (numbers .entry))) (now (text .entry)) (now (text .exit)) r ⌝ }
 {
     let named = put_word(text, at, word);

@@ -15,7 +15,7 @@ use Rattle.order.specs.Table.{table, filled}
 use Rattle.order.specs.Search.{firstUp, least, allb, largest}
 use Rattle.model.specs.Plan.{Plan, places, minTotal, maxReplicas, upper, isPaired, pairsBack, pairsNext, field, formatOf, blockIn, versionIn, planIn}
 use Rattle.model.specs.Refusal.{check1, check2, check3, check4, check22, check5, check6, check7, check8, check9, alike, check17, check23, check10, check11, check12, blockRefusal, blocksRefusal, pairRefusal, pairsRefusal, planRefusal, refusal, accepted, judge}
-use Rattle.model.specs.Replication.{limit, share, largestShare, need, reachable, figure, chosen}
+use Rattle.model.specs.Replication.{copyLimit, share, largestShare, need, reachable, figure, chosen}
 use Rattle.model.specs.Calls.{unless, onPlan, countsCall}
 use Rattle.theory.specs.Refusal.{PastRow17}
 use Rattle.theory.proofs.Refusal.{refuseIf-all, check23-above, check23-early, check23-usable, totalRefusal, refusal-shaped, refusal-budget, accepted-laws}
@@ -64,7 +64,7 @@ module _ (bytes : List ℕ) where
 
   -- its least copies are within the budget, too, which is above the places
   row23-feasible : refusal bytes ≡ 23 → minTotal (planIn bytes) ≤ places (planIn bytes) → Infeasible (planIn bytes) → ⊥
-  unfolding limit
+  unfolding copyLimit
   row23-feasible e room none =
       let p = planIn bytes in
       let above = row23-above e .1 in
@@ -80,7 +80,7 @@ module _ (bytes : List ℕ) where
       other (sym is ∙ e)
 
 pub budgets : (bytes : List ℕ) → Budgets bytes
-unfolding limit
+unfolding copyLimit
 budgets bytes =
     record {
       row23-exact = λ past. (row23-above bytes, row23-given bytes past);
@@ -91,11 +91,11 @@ budgets bytes =
 
 -- ── BudgetExamples ───────────────────────────────────────────────────────────────────────────────
 wide-figure : figure (planIn (wide-budgeted 3)) ≡ 10080
-unfolding refusal check1 check2 check3 check4 check22 check5 check6 check7 planRefusal blocksRefusal blockRefusal check8 check9 pairsRefusal pairRefusal check17 alike check23 check10 check11 planIn blockIn formatOf field upper maxReplicas isPaired pairsBack pairsNext minTotal reachable need share limit sum table least allb firstUp wide-whole
+unfolding refusal check1 check2 check3 check4 check22 check5 check6 check7 planRefusal blocksRefusal blockRefusal check8 check9 pairsRefusal pairRefusal check17 alike check23 check10 check11 planIn blockIn formatOf field upper maxReplicas isPaired pairsBack pairsNext minTotal reachable need share copyLimit sum table least allb firstUp wide-whole
 wide-figure = figure-of (wide-budgeted 3) 10079 refl refl refl
 
 pub budget-examples : BudgetExamples
-unfolding countsCall onPlan unless judge refusal check1 check2 check3 check4 check22 check5 check6 check7 planRefusal blocksRefusal blockRefusal check8 check9 pairsRefusal pairRefusal check17 alike check23 check10 check11 check12 planIn blockIn formatOf field upper maxReplicas isPaired pairsBack pairsNext minTotal chosen largestShare largest filled need share limit sum table least allb firstUp plan-whole wide-whole
+unfolding countsCall onPlan unless judge refusal check1 check2 check3 check4 check22 check5 check6 check7 planRefusal blocksRefusal blockRefusal check8 check9 pairsRefusal pairRefusal check17 alike check23 check10 check11 check12 planIn blockIn formatOf field upper maxReplicas isPaired pairsBack pairsNext minTotal chosen largestShare largest filled need share copyLimit sum table least allb firstUp plan-whole wide-whole
 budget-examples =
     record {
       at = refl;

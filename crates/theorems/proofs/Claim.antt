@@ -65,7 +65,7 @@ respond-refused : (request : Request) (bytes words : List ℕ) (code : ℕ) → 
 unfolding respond checkCall stepCall runCall
 respond-refused askCheck bytes words code e = refused-call bytes words _ (λ n. checked) code (λ p q. clash (cc)) e
 respond-refused askStep bytes words code e = refused-call bytes words _ stepped code (λ p q. clash (cc)) e
-respond-refused (askRun budget) bytes words code e = refused-call bytes words _ ran code (λ p q. clash (cc)) e
+respond-refused (askRun limit) bytes words code e = refused-call bytes words _ ran code (λ p q. clash (cc)) e
 
 does-refused : (call : Call) (words : List ℕ) (code : ℕ) → does call words .reply ≡ refusedBy code → does call words .words ≡ words
 unfolding does
@@ -89,13 +89,13 @@ unfolding after
 step-says p words (inl says) = let e : nextStep p words ≡ none = cc in rw e e
 step-says p words (inr (n, says)) = absurd (clash (cc))
 
-run-says : (p : Plan) (budget : ℕ) (words : List ℕ)
-    → SaysRest (ran (record { rested = run p budget words .rested; steps = run p budget words .steps }))
-    → AtRest p (run p budget words .words)
-run-says p budget words (inl says) = absurd (clash (cc))
-run-says p budget words (inr (n, says)) =
-    let e : _≡_ {A = RunReply} (record { rested = run p budget words .rested; steps = run p budget words .steps }) (record { rested = true; steps = n }) = cc in
-    run-laws p budget words .rest (ap (λ (r : RunReply). r .rested) e)
+run-says : (p : Plan) (limit : ℕ) (words : List ℕ)
+    → SaysRest (ran (record { rested = run p limit words .rested; steps = run p limit words .steps }))
+    → AtRest p (run p limit words .words)
+run-says p limit words (inl says) = absurd (clash (cc))
+run-says p limit words (inr (n, says)) =
+    let e : _≡_ {A = RunReply} (record { rested = run p limit words .rested; steps = run p limit words .steps }) (record { rested = true; steps = n }) = cc in
+    run-laws p limit words .rest (ap (λ (r : RunReply). r .rested) e)
 
 module _ (bytes : List ℕ) (p : Plan) (reads : judge bytes ≡ accepted p) (before : List ℕ) where
   valid : Valid p
@@ -167,9 +167,9 @@ module _ (bytes : List ℕ) (p : Plan) (reads : judge bytes ≡ accepted p) (bef
       after-request askStep =
           rw (onPlan-made (take lent words) (placementRefusal (take lent words)) _ (judge bytes) p reads lent-passes)
           (after-steps (nextStep-taken p (take lent words) .1) _ (step-says p (take lent words)))
-      after-request (askRun budget) =
+      after-request (askRun limit) =
           rw (onPlan-made (take lent words) (placementRefusal (take lent words)) _ (judge bytes) p reads lent-passes)
-          (after-steps (run-laws p budget (take lent words) .taken) _ (run-says p budget (take lent words)))
+          (after-steps (run-laws p limit (take lent words) .taken) _ (run-says p limit (take lent words)))
 
     after-gets : (call : Call) → Gets bytes (blockCount p) call → After p before (does call words)
     unfolding does

@@ -25,10 +25,10 @@ use Rattle.theory.proofs.Refusal.{refuseIf-zero, check3-read, verdict-accepted,
 use Rattle.theory.proofs.WritingPlan.{refusal-written, reads-written, accepted-fits}
 use Rattle.theory.proofs.Conversion.{converted-length, convertVerdict-judged, convertCall-short, convertCall-refused}
 use Rattle.theorems.specs.Trials.{plan-H, plan-full}
-use Rattle.theorems.specs.Versions.{verdictWith, SameLimit, Twin, Twins, LaterTwins}
+use Rattle.theorems.specs.Versions.{verdictWith, SameUpper, Twin, Twins, LaterTwins}
 use Rattle.theorems.specs.Conversion.{OldPlan, Converts, Conversions, wide-H, ConversionExamples}
 use Rattle.theorems.proofs.Trials.{trials}
-use Rattle.theorems.proofs.Versions.{limits, same-answers}
+use Rattle.theorems.proofs.Versions.{comparable, same-answers}
 use Rattle.theorems.proofs.LongInput.{long-conversion}
 
 -- ── Takes ────────────────────────────────────────────────────────────────────────────────────────
@@ -66,8 +66,8 @@ record Later (version : ℕ) : Type 0 where
   wide : writtenVersion ≤ version
   read : version ≤ latestVersion
 
-later-limit : (version old : ℕ) → Later version → maxReplicas old ≤ maxReplicas version
-later-limit version old later = rw (← (maxReplicas-later version (later .wide))) (maxReplicas-most old)
+later-upper : (version old : ℕ) → Later version → maxReplicas old ≤ maxReplicas version
+later-upper version old later = rw (← (maxReplicas-later version (later .wide))) (maxReplicas-most old)
 
 -- a plan keeps its shape in such a version, and is valid there with a budget that passes row 23
 later-shaped : (version : ℕ) → Later version → (p : Plan) → Shaped p → Shaped (withVersion version p)
@@ -84,7 +84,7 @@ later-shaped version later p s =
       blocks-max = s .blocks-max;
       block = λ i l.
           let b = s .block i l in
-          record { min-pos = b .min-pos; min-upper = le-trans (b .min-upper) (upper-grows p version (later-limit version (p .version) later) i); domains-pos = b .domains-pos; domains-min = b .domains-min; domains-all = b .domains-all };
+          record { min-pos = b .min-pos; min-upper = le-trans (b .min-upper) (upper-grows p version (later-upper version (p .version) later) i); domains-pos = b .domains-pos; domains-min = b .domains-min; domains-all = b .domains-all };
       pair = λ i l.
           let q = s .pair i l in
           record {
@@ -159,14 +159,14 @@ converts bytes each p e =
       accepts = new;
       same = λ few.
           same-answers writtenVersion bytes (converted p) (new ∙ sym (ap (verdictWith writtenVersion) old))
-          (λ q accepts. limits .few (q .version) writtenVersion (machines q) (subst (λ (r : Plan). machines r ≤ 8) (laws .held ∙ sym (accepted-laws bytes q accepts .held)) few));
+          (λ q accepts. comparable .few (q .version) writtenVersion (machines q) (subst (λ (r : Plan). machines r ≤ 8) (laws .held ∙ sym (accepted-laws bytes q accepts .held)) few));
       fits = omega (arith, converted-length p);
     }
 
 -- ── Twins ────────────────────────────────────────────────────────────────────────────────────────
 twin : (version : ℕ) (bytes : List ℕ) (p : Plan) → judge bytes ≡ accepted p
     → judge (planBytes (withVersion version p)) ≡ accepted (withVersion version p)
-    → ((machines : ℕ) → SameLimit (p .version) version machines)
+    → ((machines : ℕ) → SameUpper (p .version) version machines)
     → Twin version bytes p
 twin version bytes p e new limit-same =
     record {
@@ -175,13 +175,13 @@ twin version bytes p e new limit-same =
           same-answers version bytes (planBytes (withVersion version p)) (new ∙ sym (ap (verdictWith version) e))
           (λ q accepts.
           let same : p ≡ q = accepted-laws bytes p e .held ∙ sym (accepted-laws bytes q accepts .held) in
-          subst (λ (r : Plan). SameLimit (r .version) version (machines r)) same (limit-same (machines p)));
+          subst (λ (r : Plan). SameUpper (r .version) version (machines r)) same (limit-same (machines p)));
     }
 
 pub twins : Twins
 twins bytes each p e version feeds =
     twin 3 bytes p e (later-accepted 3 three bytes each p e feeds (λ late. absurd (omega arith)))
-    (λ n. rw version (limits .later n))
+    (λ n. rw version (comparable .later n))
 
 -- the rows before 23 turn no file of an accepted plan back in version 4
 pub later-twins : LaterTwins
@@ -192,7 +192,7 @@ later-twins bytes each p e version =
     let fits = later-fits 4 four p (accepted-fits bytes each p e) feeds in
     record {
       usable = λ usable.
-          twin 4 bytes p e (later-accepted 4 four bytes each p e feeds (λ late. usable)) (λ n. rw version (sym (limits .later n)));
+          twin 4 bytes p e (later-accepted 4 four bytes each p e feeds (λ late. usable)) (λ n. rw version (sym (comparable .later n)));
       unusable = λ above.
           judge-refused (planBytes (withVersion 4 p)) 23
           (refusal-written (withVersion 4 p) shaped fits

@@ -10,7 +10,7 @@ use Rattle.order.specs.Table.{table, joined}
 use Rattle.order.specs.Search.{firstUp, least, allb, largest, smallest}
 use Rattle.model.specs.Plan.{Plan, blockCount, blockOf, maxReplicas, upper, minTotal, versionIn, field, formatOf, formatIn, recordAt, blockIn, planIn, isPaired, pairsBack, pairsNext, partner}
 use Rattle.model.specs.Refusal.{check1, refusal, Verdict, accepted, judge}
-use Rattle.model.specs.Replication.{limit, share, need, chosen}
+use Rattle.model.specs.Replication.{copyLimit, share, need, chosen}
 use Rattle.model.specs.Placement.{bit, replicas, replicasIn, domainsUsed, used, allWithin, allSpread, allFit, countsFeasible, isFeasible, position, laidWord, firstWord, firstPlacement, shareOf, load, maxLoad, minLoad, totalLoad, maxShare, allApart, keptApart}
 use Rattle.model.specs.Steps.{shifted, afterMove, afterSwap, after, improves, canMove, canSwap, routes, nextMove, nextSwap, nextStep, Run, run}
 use Rattle.model.specs.Calls.{reportOf}
@@ -44,12 +44,12 @@ unfolding firstPlacement planIn blockIn formatOf field upper maxReplicas isPaire
 H-first = rw (figures .H) refl
 
 H-lines : runLines (planIn plan-H) (run (planIn plan-H) stepLimit (15 ∷ 5 ∷ 2 ∷ [])) ≡ listing-H
-unfolding runLines lastLine planLine blockLine joined holders line fields numberField decimal digits reportOf maxLoad minLoad totalLoad maxShare planIn blockIn formatOf field upper maxReplicas isPaired pairsBack pairsNext minTotal shifted afterMove afterSwap after improves canMove canSwap routes nextMove nextSwap nextStep run bit replicas replicasIn domainsUsed used allWithin allSpread allFit allApart keptApart partner countsFeasible isFeasible shareOf load largest smallest share limit sum table allb firstUp plan-H listing-H
+unfolding runLines lastLine planLine blockLine joined holders line fields numberField decimal digits reportOf maxLoad minLoad totalLoad maxShare planIn blockIn formatOf field upper maxReplicas isPaired pairsBack pairsNext minTotal shifted afterMove afterSwap after improves canMove canSwap routes nextMove nextSwap nextStep run bit replicas replicasIn domainsUsed used allWithin allSpread allFit allApart keptApart partner countsFeasible isFeasible shareOf load largest smallest share copyLimit sum table allb firstUp plan-H listing-H
 H-lines = refl
 
-empty-printed : (budget : ℕ) → printed [] budget ≡ listing-empty
+empty-printed : (limit : ℕ) → printed [] limit ≡ listing-empty
 unfolding printed printedOf refusedLine line fields numberField decimal digits judge refusal check1 listing-empty
-empty-printed budget = refl
+empty-printed limit = refl
 
 -- shares are within their bound, since a popularity is within its own
 share-fits : (bytes : List ℕ) → ((i : ℕ) → getD bytes i 0 < 256) → (count : ℕ → ℕ) (i : ℕ) → i < blockCount (planIn bytes)
@@ -64,14 +64,14 @@ listing-laws =
     record {
       H = printed-run plan-H _ _ (trials .H-accepted) H-first H-lines;
       empty = empty-printed;
-      fits = λ bytes h budget l. go bytes h budget l (refusal bytes) refl (refusal-le bytes);
+      fits = λ bytes h limit l. go bytes h limit l (refusal bytes) refl (refusal-le bytes);
     }
   where
-    go : (bytes : List ℕ) → ((i : ℕ) → getD bytes i 0 < 256) → (budget : ℕ) → budget < 2 ^ 32
-        → (code : ℕ) → refusal bytes ≡ code → code ≤ 23 → length (printed bytes budget) ≤ listingRoom
-    go bytes h budget l zero e m =
-        rw (printed-accepted bytes budget (planIn bytes) (judge-accepted bytes e))
-        (listingOf-fits (planIn bytes) (refusal-zero bytes e) (share-fits bytes h (chosen (planIn bytes))) budget l)
-    go bytes h budget l (suc code) e m =
-        rw (printed-refused bytes budget (suc code) (judge-refused bytes (suc code) e (omega arith)))
+    go : (bytes : List ℕ) → ((i : ℕ) → getD bytes i 0 < 256) → (limit : ℕ) → limit < 2 ^ 32
+        → (code : ℕ) → refusal bytes ≡ code → code ≤ 23 → length (printed bytes limit) ≤ listingRoom
+    go bytes h limit l zero e m =
+        rw (printed-accepted bytes limit (planIn bytes) (judge-accepted bytes e))
+        (listingOf-fits (planIn bytes) (refusal-zero bytes e) (share-fits bytes h (chosen (planIn bytes))) limit l)
+    go bytes h limit l (suc code) e m =
+        rw (printed-refused bytes limit (suc code) (judge-refused bytes (suc code) e (omega arith)))
         (omega (arith, refusedLine-length (suc code) (omega arith)))

@@ -106,10 +106,10 @@ long-some bytes l = rw (long-refusal bytes l) (long-code _ _ _ _ _ _ _)
 
 pub long-input : LongInput
 unfolding printed
-long-input bytes l budget =
+long-input bytes l limit =
     let code = refusal bytes in
     let some = long-some bytes l in
-    ap (λ (v : Verdict). printedOf v budget)
+    ap (λ (v : Verdict). printedOf v limit)
     (judge-refused (take inputRoom bytes) code (same-refusal bytes l) some ∙ sym (judge-refused bytes code refl some))
 
 -- the converter's rows before the plan's own go by the header, too

@@ -7,7 +7,7 @@ use Rattle.order.specs.Table.{table, filled, joined}
 use Rattle.order.specs.Search.{firstUp, least, allb, largest, smallest}
 use Rattle.model.specs.Plan.{maxReplicas, upper, minTotal, field, formatOf, blockIn, planIn, isPaired, pairsBack, pairsNext, partner}
 use Rattle.model.specs.Refusal.{check1, check2, check3, check4, check22, check5, check6, check7, check8, check9, blockRefusal, blocksRefusal, check23, check10, check11, check12, planRefusal, refusal, judge, accepted, pairsRefusal, pairRefusal, check17, alike}
-use Rattle.model.specs.Replication.{limit, share, largestShare, need, reachable, figure, chosen}
+use Rattle.model.specs.Replication.{copyLimit, share, largestShare, need, reachable, figure, chosen}
 use Rattle.model.specs.Placement.{bit, replicas, replicasIn, domainsUsed, used, allWithin, allSpread, allFit, countsFeasible, isFeasible, position, laidWord, firstWord, firstPlacement, shareOf, load, maxLoad, minLoad, totalLoad, maxShare, allApart, keptApart}
 use Rattle.model.specs.Steps.{shifted, afterMove, afterSwap, after, improves, canMove, canSwap, routes, nextMove, nextSwap, nextStep, run}
 use Rattle.model.specs.Calls.{onPlan, unless, countsCall, firstCall, reportOf}
@@ -25,7 +25,7 @@ unfolding judge refusal check1 check2 check3 check4 check22 check5 check6 check7
 old-accepted = refl
 
 old-figure : figure (planIn plan-nine) ≡ 315
-unfolding refusal check1 check2 check3 check4 check22 check5 check6 check7 planRefusal blocksRefusal blockRefusal check8 check9 pairsRefusal pairRefusal check17 alike check23 check10 check11 planIn blockIn formatOf field upper maxReplicas isPaired pairsBack pairsNext minTotal reachable need share limit sum table least allb firstUp plan-nine
+unfolding refusal check1 check2 check3 check4 check22 check5 check6 check7 planRefusal blocksRefusal blockRefusal check8 check9 pairsRefusal pairRefusal check17 alike check23 check10 check11 planIn blockIn formatOf field upper maxReplicas isPaired pairsBack pairsNext minTotal reachable need share copyLimit sum table least allb firstUp plan-nine
 old-figure = figure-of plan-nine 314 refl refl refl
 
 old-counts : countsCall plan-nine (0 ∷ []) ≡ gives 315 (8 ∷ [])
@@ -41,7 +41,7 @@ unfolding firstCall onPlan unless judge refusal check1 check2 check3 check4 chec
 old-first = rw old-figure refl
 
 old-lines : runLines (planIn plan-nine) (run (planIn plan-nine) stepLimit (255 ∷ [])) ≡ listing-eight
-unfolding runLines lastLine planLine blockLine joined holders line fields numberField decimal digits reportOf maxLoad minLoad totalLoad maxShare planIn blockIn formatOf field upper maxReplicas isPaired pairsBack pairsNext minTotal shifted afterMove afterSwap after improves canMove canSwap routes nextMove nextSwap nextStep run bit replicas replicasIn domainsUsed used allWithin allSpread allFit allApart keptApart partner countsFeasible isFeasible shareOf load largest smallest share limit sum table allb firstUp plan-nine listing-eight
+unfolding runLines lastLine planLine blockLine joined holders line fields numberField decimal digits reportOf maxLoad minLoad totalLoad maxShare planIn blockIn formatOf field upper maxReplicas isPaired pairsBack pairsNext minTotal shifted afterMove afterSwap after improves canMove canSwap routes nextMove nextSwap nextStep run bit replicas replicasIn domainsUsed used allWithin allSpread allFit allApart keptApart partner countsFeasible isFeasible shareOf load largest smallest share copyLimit sum table allb firstUp plan-nine listing-eight
 old-lines = refl
 
 -- ── wide-nine ─────────────────────────────────────────────────────────────────────────────────
@@ -50,7 +50,7 @@ unfolding judge refusal check1 check2 check3 check4 check22 check5 check6 check7
 wide-accepted = refl
 
 wide-figure : figure (planIn wide-nine) ≡ 280
-unfolding refusal check1 check2 check3 check4 check22 check5 check6 check7 planRefusal blocksRefusal blockRefusal check8 check9 pairsRefusal pairRefusal check17 alike check23 check10 check11 planIn blockIn formatOf field upper maxReplicas isPaired pairsBack pairsNext minTotal reachable need share limit sum table least allb firstUp wide-nine
+unfolding refusal check1 check2 check3 check4 check22 check5 check6 check7 planRefusal blocksRefusal blockRefusal check8 check9 pairsRefusal pairRefusal check17 alike check23 check10 check11 planIn blockIn formatOf field upper maxReplicas isPaired pairsBack pairsNext minTotal reachable need share copyLimit sum table least allb firstUp wide-nine
 wide-figure = figure-of wide-nine 279 refl refl refl
 
 wide-counts : countsCall wide-nine (0 ∷ []) ≡ gives 280 (9 ∷ [])
@@ -66,7 +66,7 @@ unfolding firstCall onPlan unless judge refusal check1 check2 check3 check4 chec
 wide-first = rw wide-figure refl
 
 wide-lines : runLines (planIn wide-nine) (run (planIn wide-nine) stepLimit (511 ∷ [])) ≡ listing-nine
-unfolding runLines lastLine planLine blockLine joined holders line fields numberField decimal digits reportOf maxLoad minLoad totalLoad maxShare planIn blockIn formatOf field upper maxReplicas isPaired pairsBack pairsNext minTotal shifted afterMove afterSwap after improves canMove canSwap routes nextMove nextSwap nextStep run bit replicas replicasIn domainsUsed used allWithin allSpread allFit allApart keptApart partner countsFeasible isFeasible shareOf load largest smallest share limit sum table allb firstUp wide-nine listing-nine
+unfolding runLines lastLine planLine blockLine joined holders line fields numberField decimal digits reportOf maxLoad minLoad totalLoad maxShare planIn blockIn formatOf field upper maxReplicas isPaired pairsBack pairsNext minTotal shifted afterMove afterSwap after improves canMove canSwap routes nextMove nextSwap nextStep run bit replicas replicasIn domainsUsed used allWithin allSpread allFit allApart keptApart partner countsFeasible isFeasible shareOf load largest smallest share copyLimit sum table allb firstUp wide-nine listing-nine
 wide-lines = refl
 
 -- ── NotKept ──────────────────────────────────────────────────────────────────────────────────────

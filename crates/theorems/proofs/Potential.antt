@@ -10,7 +10,7 @@ use Rattle.order.proofs.Booleans.{bool-cases}
 use Rattle.order.proofs.SumChanges.{squares-fall}
 use Rattle.model.specs.Plan.{Plan, machines, blockCount}
 use Rattle.model.specs.Placement.{wordOf, Feasible, shareOf, load}
-use Rattle.model.specs.Steps.{none, move, swap, afterMove, afterSwap, after, isStep, nextStep, run, potential, canMove, canSwap}
+use Rattle.model.specs.Steps.{none, relocate, exchange, afterMove, afterSwap, after, isStep, nextStep, run, potential, canMove, canSwap}
 use Rattle.theory.specs.Steps.{Taken, none-taken, one-more}
 use Rattle.theory.proofs.Placement.{bit-apart}
 use Rattle.theory.proofs.Steps.{afterMove-load-source, afterMove-load-target, afterMove-load-else, afterSwap-load-source, afterSwap-load-target, afterSwap-load-else}
@@ -54,9 +54,9 @@ module _ (p : Plan) (words : List ℕ) (m n i : ℕ) (ml : m < machines p) (nl :
 pub step-lowers : StepLowers
 unfolding after
 step-lowers p count words feasible none h = absurd h
-step-lowers p count words feasible (move racks m n i) (ml, nl, il, can, across) =
+step-lowers p count words feasible (relocate racks m n i) (ml, nl, il, can, across) =
     move-lowers p words m n i ml nl il can
-step-lowers p count words feasible (swap racks m n i j) (ml, nl, il, jl, can, across) =
+step-lowers p count words feasible (exchange racks m n i j) (ml, nl, il, jl, can, across) =
     swap-lowers p words m n i ml nl il j jl can
 
 module _ (p : Plan) (count : ℕ → ℕ) where
@@ -75,17 +75,17 @@ module _ (p : Plan) (count : ℕ → ℕ) where
 -- The sum falls by 2 at each of the steps of a run and is never below 0, so twice the steps are at most the first sum. A run that
 -- does not rest has used its limit and has a step left, which would lower the sum by 2 once more: so its limit is below half the sum.
 pub run-rests : RunRests
-run-rests p count words feasible = record { few = few; rests = λ budget enough. rests budget enough (bool-cases (run p budget words .rested)) }
+run-rests p count words feasible = record { few = few; rests = λ limit enough. rests limit enough (bool-cases (run p limit words .rested)) }
   where
-    few : (budget : ℕ) → 2 * run p budget words .steps ≤ potential p words
-    few budget = omega (arith, taken-lowers p count (run-laws p budget words .taken) feasible)
+    few : (limit : ℕ) → 2 * run p limit words .steps ≤ potential p words
+    few limit = omega (arith, taken-lowers p count (run-laws p limit words .taken) feasible)
 
-    rests : (budget : ℕ) → potential p words / 2 ≤ budget
-        → (run p budget words .rested ≡ true) ⊎ (run p budget words .rested ≡ false) → run p budget words .rested ≡ true
-    rests budget enough (inl e) = e
-    rests budget enough (inr e) =
-        let spent = run-laws p budget words .spent e in
-        let fallen = taken-lowers p count (run-laws p budget words .taken) feasible in
+    rests : (limit : ℕ) → potential p words / 2 ≤ limit
+        → (run p limit words .rested ≡ true) ⊎ (run p limit words .rested ≡ false) → run p limit words .rested ≡ true
+    rests limit enough (inl e) = e
+    rests limit enough (inr e) =
+        let spent = run-laws p limit words .spent e in
+        let fallen = taken-lowers p count (run-laws p limit words .taken) feasible in
         let all = spent .0 in
-        let more = next-lowers p count (run p budget words .words) (run-feasible p count words feasible budget) (spent .1) in
+        let more = next-lowers p count (run p limit words .words) (run-feasible p count words feasible limit) (spent .1) in
         absurd (omega arith)

@@ -7,7 +7,7 @@ use native.Mathlib.Decide.{decLt}
 use native.Mathlib.Omega.{arith}
 use Rattle.model.specs.Plan.{Plan}
 use Rattle.model.specs.Placement.{Feasible, shareOf, load}
-use Rattle.model.specs.Steps.{Step, none, move, swap, acrossRacks, AtRest}
+use Rattle.model.specs.Steps.{Step, none, relocate, exchange, acrossRacks, AtRest}
 use Rattle.theory.specs.Refusal.{Shaped}
 use Rattle.theory.specs.Steps.{Admissible}
 use Rattle.theory.proofs.StepsLocal.{canMove-local, canSwap-local}
@@ -20,7 +20,7 @@ module _ (p : Plan) (shaped : Shaped p) (count : ℕ → ℕ) (words : List ℕ)
       record {
         no-move = λ m n i ml nl il on off room positive spread apart.
             no-gap (load p words m) (load p words n + shareOf p words i) (λ lower.
-            none-left (move (acrossRacks p m n) m n i) (
+            none-left (relocate (acrossRacks p m n) m n i) (
               ml,
               nl,
               il,
@@ -30,7 +30,7 @@ module _ (p : Plan) (shaped : Shaped p) (count : ℕ → ℕ) (words : List ℕ)
             ));
         no-swap = λ m n i j ml nl il jl i-on i-off j-on j-off gain i-spread j-spread i-apart j-apart.
             no-gap (load p words m + shareOf p words j) (load p words n + shareOf p words i) (λ lower.
-            none-left (swap (acrossRacks p m n) m n i j) (
+            none-left (exchange (acrossRacks p m n) m n i j) (
               ml,
               nl,
               il,
@@ -62,10 +62,10 @@ module _ (p : Plan) (shaped : Shaped p) (count : ℕ → ℕ) (words : List ℕ)
     where
       none-left : (s : Step) → Admissible p words s → ⊥
       none-left none h = h
-      none-left (move racks m n i) (ml, nl, il, can, across) =
+      none-left (relocate racks m n i) (ml, nl, il, can, across) =
           let s = canMove-local p shaped count words feasible m n i ml nl il .0 can in
           omega (arith, s .lowers, settled .no-move m n i ml nl il (s .on) (s .off) (s .room) (s .lowers .0) (s .spread) (s .apart))
-      none-left (swap racks m n i j) (ml, nl, il, jl, can, across) =
+      none-left (exchange racks m n i j) (ml, nl, il, jl, can, across) =
           let s = canSwap-local p shaped count words feasible m n i j ml nl il jl .0 can in
           omega (
             arith,

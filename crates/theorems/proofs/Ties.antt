@@ -13,9 +13,9 @@ use Rattle.order.specs.Search.{firstUp, least, allb, largest}
 use Rattle.order.proofs.Extremes.{largest-term, sum-largest}
 use Rattle.model.specs.Plan.{blockCount, blockOf, maxReplicas, upper, minTotal, field, formatOf, blockIn, planIn, isPaired, pairsBack, pairsNext, partner}
 use Rattle.model.specs.Refusal.{check1, check2, check3, check4, check22, check5, check6, check7, check8, check9, blockRefusal, blocksRefusal, check23, check10, check11, check12, planRefusal, refusal, judge, accepted, pairsRefusal, pairRefusal, check17, alike}
-use Rattle.model.specs.Replication.{limit, unit, share, need, reachable, figure, chosen}
+use Rattle.model.specs.Replication.{copyLimit, unit, share, need, reachable, figure, chosen}
 use Rattle.model.specs.Placement.{bit, replicas, replicasIn, domainsUsed, used, Feasible, allWithin, allSpread, allFit, countsFeasible, isFeasible, shareOf, load, maxLoad, totalLoad, allApart, keptApart}
-use Rattle.model.specs.Steps.{Step, none, move, swap, shifted, afterMove, afterSwap, after, improves, canMove, canSwap, routes, nextMove, nextSwap, nextStep, Run, run}
+use Rattle.model.specs.Steps.{Step, none, relocate, exchange, shifted, afterMove, afterSwap, after, improves, canMove, canSwap, routes, nextMove, nextSwap, nextStep, Run, run}
 use Rattle.model.specs.Calls.{allCounted, placementRefusal, onPlacement, checkCall, stepCall, runCall}
 use Rattle.theory.specs.Refusal.{Valid}
 use Rattle.theory.specs.Steps.{Admissible}
@@ -37,7 +37,7 @@ valid = accepted-laws plan-tied tied accepts .valid
 
 -- the figure is one read, which twelve copies reach
 figure-tied : figure tied ≡ 2520
-unfolding reachable need share limit upper maxReplicas isPaired pairsBack pairsNext sum least allb
+unfolding reachable need share copyLimit upper maxReplicas isPaired pairsBack pairsNext sum least allb
 figure-tied = figure-at tied valid 2519 refl refl
 
 passes : placementRefusal sixes tied ≡ 0
@@ -85,12 +85,12 @@ still words (k, l, e) = le-trans (le-of-eq (highest ∙ sym e)) (largest-term 3 
 none-lowers : (s : Step) → Admissible tied sixes s → maxLoad tied sixes ≤ maxLoad tied (after sixes s)
 unfolding after
 none-lowers none h = absurd h
-none-lowers (move racks m n i) (ml, nl, il, can, across) =
+none-lowers (relocate racks m n i) (ml, nl, il, can, across) =
     let s = canMove-lowers tied sixes m n i ml nl il can in
     still (afterMove sixes m n i)
     (keeps m n ml (omega (arith, s .2)) (load tied (afterMove sixes m n i))
     (afterMove-load-else tied sixes m n i (s .0) (s .1) ml nl il))
-none-lowers (swap racks m n i j) (ml, nl, il, jl, can, across) =
+none-lowers (exchange racks m n i j) (ml, nl, il, jl, can, across) =
     let s = canSwap-lowers tied sixes m n i j ml nl il jl can in
     still (afterSwap sixes m n i j)
     (keeps m n ml (omega (arith, s .4)) (load tied (afterSwap sixes m n i j))
@@ -107,21 +107,21 @@ best count words f = omega (arith, loads-total tied valid count words f, twelve,
 
 -- the run, on the plan's fields: five steps, and then no step is left
 rest-tied : nextStep tied fours ≡ none
-unfolding shifted afterMove afterSwap improves canMove canSwap routes nextMove nextSwap nextStep bit replicas replicasIn domainsUsed used allWithin allSpread allFit allApart keptApart partner countsFeasible isFeasible shareOf load share limit upper maxReplicas isPaired pairsBack pairsNext sum firstUp allb
+unfolding shifted afterMove afterSwap improves canMove canSwap routes nextMove nextSwap nextStep bit replicas replicasIn domainsUsed used allWithin allSpread allFit allApart keptApart partner countsFeasible isFeasible shareOf load share copyLimit upper maxReplicas isPaired pairsBack pairsNext sum firstUp allb
 rest-tied = refl
 
 run-tied : (more : ℕ) → run tied (suc (suc (suc (suc (suc more))))) sixes ≡ record { rested = true; steps = 5; words = fours }
-unfolding shifted afterMove afterSwap after improves canMove canSwap routes nextMove nextSwap nextStep run bit replicas replicasIn domainsUsed used allWithin allSpread allFit allApart keptApart partner countsFeasible isFeasible shareOf load share limit upper maxReplicas isPaired pairsBack pairsNext sum firstUp allb
+unfolding shifted afterMove afterSwap after improves canMove canSwap routes nextMove nextSwap nextStep run bit replicas replicasIn domainsUsed used allWithin allSpread allFit allApart keptApart partner countsFeasible isFeasible shareOf load share copyLimit upper maxReplicas isPaired pairsBack pairsNext sum firstUp allb
 run-tied more =
     ap (λ (r : Run). record { rested = r .rested; steps = suc (suc (suc (suc (suc (r .steps))))); words = r .words }) (run-none tied fours more rest-tied)
 
-run-enough : (budget : ℕ) → 5 ≤ budget → run tied budget sixes ≡ record { rested = true; steps = 5; words = fours }
-run-enough budget l =
-    let split : suc (suc (suc (suc (suc (budget - 5))))) ≡ budget = omega arith in
-    rw split at (run-tied (budget - 5))
+run-enough : (limit : ℕ) → 5 ≤ limit → run tied limit sixes ≡ record { rested = true; steps = 5; words = fours }
+run-enough limit l =
+    let split : suc (suc (suc (suc (suc (limit - 5))))) ≡ limit = omega arith in
+    rw split at (run-tied (limit - 5))
 
 pub ties : Ties
-unfolding checkCall stepCall runCall onPlacement shifted afterMove afterSwap after improves canMove canSwap routes nextMove nextSwap nextStep bit replicas replicasIn domainsUsed used allWithin allSpread allFit allApart keptApart partner countsFeasible isFeasible shareOf load maxLoad share limit upper maxReplicas isPaired pairsBack pairsNext sum table firstUp allb largest
+unfolding checkCall stepCall runCall onPlacement shifted afterMove afterSwap after improves canMove canSwap routes nextMove nextSwap nextStep bit replicas replicasIn domainsUsed used allWithin allSpread allFit allApart keptApart partner countsFeasible isFeasible shareOf load maxLoad share copyLimit upper maxReplicas isPaired pairsBack pairsNext sum table firstUp allb largest
 ties =
     record {
       accepts = accepts;
@@ -131,6 +131,6 @@ ties =
       none-lowers = none-lowers;
       one-left = onPlan-made sixes (placementRefusal sixes) _ (judge plan-tied) tied accepts passes;
       best = best;
-      rests = λ budget l. onPlan-made sixes (placementRefusal sixes) _ (judge plan-tied) tied accepts passes ∙ (rw (run-enough budget l));
+      rests = λ limit l. onPlan-made sixes (placementRefusal sixes) _ (judge plan-tied) tied accepts passes ∙ (rw (run-enough limit l));
       reached = refl;
     }

@@ -15,22 +15,22 @@ use Rattle.order.specs.Search.{allb}
 use Rattle.order.proofs.Tables.{table-cong}
 use Rattle.model.specs.Plan.{Plan, machines, places, blockCount, maxReplicas, upper, isPaired, pairsBack, pairsNext, partner, minTotal, markIn, versionIn, racksIn, rackSizeIn, feedsIn, capacityIn, budgetIn, blockCountIn, latestVersion, formatOf, formatIn, recordAt, blockIn, planIn}
 use Rattle.model.specs.Refusal.{refuseIf, orElse, mark, maxMachines, maxCapacity, maxBlocks, check1, check2, check4, check22, check5, check7, check23, blockRefusal, blocksRefusal, pairRefusal, pairsRefusal, planRefusal, refusal, Verdict, refused, accepted, verdict, judge}
-use Rattle.model.specs.Replication.{limit, largestShare, need, reachable, figure, chosen}
+use Rattle.model.specs.Replication.{copyLimit, largestShare, need, reachable, figure, chosen}
 use Rattle.model.specs.Placement.{countOf, replicas, replicasIn, domainsUsed, used, allWithin, allSpread, allFit, keptApart, allApart, countsFeasible, isFeasible, position, laidWord, firstWord, firstPlacement, shareOf, load, maxLoad, minLoad, totalLoad, maxShare}
 use Rattle.model.specs.Steps.{after, improves, canMove, canSwap, routes, nextMove, nextSwap, nextStep, run}
 use Rattle.model.specs.Calls.{Outcome, onPlan, bufferRefusal, allCounted, placementRefusal, onPlacement, reportOf, countsCall, firstCall, checkCall, reportCall, stepCall, runCall}
 use Rattle.model.specs.Listing.{planLine, blockLine, lastLine, listingOf, printedOf, printed}
 use Rattle.model.specs.Conversion.{withVersion}
 use Rattle.theory.specs.Refusal.{PastRow23}
-use Rattle.theory.proofs.Plan.{maxReplicas-least, upper-limit}
+use Rattle.theory.proofs.Plan.{maxReplicas-least, upper-alike}
 use Rattle.theory.proofs.Refusal.{check3-read, check6-long, check23-above, check23-early, check23-usable, blocksRefusal-le, pairsRefusal-cases, totalRefusal, accepted-laws}
-use Rattle.theorems.specs.Versions.{TurnedBack, verdictWith, SameLimit, SameRow23, Limits, VersionsFree, Described, SameFields, SameAnswers, Versions, VersionsApart}
+use Rattle.theorems.specs.Versions.{TurnedBack, verdictWith, SameUpper, SameRow23, Comparable, VersionsFree, Described, SameFields, SameAnswers, Versions, VersionsApart}
 use Rattle.theorems.proofs.Exact.{total-cases}
 
--- ── Limits ───────────────────────────────────────────────────────────────────────────────────────
-pub limits : Limits
+-- ── Comparable ───────────────────────────────────────────────────────────────────────────────────────
+pub comparable : Comparable
 unfolding maxReplicas
-limits =
+comparable =
     record {
       early = λ machines. refl;
       later = λ machines. refl;
@@ -40,9 +40,9 @@ limits =
     }
 
 -- ── VersionsFree ─────────────────────────────────────────────────────────────────────────────────
-module _ (version : ℕ) (p : Plan) (same : SameLimit (p .version) version (machines p)) where
+module _ (version : ℕ) (p : Plan) (same : SameUpper (p .version) version (machines p)) where
   upper-free : (i : ℕ) → upper (withVersion version p) i ≡ upper p i
-  upper-free = upper-limit p version same
+  upper-free = upper-alike p version same
 
   blockRefusal-free : (i : ℕ) → blockRefusal (withVersion version p) i ≡ blockRefusal p i
   unfolding blockRefusal
@@ -59,9 +59,9 @@ module _ (version : ℕ) (p : Plan) (same : SameLimit (p .version) version (mach
   need-free f i = rw (upper-free i)
 
   reachable-free : (f : ℕ) → reachable (withVersion version p) f ≡ reachable p f
-  unfolding reachable limit
+  unfolding reachable copyLimit
   reachable-free f =
-      ap₂ (λ (most needs : ℕ → ℕ). allb (blockCount p) (λ i. leb (needs i) (most i)) && leb (sum (blockCount p) needs) (limit p))
+      ap₂ (λ (most needs : ℕ → ℕ). allb (blockCount p) (λ i. leb (needs i) (most i)) && leb (sum (blockCount p) needs) (copyLimit p))
       (fun-ext upper-free)
       (fun-ext (need-free f))
 
@@ -82,19 +82,19 @@ module _ (version : ℕ) (p : Plan) (same : SameLimit (p .version) version (mach
   first-free = rw (fun-ext firstWord-free)
 
   next-free : (words : List ℕ) → nextStep (withVersion version p) words ≡ nextStep p words
-  unfolding nextStep nextMove nextSwap routes canMove canSwap improves isFeasible countsFeasible allWithin allSpread allFit allApart keptApart partner replicas replicasIn domainsUsed used shareOf load limit upper isPaired pairsBack pairsNext
+  unfolding nextStep nextMove nextSwap routes canMove canSwap improves isFeasible countsFeasible allWithin allSpread allFit allApart keptApart partner replicas replicasIn domainsUsed used shareOf load copyLimit upper isPaired pairsBack pairsNext
   next-free words =
       let half : min (maxReplicas version) (machines p / 2) ≡ min (maxReplicas (p .version)) (machines p / 2) = omega (arith, same) in
       rw (same, half)
 
-  run-free : (budget : ℕ) (words : List ℕ) → run (withVersion version p) budget words ≡ run p budget words
+  run-free : (limit : ℕ) (words : List ℕ) → run (withVersion version p) limit words ≡ run p limit words
   unfolding run
   run-free zero words = rw (next-free words)
-  run-free (suc budget) words = rw (next-free words, run-free budget (after words (nextStep p words)))
+  run-free (suc limit) words = rw (next-free words, run-free limit (after words (nextStep p words)))
 
-  listing-free : (budget : ℕ) → listingOf (withVersion version p) budget ≡ listingOf p budget
+  listing-free : (limit : ℕ) → listingOf (withVersion version p) limit ≡ listingOf p limit
   unfolding listingOf planLine blockLine lastLine reportOf maxLoad minLoad totalLoad maxShare shareOf load replicas
-  listing-free budget = rw (first-free, run-free budget (firstPlacement p))
+  listing-free limit = rw (first-free, run-free limit (firstPlacement p))
 
   allCounted-free : (words : List ℕ) → allCounted (withVersion version p) words ≡ allCounted p words
   unfolding allCounted replicas
@@ -151,7 +151,7 @@ abbrev from23 : List ℕ → ℕ → ℕ
 from23 bytes version = check23 version (racksIn bytes * rackSizeIn bytes * capacityIn bytes) (budgetIn bytes) (totalRefusal (planIn bytes))
 
 module _ (from to : ℕ) (read-from : Described from) (read-to : Described to) (old new : List ℕ) (same : SameFields from to old new)
-    (limit-same : SameLimit from to (racksIn old * rackSizeIn old)) where
+    (upper-same : SameUpper from to (racksIn old * rackSizeIn old)) where
   plans : planIn new ≡ withVersion to (planIn old)
   unfolding planIn
   plans =
@@ -174,9 +174,9 @@ module _ (from to : ℕ) (read-from : Described from) (read-to : Described to) (
         same .size-same,
       )
 
-  plan-limit : (p : Plan) → p ≡ planIn old → SameLimit (p .version) to (machines p)
+  plan-upper : (p : Plan) → p ≡ planIn old → SameUpper (p .version) to (machines p)
   unfolding planIn
-  plan-limit p e = rw (e, same .old-version) limit-same
+  plan-upper p e = rw (e, same .old-version) upper-same
 
   old-refusal : refusal old ≡ before23 old (from23 old from)
   unfolding planRefusal planIn
@@ -188,20 +188,20 @@ module _ (from to : ℕ) (read-from : Described from) (read-to : Described to) (
   unfolding planIn
   new-refusal =
       rows-between new to (same .new-version) read-to (rw (same .blocks-same) (same .new-length))
-      ∙ (rw (plans, same .mark-same, same .feeds-same, same .capacity-same, same .blocks-same, same .racks-same, same .size-same, planRefusal-free to (planIn old) (plan-limit (planIn old) refl)))
+      ∙ (rw (plans, same .mark-same, same .feeds-same, same .capacity-same, same .blocks-same, same .racks-same, same .size-same, planRefusal-free to (planIn old) (plan-upper (planIn old) refl)))
 
 module _ (from to : ℕ) (read-from : Described from) (read-to : Described to) (old new : List ℕ) (same : SameFields from to old new)
-    (limit-same : SameLimit from to (racksIn old * rackSizeIn old))
+    (upper-same : SameUpper from to (racksIn old * rackSizeIn old))
     (row23-same : SameRow23 from to (racksIn old * rackSizeIn old * capacityIn old) (budgetIn old)) where
   refusals : refusal new ≡ refusal old
   refusals =
-      new-refusal from to read-from read-to old new same limit-same
+      new-refusal from to read-from read-to old new same upper-same
       ∙ ap (λ (row : ℕ → ℕ). before23 old (row (totalRefusal (planIn old)))) row23-same
-      ∙ sym (old-refusal from to read-from read-to old new same limit-same)
+      ∙ sym (old-refusal from to read-from read-to old new same upper-same)
 
   verdicts : judge new ≡ verdictWith to (judge old)
   unfolding judge
-  verdicts = rw (refusals, plans from to read-from read-to old new same limit-same) (go (refusal old))
+  verdicts = rw (refusals, plans from to read-from read-to old new same upper-same) (go (refusal old))
     where
       go : (code : ℕ) → verdict code (withVersion to (planIn old)) ≡ verdictWith to (verdict code (planIn old))
       go zero = refl
@@ -219,18 +219,18 @@ calls-free version (accepted p) items rows call r c = rw (r p refl, c p refl)
 
 -- where the verdict is the same but for the plan's version, and both versions allow as many copies, all answers are
 module _ (to : ℕ) (old new : List ℕ) (e : judge new ≡ verdictWith to (judge old))
-    (limit-same : (p : Plan) → judge old ≡ accepted p → SameLimit (p .version) to (machines p)) where
+    (upper-same : (p : Plan) → judge old ≡ accepted p → SameUpper (p .version) to (machines p)) where
   rows-same : (words : List ℕ) (p : Plan) → judge old ≡ accepted p → placementRefusal words (withVersion to p) ≡ placementRefusal words p
-  rows-same words p a = placementRefusal-free to p (limit-same p a) words
+  rows-same words p a = placementRefusal-free to p (upper-same p a) words
 
-  printed-same : (budget : ℕ) → printed new budget ≡ printed old budget
+  printed-same : (limit : ℕ) → printed new limit ≡ printed old limit
   unfolding printed printedOf
-  printed-same budget = rw e (go (judge old) limit-same)
+  printed-same limit = rw e (go (judge old) upper-same)
     where
-      go : (v : Verdict) → ((p : Plan) → v ≡ accepted p → SameLimit (p .version) to (machines p))
-          → printedOf (verdictWith to v) budget ≡ printedOf v budget
+      go : (v : Verdict) → ((p : Plan) → v ≡ accepted p → SameUpper (p .version) to (machines p))
+          → printedOf (verdictWith to v) limit ≡ printedOf v limit
       go (refused code) l = refl
-      go (accepted p) l = listing-free to p (l p refl) budget
+      go (accepted p) l = listing-free to p (l p refl) limit
 
   pub same-answers : SameAnswers to old new
   unfolding countsCall firstCall checkCall reportCall stepCall runCall onPlacement reportOf maxLoad minLoad totalLoad maxShare largestShare shareOf load replicas
@@ -238,28 +238,28 @@ module _ (to : ℕ) (old new : List ℕ) (e : judge new ≡ verdictWith to (judg
       record {
         verdict = e;
         counts = λ items.
-            rw e (calls-free to (judge old) items (bufferRefusal items) _ (λ p a. refl) (λ p a. rw (chosen-free to p (limit-same p a))));
+            rw e (calls-free to (judge old) items (bufferRefusal items) _ (λ p a. refl) (λ p a. rw (chosen-free to p (upper-same p a))));
         first = λ words.
             rw e
             (calls-free to (judge old) words (bufferRefusal words) _ (λ p a. refl)
-            (λ p a. rw (fun-ext (firstWord-free to p (limit-same p a)))));
+            (λ p a. rw (fun-ext (firstWord-free to p (upper-same p a)))));
         check = λ words. rw e (calls-free to (judge old) words (placementRefusal words) _ (rows-same words) (λ p a. refl));
         report = λ words. rw e (calls-free to (judge old) words (placementRefusal words) _ (rows-same words) (λ p a. refl));
         step = λ words.
             rw e
             (calls-free to (judge old) words (placementRefusal words) _ (rows-same words)
-            (λ p a. rw (next-free to p (limit-same p a) words)));
-        run = λ words budget.
+            (λ p a. rw (next-free to p (upper-same p a) words)));
+        run = λ words limit.
             rw e
             (calls-free to (judge old) words (placementRefusal words) _ (rows-same words)
-            (λ p a. rw (run-free to p (limit-same p a) budget words)));
+            (λ p a. rw (run-free to p (upper-same p a) limit words)));
         listing = printed-same;
       }
 
 pub versions : Versions
-versions from to read-from read-to old new same limit-same row23-same =
-    same-answers to old new (verdicts from to read-from read-to old new same limit-same row23-same)
-    (λ p a. plan-limit from to read-from read-to old new same limit-same p (accepted-laws old p a .held))
+versions from to read-from read-to old new same upper-same row23-same =
+    same-answers to old new (verdicts from to read-from read-to old new same upper-same row23-same)
+    (λ p a. plan-upper from to read-from read-to old new same upper-same p (accepted-laws old p a .held))
 
 -- ── VersionsApart ────────────────────────────────────────────────────────────────────────────────
 -- Rows that pass whatever the later ones say on, or that give the code of a row before 23.
@@ -308,16 +308,16 @@ total-past : (p : Plan) → PastRow23 (totalRefusal p)
 total-past p = ⊎-elim (λ over. ⊎-elim inl (λ e. inr (inl e)) (over .0)) (λ e. inr (inr e)) (total-cases p)
 
 pub versions-apart : VersionsApart
-versions-apart from read-from early old new same limit-same above = go (rows-before23 old)
+versions-apart from read-from early old new same upper-same above = go (rows-before23 old)
   where
     read-to : Described 4
     read-to = record { version-pos = omega arith; version-max = omega arith }
 
     was : refusal old ≡ before23 old (totalRefusal (planIn old))
-    was = old-refusal from 4 read-from read-to old new same limit-same ∙ ap (before23 old) (check23-early from _ _ _ early)
+    was = old-refusal from 4 read-from read-to old new same upper-same ∙ ap (before23 old) (check23-early from _ _ _ early)
 
     is : refusal new ≡ before23 old 23
-    is = new-refusal from 4 read-from read-to old new same limit-same ∙ ap (before23 old) (check23-above 4 _ _ _ (omega arith) above)
+    is = new-refusal from 4 read-from read-to old new same upper-same ∙ ap (before23 old) (check23-above 4 _ _ _ (omega arith) above)
 
     go : Rows (before23 old) → TurnedBack old new
     go (inl pass) =

@@ -6,7 +6,7 @@ use Prim.Native.Nat.{ℕ, _<_, _≤_}
 use lib.ListN.{set}
 use Rattle.model.specs.Plan.{Plan, places, minTotal, versionIn, planIn}
 use Rattle.model.specs.Refusal.{check23, check10, check11, refusal, judge, refused, accepted}
-use Rattle.model.specs.Replication.{limit}
+use Rattle.model.specs.Replication.{copyLimit}
 use Rattle.model.specs.Calls.{countsCall}
 use Rattle.theory.specs.Refusal.{PastRow17}
 use Rattle.theorems.specs.Trials.{gives}
@@ -27,7 +27,7 @@ pub record Budgets (bytes : List ℕ) : Type 0 where
   -- a version 4 plan is never refused 11
   pub never-eleven : 4 ≤ versionIn bytes → refusal bytes ≡ 11 → ⊥
   -- an accepted version 4 plan may use its whole budget
-  pub whole : (p : Plan) → judge bytes ≡ accepted p → 4 ≤ p .version → limit p ≡ p .budget
+  pub whole : (p : Plan) → judge bytes ≡ accepted p → 4 ≤ p .version → copyLimit p ≡ p .budget
 
 -- R 2, S 1, F 2, C 1, budget 2; P 4 and 1, least copies and spread 1. The budget is at 10 to 13, the least copies are at 20 and 27, the
 -- pair bytes at 22 and 29; and the same in version 3, with the budget at 9 to 12 and the least copies at 19 and 26.

@@ -1,12 +1,11 @@
 -- Document 02, U6: what a version 4 file says beyond the earlier ones: the file of 15 bytes, and small examples on feeds.
 use mathlib.Core.Path.{_≡_}
-use mathlib.Core.Bool.{true}
 use mathlib.Core.List.{List, [], _∷_}
 use Prim.Native.Nat.{ℕ}
 use lib.ListN.{length, set, take}
 use Rattle.model.specs.Plan.{markIn, versionIn, racksIn, rackSizeIn, feedsIn, capacityIn, planIn}
 use Rattle.model.specs.Refusal.{mark, check4, check22, check5, refusal, judge, refused, accepted}
-use Rattle.model.specs.Steps.{move}
+use Rattle.model.specs.Steps.{RackMove}
 use Rattle.model.specs.Calls.{firstCall, stepCall, checkCall}
 use Rattle.theorems.specs.Trials.{gives}
 use Rattle.theorems.specs.RowExamples.{TurnsBack}
@@ -55,7 +54,7 @@ pub record FeedExamples : Type 0 where
   pub row15 : TurnsBack plan-feeds (5 ∷ 4 ∷ []) 15
   pub spread-met : checkCall (feeds-with 7 4) (5 ∷ 4 ∷ []) ≡ gives 2 (5 ∷ 4 ∷ [])
   -- a step between two racks of one feed is a RackMove
-  pub one-feed : stepCall plan-feeds (3 ∷ 1 ∷ []) ≡ gives (move true 0 2 0) (6 ∷ 1 ∷ [])
+  pub one-feed : stepCall plan-feeds (3 ∷ 1 ∷ []) ≡ gives (RackMove 0 0 2) (6 ∷ 1 ∷ [])
   -- block 0 must not leave its feed, so block 1 goes; with a feed for each rack it goes
-  pub feed-kept : stepCall plan-feeds (12 ∷ 8 ∷ []) ≡ gives (move true 3 0 1) (12 ∷ 1 ∷ [])
-  pub feed-left : stepCall (feeds-with 7 4) (12 ∷ 8 ∷ []) ≡ gives (move true 3 0 0) (5 ∷ 8 ∷ [])
+  pub feed-kept : stepCall plan-feeds (12 ∷ 8 ∷ []) ≡ gives (RackMove 3 1 0) (12 ∷ 1 ∷ [])
+  pub feed-left : stepCall (feeds-with 7 4) (12 ∷ 8 ∷ []) ≡ gives (RackMove 3 0 0) (5 ∷ 8 ∷ [])

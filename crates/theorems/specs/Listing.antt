@@ -27,11 +27,11 @@ listing-empty = 0x72 ∷ 0x65 ∷ 0x66 ∷ 0x75 ∷ 0x73 ∷ 0x65 ∷ 0x64 ∷ 0
 
 pub record ListingLaws : Type 0 where
   pub H : printed plan-H stepLimit ≡ listing-H
-  pub empty : (budget : ℕ) → printed [] budget ≡ listing-empty
-  -- Every listing fits, whatever the bytes, with a step budget of 32 bits.
-  pub fits : (bytes : List ℕ) → ((i : ℕ) → getD bytes i 0 < 256) → (budget : ℕ) → budget < 2 ^ 32
-      → length (printed bytes budget) ≤ listingRoom
+  pub empty : (limit : ℕ) → printed [] limit ≡ listing-empty
+  -- Every listing fits, whatever the bytes, with a step limit of 32 bits.
+  pub fits : (bytes : List ℕ) → ((i : ℕ) → getD bytes i 0 < 256) → (limit : ℕ) → limit < 2 ^ 32
+      → length (printed bytes limit) ≤ listingRoom
 
 -- An input longer than any plan prints the same as its first bytes alone: the program need not read further.
 abbrev pub LongInput : Type 0
-LongInput = (bytes : List ℕ) → inputRoom ≤ length bytes → (budget : ℕ) → printed (take inputRoom bytes) budget ≡ printed bytes budget
+LongInput = (bytes : List ℕ) → inputRoom ≤ length bytes → (limit : ℕ) → printed (take inputRoom bytes) limit ≡ printed bytes limit

@@ -17,8 +17,8 @@ StepLowers =
 
 -- A run takes at most half the first sum of steps, whatever its limit; and with half the sum for its limit, or more, it rests.
 pub record RestComes (p : Plan) (words : List ℕ) : Type 0 where
-  pub few : (budget : ℕ) → 2 * run p budget words .steps ≤ potential p words
-  pub rests : (budget : ℕ) → potential p words / 2 ≤ budget → run p budget words .rested ≡ true
+  pub few : (limit : ℕ) → 2 * run p limit words .steps ≤ potential p words
+  pub rests : (limit : ℕ) → potential p words / 2 ≤ limit → run p limit words .rested ≡ true
 
 abbrev pub RunRests : Type 0
 RunRests = (p : Plan) (count : ℕ → ℕ) (words : List ℕ) → Feasible p count words → RestComes p words

@@ -1,7 +1,6 @@
 -- Document 01, "Where document 001 may not be followed": steps that lower the maximum stop at ties. Three machines in one rack, with
 -- six, six and none of twelve equal one-copy blocks: no single step lowers six, yet the best is four, and a run goes on to it.
 use mathlib.Core.Path.{_≡_}
-use mathlib.Core.Bool.{false}
 use mathlib.Core.List.{List, [], _∷_, _++_}
 use Prim.Native.Nat.{ℕ, _*_, _≤_}
 use lib.ListN.{replicate}
@@ -10,7 +9,7 @@ use Rattle.model.specs.Plan.{Plan}
 use Rattle.model.specs.Refusal.{judge, accepted}
 use Rattle.model.specs.Replication.{unit}
 use Rattle.model.specs.Placement.{Feasible, used, maxLoad}
-use Rattle.model.specs.Steps.{Step, move, after}
+use Rattle.model.specs.Steps.{Step, Move, after}
 use Rattle.model.specs.Calls.{checkCall, stepCall, runCall}
 use Rattle.theory.specs.Steps.{Admissible}
 use Rattle.theorems.specs.Trials.{gives, rest}
@@ -55,9 +54,9 @@ pub record Ties : Type 0 where
   pub highest : maxLoad tied sixes ≡ 6 * unit
   -- no lawful step lowers it, though one is left
   pub none-lowers : (s : Step) → Admissible tied sixes s → maxLoad tied sixes ≤ maxLoad tied (after sixes s)
-  pub one-left : stepCall plan-tied sixes ≡ gives (move false 0 2 0) stepped
+  pub one-left : stepCall plan-tied sixes ≡ gives (Move 0 0 2) stepped
   -- no lawful placement at any lawful counts is below four
   pub best : (count : ℕ → ℕ) (words : List ℕ) → Feasible tied count words → 4 * unit ≤ maxLoad tied words
   -- and a run that may take five steps or more reaches four
-  pub rests : (budget : ℕ) → 5 ≤ budget → runCall plan-tied sixes budget ≡ gives (rest 5) fours
+  pub rests : (limit : ℕ) → 5 ≤ limit → runCall plan-tied sixes limit ≡ gives (rest 5) fours
   pub reached : maxLoad tied fours ≡ 4 * unit

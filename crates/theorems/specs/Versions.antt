@@ -22,8 +22,8 @@ verdictWith version (refused code) = refused code
 verdictWith version (accepted p) = accepted (withVersion version p)
 
 -- Both versions allow as many copies on so many machines.
-abbrev pub SameLimit : ℕ → ℕ → ℕ → Type 0
-SameLimit from to machines = min (maxReplicas to) machines ≡ min (maxReplicas from) machines
+abbrev pub SameUpper : ℕ → ℕ → ℕ → Type 0
+SameUpper from to machines = min (maxReplicas to) machines ≡ min (maxReplicas from) machines
 
 -- Row 23 says the same of a budget in both versions.
 abbrev pub SameRow23 : ℕ → ℕ → ℕ → ℕ → Type 0
@@ -31,10 +31,10 @@ SameRow23 from to room budget = check23 to room budget ≡ check23 from room bud
 
 -- Versions 1 and 2 allow as many copies on any number of machines, versions 3 and 4, too, and all versions on up to 8. Row 23 says the same
 -- of any budget in versions before 4, and in all versions of a budget that can be used.
-pub record Limits : Type 0 where
-  pub early : (machines : ℕ) → SameLimit 1 2 machines
-  pub later : (machines : ℕ) → SameLimit 4 3 machines
-  pub few : (from to machines : ℕ) → machines ≤ 8 → SameLimit from to machines
+pub record Comparable : Type 0 where
+  pub early : (machines : ℕ) → SameUpper 1 2 machines
+  pub later : (machines : ℕ) → SameUpper 4 3 machines
+  pub few : (from to machines : ℕ) → machines ≤ 8 → SameUpper from to machines
   pub unjudged : (from to room budget : ℕ) → from < 4 → to < 4 → SameRow23 from to room budget
   pub usable : (from to room budget : ℕ) → budget ≤ room → SameRow23 from to room budget
 
@@ -43,12 +43,12 @@ pub record VersionFree (version : ℕ) (p : Plan) : Type 0 where
   pub counts : chosen (withVersion version p) ≡ chosen p
   pub first : firstPlacement (withVersion version p) ≡ firstPlacement p
   pub next : (words : List ℕ) → nextStep (withVersion version p) words ≡ nextStep p words
-  pub runs : (budget : ℕ) (words : List ℕ) → run (withVersion version p) budget words ≡ run p budget words
-  pub listing : (budget : ℕ) → listingOf (withVersion version p) budget ≡ listingOf p budget
+  pub runs : (limit : ℕ) (words : List ℕ) → run (withVersion version p) limit words ≡ run p limit words
+  pub listing : (limit : ℕ) → listingOf (withVersion version p) limit ≡ listingOf p limit
 
 -- It is where both versions allow as many copies.
 abbrev pub VersionsFree : Type 0
-VersionsFree = (version : ℕ) (p : Plan) → SameLimit (p .version) version (machines p) → VersionFree version p
+VersionsFree = (version : ℕ) (p : Plan) → SameUpper (p .version) version (machines p) → VersionFree version p
 
 -- A version that is read.
 pub record Described (version : ℕ) : Type 0 where
@@ -79,13 +79,13 @@ pub record SameAnswers (to : ℕ) (old new : List ℕ) : Type 0 where
   pub check : (words : List ℕ) → checkCall new words ≡ checkCall old words
   pub report : (words : List ℕ) → reportCall new words ≡ reportCall old words
   pub step : (words : List ℕ) → stepCall new words ≡ stepCall old words
-  pub run : (words : List ℕ) (budget : ℕ) → runCall new words budget ≡ runCall old words budget
-  pub listing : (budget : ℕ) → printed new budget ≡ printed old budget
+  pub run : (words : List ℕ) (limit : ℕ) → runCall new words limit ≡ runCall old words limit
+  pub listing : (limit : ℕ) → printed new limit ≡ printed old limit
 
 abbrev pub Versions : Type 0
 Versions =
     (from to : ℕ) → Described from → Described to → (old new : List ℕ) → SameFields from to old new
-    → SameLimit from to (racksIn old * rackSizeIn old)
+    → SameUpper from to (racksIn old * rackSizeIn old)
     → SameRow23 from to (racksIn old * rackSizeIn old * capacityIn old) (budgetIn old)
     → SameAnswers to old new
 
@@ -98,7 +98,7 @@ pub record TurnedBack (old new : List ℕ) : Type 0 where
 abbrev pub VersionsApart : Type 0
 VersionsApart =
     (from : ℕ) → Described from → from < 4 → (old new : List ℕ) → SameFields from 4 old new
-    → SameLimit from 4 (racksIn old * rackSizeIn old)
+    → SameUpper from 4 (racksIn old * rackSizeIn old)
     → racksIn old * rackSizeIn old * capacityIn old < budgetIn old
     → TurnedBack old new
 

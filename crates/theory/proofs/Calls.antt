@@ -17,7 +17,8 @@ use Rattle.model.specs.Plan.{Plan, blockCount}
 use Rattle.model.specs.Refusal.{refuseIf, check12, Verdict, refused, accepted}
 use Rattle.model.specs.Replication.{chosen}
 use Rattle.model.specs.Placement.{countOf, Feasible, allWithin, allSpread, allFit, allApart}
-use Rattle.model.specs.Calls.{OutcomeOver, refuse, unless, callRefusal, onPlan, allCounted, placementRefusal}
+use Rattle.model.specs.Calls.{OutcomeOver, refuse, unless, onPlan, allCounted, placementRefusal}
+use Rattle.theory.specs.Calls.{callRefusal}
 use Rattle.theory.specs.Refusal.{Valid}
 use Rattle.theory.proofs.Refusal.{refuseIf-zero, refuseIf-all, check12-zero, check12-short, check12-enough}
 use Rattle.theory.proofs.Replication.{chosen-laws}

@@ -245,16 +245,16 @@ module _ (p : Plan) (valid : Valid p) (words : List ℕ) (feasible : Feasible p 
 
 -- ── listingOf ────────────────────────────────────────────────────────────────────────────────────
 -- the placement that is listed is lawful
-pub listingOf-feasible : (p : Plan) → Valid p → (budget : ℕ) → Feasible p (chosen p) (run p budget (firstPlacement p) .words)
-listingOf-feasible p valid budget = run-feasible p (chosen p) (firstPlacement p) (firstPlacement-feasible p valid) budget
+pub listingOf-feasible : (p : Plan) → Valid p → (limit : ℕ) → Feasible p (chosen p) (run p limit (firstPlacement p) .words)
+listingOf-feasible p valid limit = run-feasible p (chosen p) (firstPlacement p) (firstPlacement-feasible p valid) limit
 
 pub listingOf-fits : ListingFits
 unfolding listingOf
-listingOf-fits p valid narrow budget h =
-    let r = run p budget (firstPlacement p) in
-    let feasible = listingOf-feasible p valid budget in
+listingOf-fits p valid narrow limit h =
+    let r = run p limit (firstPlacement p) in
+    let feasible = listingOf-feasible p valid limit in
     let few = valid .shaped .blocks-max in
-    let within = run-laws p budget (firstPlacement p) .within in
+    let within = run-laws p limit (firstPlacement p) .within in
     let first = planLine-length p valid in
     let blocks = joined-length-le (blockCount p) 59 (blockLine p (r .words)) (blockLine-length p valid (r .words) feasible narrow) in
     let last = lastLine-length p valid (r .words) feasible narrow (r .rested) (r .steps) (omega arith) in
@@ -268,14 +268,14 @@ refusedLine-length code h =
     rw (line-length, fields-cons) (omega (arith, fields-none))
 
 -- ── printed ──────────────────────────────────────────────────────────────────────────────────────
-module _ (bytes : List ℕ) (budget : ℕ) where
-  pub printed-refused : (code : ℕ) → judge bytes ≡ refused code → printed bytes budget ≡ refusedLine code
+module _ (bytes : List ℕ) (limit : ℕ) where
+  pub printed-refused : (code : ℕ) → judge bytes ≡ refused code → printed bytes limit ≡ refusedLine code
   unfolding printed printedOf
-  printed-refused code e = ap (λ (v : Verdict). printedOf v budget) e
+  printed-refused code e = ap (λ (v : Verdict). printedOf v limit) e
 
-  pub printed-accepted : (p : Plan) → judge bytes ≡ accepted p → printed bytes budget ≡ listingOf p budget
+  pub printed-accepted : (p : Plan) → judge bytes ≡ accepted p → printed bytes limit ≡ listingOf p limit
   unfolding printed printedOf
-  printed-accepted p e = ap (λ (v : Verdict). printedOf v budget) e
+  printed-accepted p e = ap (λ (v : Verdict). printedOf v limit) e
 
 -- ── roomRefusal ──────────────────────────────────────────────────────────────────────────────────
 pub roomRefusal-short : (lent : ℕ) → lent < listingRoom → roomRefusal lent ≡ shortRoom
@@ -315,28 +315,28 @@ module _ (out old text : List ℕ) where
       omega arith
 
 -- ── listingCall ──────────────────────────────────────────────────────────────────────────────────
-module _ (bytes text : List ℕ) (budget : ℕ) where
-  pub listingCall-short : length text < listingRoom → listingCall bytes budget text ≡ refuse shortRoom text
+module _ (bytes text : List ℕ) (limit : ℕ) where
+  pub listingCall-short : length text < listingRoom → listingCall bytes limit text ≡ refuse shortRoom text
   unfolding listingCall
   listingCall-short l = unless-some text shortRoom _ _ (roomRefusal-short (length text) l) (omega arith)
 
-  pub listingCall-refused : (code : ℕ) → listingRoom ≤ length text → judge bytes ≡ refused code → listingCall bytes budget text ≡ refuse code text
+  pub listingCall-refused : (code : ℕ) → listingRoom ≤ length text → judge bytes ≡ refused code → listingCall bytes limit text ≡ refuse code text
   unfolding listingCall
   listingCall-refused code l e =
       unless-none text _ _ (roomRefusal-enough (length text) l) ∙ onPlan-verdict text (λ p. 0) _ (judge bytes) code e
 
   pub listingCall-made : (p : Plan) → listingRoom ≤ length text → judge bytes ≡ accepted p
-      → listingCall bytes budget text ≡ wrote (listingOf p budget) text
+      → listingCall bytes limit text ≡ wrote (listingOf p limit) text
   unfolding listingCall
   listingCall-made p l e =
       unless-none text _ _ (roomRefusal-enough (length text) l) ∙ onPlan-made text (λ p. 0) _ (judge bytes) p e refl
 
 -- ── printCall ────────────────────────────────────────────────────────────────────────────────────
-module _ (bytes text : List ℕ) (budget : ℕ) where
-  pub printCall-short : length text < listingRoom → printCall bytes budget text ≡ refuse shortRoom text
+module _ (bytes text : List ℕ) (limit : ℕ) where
+  pub printCall-short : length text < listingRoom → printCall bytes limit text ≡ refuse shortRoom text
   unfolding printCall
   printCall-short l = unless-some text shortRoom _ _ (roomRefusal-short (length text) l) (omega arith)
 
-  pub printCall-made : listingRoom ≤ length text → printCall bytes budget text ≡ wrote (printed bytes budget) text
+  pub printCall-made : listingRoom ≤ length text → printCall bytes limit text ≡ wrote (printed bytes limit) text
   unfolding printCall
   printCall-made l = unless-none text _ _ (roomRefusal-enough (length text) l)

@@ -19,7 +19,7 @@ use Rattle.order.proofs.Sums.{sum-cong, sum-none, sum-scale, sum-exchange, sum-
 use Rattle.order.proofs.Ranges.{sum-groups}
 use Rattle.order.proofs.Extremes.{allb-iff, largest-cong}
 use Rattle.model.specs.Plan.{Plan, machines, domain, domains, domainSize, blockCount, blockOf, isPaired, partner, upper}
-use Rattle.model.specs.Replication.{limit, FeasibleCounts, share, largestShare}
+use Rattle.model.specs.Replication.{copyLimit, FeasibleCounts, share, largestShare}
 use Rattle.model.specs.Placement.{bit, wordOf, held, replicas, replicasIn, domainsUsed, countOf, used, Feasible, allWithin, allSpread, allFit, keptApart, allApart, countsFeasible, isFeasible, shareOf, load, maxShare}
 use Rattle.theory.specs.Refusal.{Shaped, Valid}
 use Rattle.theory.proofs.Plan.{turns, domain-lt, member, member-turn, member-sum}
@@ -237,7 +237,7 @@ countsFeasible-iff p count =
     and-iff _ _
     (allb-iff (blockCount p) _ _
     (λ i. and-iff _ _ (leb-iff (blockOf p i .minReplicas) (count i)) (leb-iff (count i) (upper p i))))
-    (leb-iff (sum (blockCount p) count) (limit p))
+    (leb-iff (sum (blockCount p) count) (copyLimit p))
     in (
       λ e.
           let z = parts .0 e in

@@ -18,7 +18,7 @@ use Rattle.order.proofs.Ranges.{sum-append, sum-pieces, sum-image}
 use Rattle.order.proofs.Residues.{residue-bound, residue-once, residues-met}
 use Rattle.order.proofs.Tables.{getD-table}
 use Rattle.model.specs.Plan.{Plan, machines, domain, domains, blockCount, blockOf, pairsNext, isPaired, partner}
-use Rattle.model.specs.Replication.{limit, FeasibleCounts, chosen}
+use Rattle.model.specs.Replication.{copyLimit, FeasibleCounts, chosen}
 use Rattle.model.specs.Placement.{bit, wordOf, held, replicas, replicasIn, domainsUsed, used, Feasible, position, laidWord, firstWord, firstPlacement}
 use Rattle.theory.specs.Refusal.{Shaped}
 use Rattle.theory.specs.Placement.{FirstFeasible}
@@ -241,7 +241,7 @@ module _ (p : Plan) (shaped : Shaped p) (count : ℕ → ℕ) (few : (i : ℕ) �
 -- of all the copies, and there are at most M × C, so no machine holds more than C. The two blocks of a pair follow each other and
 -- have at most half of M copies each, so their copies have at most M consecutive numbers: no machine holds both blocks.
 pub laidPlacement-feasible : (p : Plan) → Shaped p → (count : ℕ → ℕ) → FeasibleCounts p count → Feasible p count (laidPlacement p count)
-unfolding limit
+unfolding copyLimit
 laidPlacement-feasible p shaped count counts =
     record {
       counts = counts;

@@ -248,10 +248,10 @@ unfolding upper
 upper-pair p i e = rw e (let half = min-le-right (maxReplicas (p .version)) (machines p / 2) in omega arith)
 
 -- in a version that allows as many copies on the plan's machines it is the same
-pub upper-limit : (p : Plan) (version : ℕ) → min (maxReplicas version) (machines p) ≡ min (maxReplicas (p .version)) (machines p)
+pub upper-alike : (p : Plan) (version : ℕ) → min (maxReplicas version) (machines p) ≡ min (maxReplicas (p .version)) (machines p)
     → (i : ℕ) → upper (withVersion version p) i ≡ upper p i
 unfolding upper isPaired pairsBack pairsNext
-upper-limit p version same i =
+upper-alike p version same i =
     ap₂ (λ (half whole : ℕ). cond (isPaired p i) half whole)
     (omega (arith, same))
     same

@@ -18,7 +18,7 @@ use Rattle.order.proofs.Sums.{sum-cong, sum-mono, sum-mul, sum-same}
 use Rattle.order.proofs.Extremes.{least-le, least-passes, least-first, allb-at, allb-iff, largest-term, largest-le}
 use Rattle.model.specs.Plan.{Plan, blockCount, blockOf, partner, upper, minTotal}
 use Rattle.model.specs.Refusal.{maxMachines, maxCapacity}
-use Rattle.model.specs.Replication.{limit, FeasibleCounts, unit, share, largestShare, need, reachable, figure, chosen}
+use Rattle.model.specs.Replication.{copyLimit, FeasibleCounts, unit, share, largestShare, need, reachable, figure, chosen}
 use Rattle.theory.specs.Widths.{mostReplicas, popularityBound, shareBound}
 use Rattle.theory.specs.Units.{DividedBy, shareBy}
 use Rattle.theory.specs.Refusal.{ValidBlock, Shaped, Valid}
@@ -26,9 +26,9 @@ use Rattle.theory.specs.Replication.{UnitDivides, ShareLaws, EvenPairs, 
 use Rattle.theory.proofs.Plan.{partner-paired, partner-popularity, partner-minReplicas, upper-max, upper-same}
 
 -- ── limit ────────────────────────────────────────────────────────────────────────────────────────
-pub limit-max : (p : Plan) → Shaped p → limit p ≤ maxMachines * maxCapacity
-unfolding limit
-limit-max p s = le-trans (min-le-right _ _) (mul-le-mul (s .machines-max) (s .capacity-max))
+pub copyLimit-max : (p : Plan) → Shaped p → copyLimit p ≤ maxMachines * maxCapacity
+unfolding copyLimit
+copyLimit-max p s = le-trans (min-le-right _ _) (mul-le-mul (s .machines-max) (s .capacity-max))
 
 -- ── FeasibleCounts ───────────────────────────────────────────────────────────────────────────────
 -- lawful counts are from 1 to the most copies
@@ -48,18 +48,18 @@ feasibleCounts-same p count other same c =
     }
 
 -- the least copies of an accepted plan are lawful counts
-pub feasibleCounts-least : (p : Plan) → Shaped p → minTotal p ≤ limit p → FeasibleCounts p (λ i. blockOf p i .minReplicas)
+pub feasibleCounts-least : (p : Plan) → Shaped p → minTotal p ≤ copyLimit p → FeasibleCounts p (λ i. blockOf p i .minReplicas)
 unfolding minTotal
 feasibleCounts-least p shaped within =
     record { at-least = λ i l. le-refl _; at-most = λ i l. shaped .block i l .min-upper; in-limit = within }
 
 -- an accepted plan's are
-pub limit-valid : (p : Plan) → Valid p → minTotal p ≤ limit p
-unfolding limit
-limit-valid p v = le-min (v .in-budget) (v .in-places)
+pub copyLimit-valid : (p : Plan) → Valid p → minTotal p ≤ copyLimit p
+unfolding copyLimit
+copyLimit-valid p v = le-min (v .in-budget) (v .in-places)
 
 pub feasibleCounts-valid : (p : Plan) → Valid p → FeasibleCounts p (λ i. blockOf p i .minReplicas)
-feasibleCounts-valid p v = feasibleCounts-least p (v .shaped) (limit-valid p v)
+feasibleCounts-valid p v = feasibleCounts-least p (v .shaped) (copyLimit-valid p v)
 
 -- ── share ────────────────────────────────────────────────────────────────────────────────────────
 -- whether all numbers from 1 on divide the units
@@ -262,10 +262,10 @@ need-alike p f i j popular few most = rw (popular, few, most)
 -- the two parts of the test
 pub reachable-parts : (p : Plan) (f : ℕ)
     → (reachable p f ≡ true)
-    ↔ (((i : ℕ) → i < blockCount p → need p f i ≤ upper p i) × (sum (blockCount p) (need p f) ≤ limit p))
+    ↔ (((i : ℕ) → i < blockCount p → need p f i ≤ upper p i) × (sum (blockCount p) (need p f) ≤ copyLimit p))
 unfolding reachable
 reachable-parts p f =
-    and-iff _ _ (allb-iff (blockCount p) _ _ (λ i. leb-iff (need p f i) (upper p i))) (leb-iff (sum (blockCount p) (need p f)) (limit p))
+    and-iff _ _ (allb-iff (blockCount p) _ _ (λ i. leb-iff (need p f i) (upper p i))) (leb-iff (sum (blockCount p) (need p f)) (copyLimit p))
 
 module _ (p : Plan) (v : Valid p) where
   -- the needs at a reachable figure are lawful
@@ -311,7 +311,7 @@ module _ (p : Plan) (v : Valid p) where
       (need-within p i b f in-upper))
 
   -- where the needs at f are above the limit, nothing is reachable below f, nor from f on as long as the needs stay
-  pub reachable-none : (f end : ℕ) → limit p < sum (blockCount p) (need p f)
+  pub reachable-none : (f end : ℕ) → copyLimit p < sum (blockCount p) (need p f)
       → ((g : ℕ) → f ≤ g → g < end → (i : ℕ) → i < blockCount p → need p g i ≡ need p f i)
       → (g : ℕ) → g < end → reachable p g ≡ false
   reachable-none f end over same g l =
@@ -365,7 +365,7 @@ module _ (p : Plan) (v : Valid p) where
   figure-optimal count c = figure-least _ (reachable-counts p v _ count c (le-refl _))
 
   -- needs that use the whole limit are those at the figure: they are at most as many, and these are within the limit
-  pub figure-full : (f : ℕ) → reachable p f ≡ true → sum (blockCount p) (need p f) ≡ limit p
+  pub figure-full : (f : ℕ) → reachable p f ≡ true → sum (blockCount p) (need p f) ≡ copyLimit p
       → (i : ℕ) → i < blockCount p → need p f i ≡ need p (figure p) i
   figure-full f e full =
       sum-same (blockCount p) (need p f) (need p (figure p)) fewer

@@ -16,7 +16,7 @@ use Rattle.order.proofs.SumChanges.{sum-change}
 use Rattle.model.specs.Plan.{Plan, machines, domain, domains, blockCount, blockOf}
 use Rattle.model.specs.Replication.{share}
 use Rattle.model.specs.Placement.{bit, wordOf, held, replicas, replicasIn, domainsUsed, countOf, used, shareOf, load}
-use Rattle.model.specs.Steps.{Step, none, move, swap, shifted, afterMove, afterSwap, after}
+use Rattle.model.specs.Steps.{Step, none, relocate, exchange, shifted, afterMove, afterSwap, after}
 use Rattle.theory.specs.Refusal.{Shaped}
 use Rattle.theory.specs.Steps.{Admissible}
 use Rattle.theory.proofs.Plan.{domain-lt}
@@ -313,12 +313,12 @@ module _ (p : Plan) (words : List ℕ) (m n i j : ℕ) (i-on : held words m i �
 pub after-length : (words : List ℕ) (s : Step) → length (after words s) ≡ length words
 unfolding after afterSwap
 after-length words none = refl
-after-length words (move racks m n i) = afterMove-length words m n i
-after-length words (swap racks m n i j) = afterMove-length (afterMove words m n i) n m j ∙ afterMove-length words m n i
+after-length words (relocate racks m n i) = afterMove-length words m n i
+after-length words (exchange racks m n i j) = afterMove-length (afterMove words m n i) n m j ∙ afterMove-length words m n i
 
 pub after-past : (p : Plan) (words : List ℕ) (s : Step) → Admissible p words s
     → drop (blockCount p) (after words s) ≡ drop (blockCount p) words
 unfolding after
 after-past p words none h = absurd h
-after-past p words (move racks m n i) h = afterMove-past words m n i (blockCount p) (h .2)
-after-past p words (swap racks m n i j) h = afterSwap-past words m n i j (blockCount p) (h .2) (h .3)
+after-past p words (relocate racks m n i) h = afterMove-past words m n i (blockCount p) (h .2)
+after-past p words (exchange racks m n i j) h = afterSwap-past words m n i j (blockCount p) (h .2) (h .3)

@@ -15,7 +15,7 @@ use Rattle.order.proofs.Sums.{delta-same, delta-other}
 use Rattle.order.proofs.Booleans.{and-iff, ltb-iff, eqb-iff}
 use Rattle.model.specs.Plan.{Plan, machines, blockCount, blockOf, isPaired, partner}
 use Rattle.model.specs.Placement.{bit, wordOf, held, domainsUsed, countOf, used, Feasible, shareOf, load}
-use Rattle.model.specs.Steps.{Step, none, move, swap, afterMove, afterSwap, after, improves, canMove, canSwap}
+use Rattle.model.specs.Steps.{Step, none, relocate, exchange, afterMove, afterSwap, after, improves, canMove, canSwap}
 use Rattle.theory.specs.Refusal.{Shaped}
 use Rattle.theory.specs.Steps.{Lowers, LocalMove, LocalSwap, Admissible}
 use Rattle.theory.proofs.Placement.{bit-le, bit-cases, feasible-same, feasible-own, isFeasible-iff}
@@ -61,19 +61,19 @@ module _ (p : Plan) (shaped : Shaped p) (x : ℕ) (xl : x < blockCount p) (befor
       go (no e) (no f) = omega (arith, come b, come (partner p b), delta-other b x e, delta-other (partner p b) x f)
 
   -- x comes
-  module _ (move : (b : ℕ) → later b ≡ before b + delta b x) where
+  module _ (added : (b : ℕ) → later b ≡ before b + delta b x) where
     arrived : isPaired p x ≡ true → later x + later (partner p x) ≤ 1 → before (partner p x) ≡ 0
     arrived paired one =
-        omega (arith, move x, delta-same x x refl, move (partner p x), delta-other (partner p x) x (partner-other p shaped x xl paired))
+        omega (arith, added x, delta-same x x refl, added (partner p x), delta-other (partner p x) x (partner-other p shaped x xl paired))
 
     arrives : ((b : ℕ) → later b ≤ 1) → (isPaired p x ≡ true → before (partner p x) ≡ 0)
         → (b : ℕ) → b < blockCount p → isPaired p b ≡ true → before b + before (partner p b) ≤ 1 → later b + later (partner p b) ≤ 1
     arrives most free =
-        comes (λ b. omega (arith, move b)) most
-        (λ paired. omega (arith, free paired, move (partner p x), delta-other (partner p x) x (partner-other p shaped x xl paired)))
+        comes (λ b. omega (arith, added b)) most
+        (λ paired. omega (arith, free paired, added (partner p x), delta-other (partner p x) x (partner-other p shaped x xl paired)))
 
   -- x comes for y
-  module _ (y : ℕ) (off : before x ≡ 0) (on : before y ≡ 1) (swap : (b : ℕ) → later b + delta b y ≡ before b + delta b x) where
+  module _ (y : ℕ) (off : before x ≡ 0) (on : before y ≡ 1) (swapped : (b : ℕ) → later b + delta b y ≡ before b + delta b x) where
     other : x ≡ y → ⊥
     other e = omega (arith, ap before e)
 
@@ -81,25 +81,25 @@ module _ (p : Plan) (shaped : Shaped p) (x : ℕ) (xl : x < blockCount p) (befor
     replaced paired one apart =
         omega (
           arith,
-          swap x,
+          swapped x,
           delta-same x x refl,
           delta-other x y other,
-          swap (partner p x),
+          swapped (partner p x),
           delta-other (partner p x) x (partner-other p shaped x xl paired),
           delta-other (partner p x) y apart,
         )
 
     replaces : ((b : ℕ) → later b ≤ 1) → (isPaired p x ≡ true → (partner p x ≡ y → ⊥) → before (partner p x) ≡ 0)
         → (b : ℕ) → b < blockCount p → isPaired p b ≡ true → before b + before (partner p b) ≤ 1 → later b + later (partner p b) ≤ 1
-    replaces most free = comes (λ b. omega (arith, swap b)) most (λ paired. gone paired (ℕ-discrete (partner p x) y))
+    replaces most free = comes (λ b. omega (arith, swapped b)) most (λ paired. gone paired (ℕ-discrete (partner p x) y))
       where
         gone : isPaired p x ≡ true → Dec (partner p x ≡ y) → later (partner p x) ≡ 0
         gone paired (yes e) =
             let d = delta-other (partner p x) x (partner-other p shaped x xl paired) in
-            omega (arith, swap (partner p x), delta-same (partner p x) y e, ap before e)
+            omega (arith, swapped (partner p x), delta-same (partner p x) y e, ap before e)
         gone paired (no e) =
             let d = delta-other (partner p x) x (partner-other p shaped x xl paired) in
-            omega (arith, swap (partner p x), delta-other (partner p x) y e, free paired e)
+            omega (arith, swapped (partner p x), delta-other (partner p x) y e, free paired e)
 
 -- a machine that gets nothing
 leaves : (before later : ℕ → ℕ) → ((b : ℕ) → later b ≤ before b) → (b c : ℕ) → before b + before c ≤ 1 → later b + later c ≤ 1
@@ -306,12 +306,12 @@ pub after-feasible : (p : Plan) (count : ℕ → ℕ) (words : List ℕ) → Fea
     → (s : Step) → Admissible p words s → Feasible p count (after words s)
 unfolding after
 after-feasible p count words feasible none h = absurd h
-after-feasible p count words feasible (move racks m n i) h =
+after-feasible p count words feasible (relocate racks m n i) h =
     let z = canMove-iff p words m n i .0 (h .3) in
     feasible-same p _ count (afterMove words m n i)
     (λ b l. afterMove-count p words m n i (z .0 .0 .0) (z .0 .0 .1) (h .0) (h .1) b ∙ feasible .counted b l)
     (improves-iff p words (afterMove words m n i) m n .0 (z .1) .0 .0)
-after-feasible p count words feasible (swap racks m n i j) h =
+after-feasible p count words feasible (exchange racks m n i j) h =
     let z = canSwap-iff p words m n i j .0 (h .4) in
     feasible-same p _ count (afterSwap words m n i j)
     (λ b l.

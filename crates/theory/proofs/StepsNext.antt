@@ -17,16 +17,16 @@ use Rattle.order.proofs.Booleans.{no-contradiction, bool-cases, beq-iff}
 use Rattle.order.proofs.Searches.{none-below, first-index}
 use Rattle.model.specs.Plan.{Plan, machines, blockCount}
 use Rattle.model.specs.Placement.{Feasible}
-use Rattle.model.specs.Steps.{Step, none, move, swap, after, acrossRacks, canMove, canSwap, isStep, first, routes, nextMove, nextSwap, orStep, nextStep, run}
-use Rattle.theory.specs.Steps.{Admissible, keyOf, Precedes, NextStepLaws, Taken, none-taken, one-more, RunLaws}
+use Rattle.model.specs.Steps.{Step, none, relocate, exchange, after, acrossRacks, canMove, canSwap, isStep, first, routes, nextMove, nextSwap, orStep, nextStep, run}
+use Rattle.theory.specs.Steps.{Admissible, stepKey, Precedes, NextStepLaws, Taken, none-taken, one-more, RunLaws}
 use Rattle.theory.proofs.Steps.{after-past}
 use Rattle.theory.proofs.StepsLocal.{after-feasible}
 
 -- ── isStep ───────────────────────────────────────────────────────────────────────────────────────
 pub isStep-false : (s : Step) → isStep s ≡ false → s ≡ none
 isStep-false none e = refl
-isStep-false (move racks m n i) e = no-contradiction e
-isStep-false (swap racks m n i j) e = no-contradiction e
+isStep-false (relocate racks m n i) e = no-contradiction e
+isStep-false (exchange racks m n i j) e = no-contradiction e
 
 -- ── Precedes ─────────────────────────────────────────────────────────────────────────────────────
 precedes-asym : (a b : List ℕ) → Precedes a b → Precedes b a → ⊥
@@ -110,14 +110,14 @@ four a b c d (suc (suc (suc k))) = d
 
 four-first : (a b c d : Step) → orStep a (orStep b (orStep c d)) ≡ first 4 (four a b c d)
 unfolding four firstUp
-four-first (move racks m n i) b c d = refl
-four-first (swap racks m n i j) b c d = refl
-four-first none (move racks m n i) c d = refl
-four-first none (swap racks m n i j) c d = refl
-four-first none none (move racks m n i) d = refl
-four-first none none (swap racks m n i j) d = refl
-four-first none none none (move racks m n i) = refl
-four-first none none none (swap racks m n i j) = refl
+four-first (relocate racks m n i) b c d = refl
+four-first (exchange racks m n i j) b c d = refl
+four-first none (relocate racks m n i) c d = refl
+four-first none (exchange racks m n i j) c d = refl
+four-first none none (relocate racks m n i) d = refl
+four-first none none (exchange racks m n i j) d = refl
+four-first none none none (relocate racks m n i) = refl
+four-first none none none (exchange racks m n i j) = refl
 four-first none none none none = refl
 
 module _ (p : Plan) (words : List ℕ) where
@@ -135,28 +135,28 @@ module _ (p : Plan) (words : List ℕ) where
 
   -- The Moves and the Swaps between m and n.
   abbrev Moves : Bool → ℕ → ℕ → List ℕ → Step → Type 0
-  Moves racks m n = Under (blockCount p) (λ i a s. (canMove p words m n i ≡ true) × ((a ≡ []) × (s ≡ move racks m n i)))
+  Moves racks m n = Under (blockCount p) (λ i a s. (canMove p words m n i ≡ true) × ((a ≡ []) × (s ≡ relocate racks m n i)))
 
   abbrev Swaps : Bool → ℕ → ℕ → List ℕ → Step → Type 0
   Swaps racks m n =
       Under (blockCount p) (λ i.
-      Under (blockCount p) (λ j a s. (canSwap p words m n i j ≡ true) × ((a ≡ []) × (s ≡ swap racks m n i j))))
+      Under (blockCount p) (λ j a s. (canSwap p words m n i j ≡ true) × ((a ≡ []) × (s ≡ exchange racks m n i j))))
 
   finds-move : (racks : Bool) → Finds (Routes racks (Moves racks)) (nextMove p words racks)
   unfolding nextMove
   finds-move racks =
       finds-routes racks _ (Moves racks) (λ m n.
-      finds-first (blockCount p) _ (λ i a s. (canMove p words m n i ≡ true) × ((a ≡ []) × (s ≡ move racks m n i))) (λ i il.
-      finds-if (canMove p words m n i) _ (move racks m n i) (finds-one (move racks m n i) refl)))
+      finds-first (blockCount p) _ (λ i a s. (canMove p words m n i ≡ true) × ((a ≡ []) × (s ≡ relocate racks m n i))) (λ i il.
+      finds-if (canMove p words m n i) _ (relocate racks m n i) (finds-one (relocate racks m n i) refl)))
 
   finds-swap : (racks : Bool) → Finds (Routes racks (Swaps racks)) (nextSwap p words racks)
   unfolding nextSwap
   finds-swap racks =
       finds-routes racks _ (Swaps racks) (λ m n.
       finds-first (blockCount p) _ (λ i.
-      Under (blockCount p) (λ j a s. (canSwap p words m n i j ≡ true) × ((a ≡ []) × (s ≡ swap racks m n i j)))) (λ i il.
-      finds-first (blockCount p) _ (λ j a s. (canSwap p words m n i j ≡ true) × ((a ≡ []) × (s ≡ swap racks m n i j))) (λ j jl.
-      finds-if (canSwap p words m n i j) _ (swap racks m n i j) (finds-one (swap racks m n i j) refl))))
+      Under (blockCount p) (λ j a s. (canSwap p words m n i j ≡ true) × ((a ≡ []) × (s ≡ exchange racks m n i j)))) (λ i il.
+      finds-first (blockCount p) _ (λ j a s. (canSwap p words m n i j ≡ true) × ((a ≡ []) × (s ≡ exchange racks m n i j))) (λ j jl.
+      finds-if (canSwap p words m n i j) _ (exchange racks m n i j) (finds-one (exchange racks m n i j) refl))))
 
   -- All steps of kind k.
   abbrev Kind : ℕ → List ℕ → Step → Type 0
@@ -180,78 +180,78 @@ module _ (p : Plan) (words : List ℕ) where
 
   -- the steps that are looked through are the lawful ones, by their keys
   admissible-move : (racks : Bool) (a : List ℕ) (s : Step) → Routes racks (Moves racks) a s
-      → (m : ℕ) × (n : ℕ) × (i : ℕ) × (a ≡ m ∷ n ∷ i ∷ []) × (s ≡ move racks m n i) × Admissible p words (move racks m n i)
+      → (m : ℕ) × (n : ℕ) × (i : ℕ) × (a ≡ m ∷ n ∷ i ∷ []) × (s ≡ relocate racks m n i) × Admissible p words (relocate racks m n i)
   admissible-move racks a s (m, b, e, ml, (n, c, f, nl, (t, (i, d, g, il, (can, (h, is)))))) =
       (m, n, i, (rw (e, f, g, h)), is, (ml, nl, il, can, beq-iff racks (acrossRacks p m n) .0 t))
 
   admissible-swap : (racks : Bool) (a : List ℕ) (s : Step) → Routes racks (Swaps racks) a s
-      → (m : ℕ) × (n : ℕ) × (i : ℕ) × (j : ℕ) × (a ≡ m ∷ n ∷ i ∷ j ∷ []) × (s ≡ swap racks m n i j) × Admissible p words (swap racks m n i j)
+      → (m : ℕ) × (n : ℕ) × (i : ℕ) × (j : ℕ) × (a ≡ m ∷ n ∷ i ∷ j ∷ []) × (s ≡ exchange racks m n i j) × Admissible p words (exchange racks m n i j)
   admissible-swap racks a s (m, b, e, ml, (n, c, f, nl, (t, (i, d, g, il, (j, k, o, jl, (can, (h, is))))))) =
       (m, n, i, j, (rw (e, f, g, o, h)), is, (ml, nl, il, jl, can, beq-iff racks (acrossRacks p m n) .0 t))
 
-  move-admissible : (racks : Bool) (m n i : ℕ) → Admissible p words (move racks m n i)
-      → Routes racks (Moves racks) (m ∷ n ∷ i ∷ []) (move racks m n i)
+  move-admissible : (racks : Bool) (m n i : ℕ) → Admissible p words (relocate racks m n i)
+      → Routes racks (Moves racks) (m ∷ n ∷ i ∷ []) (relocate racks m n i)
   move-admissible racks m n i (ml, nl, il, can, across) =
       (m, _, refl, ml, (n, _, refl, nl, (beq-iff racks (acrossRacks p m n) .1 across, (i, _, refl, il, (can, (refl, refl))))))
 
-  swap-admissible : (racks : Bool) (m n i j : ℕ) → Admissible p words (swap racks m n i j)
-      → Routes racks (Swaps racks) (m ∷ n ∷ i ∷ j ∷ []) (swap racks m n i j)
+  swap-admissible : (racks : Bool) (m n i j : ℕ) → Admissible p words (exchange racks m n i j)
+      → Routes racks (Swaps racks) (m ∷ n ∷ i ∷ j ∷ []) (exchange racks m n i j)
   swap-admissible racks m n i j (ml, nl, il, jl, can, across) =
       (m, _, refl, ml, (n, _, refl, nl, (beq-iff racks (acrossRacks p m n) .1 across, (i, _, refl, il, (j, _, refl, jl, (can, (refl, refl)))))))
 
-  kinds-admissible : (a : List ℕ) (s : Step) → Under 4 Kind a s ↔ ((a ≡ keyOf s) × Admissible p words s)
-  unfolding keyOf
+  kinds-admissible : (a : List ℕ) (s : Step) → Under 4 Kind a s ↔ ((a ≡ stepKey s) × Admissible p words s)
+  unfolding stepKey
   kinds-admissible a s = (λ h. there (h .0) (h .1) (h .2) (h .3) (h .4), λ h. rw (h .0) (back s (h .1)))
     where
-      told : (t : Step) → a ≡ keyOf t → s ≡ t → Admissible p words t → (a ≡ keyOf s) × Admissible p words s
+      told : (t : Step) → a ≡ stepKey t → s ≡ t → Admissible p words t → (a ≡ stepKey s) × Admissible p words s
       told t e is h = rw is (e, h)
 
-      there : (k : ℕ) (b : List ℕ) → a ≡ k ∷ b → k < 4 → Kind k b s → (a ≡ keyOf s) × Admissible p words s
+      there : (k : ℕ) (b : List ℕ) → a ≡ k ∷ b → k < 4 → Kind k b s → (a ≡ stepKey s) × Admissible p words s
       there zero b e l h =
           let z = admissible-move false b s h in
-          told (move false (z .0) (z .1) (z .2)) (e ∙ ap (λ (c : List ℕ). 0 ∷ c) (z .3)) (z .4) (z .5)
+          told (relocate false (z .0) (z .1) (z .2)) (e ∙ ap (λ (c : List ℕ). 0 ∷ c) (z .3)) (z .4) (z .5)
       there (suc zero) b e l h =
           let z = admissible-swap false b s h in
-          told (swap false (z .0) (z .1) (z .2) (z .3)) (e ∙ ap (λ (c : List ℕ). 1 ∷ c) (z .4)) (z .5) (z .6)
+          told (exchange false (z .0) (z .1) (z .2) (z .3)) (e ∙ ap (λ (c : List ℕ). 1 ∷ c) (z .4)) (z .5) (z .6)
       there (suc (suc zero)) b e l h =
           let z = admissible-move true b s h in
-          told (move true (z .0) (z .1) (z .2)) (e ∙ ap (λ (c : List ℕ). 2 ∷ c) (z .3)) (z .4) (z .5)
+          told (relocate true (z .0) (z .1) (z .2)) (e ∙ ap (λ (c : List ℕ). 2 ∷ c) (z .3)) (z .4) (z .5)
       there (suc (suc (suc k))) b e l h =
           let z = admissible-swap true b s h in
           let last : suc (suc (suc k)) ≡ 3 = omega arith in
-          told (swap true (z .0) (z .1) (z .2) (z .3)) (e ∙ ap₂ _∷_ last (z .4)) (z .5) (z .6)
+          told (exchange true (z .0) (z .1) (z .2) (z .3)) (e ∙ ap₂ _∷_ last (z .4)) (z .5) (z .6)
 
-      back : (s : Step) → Admissible p words s → Under 4 Kind (keyOf s) s
+      back : (s : Step) → Admissible p words s → Under 4 Kind (stepKey s) s
       back none h = absurd h
-      back (move false m n i) h = (0, _, refl, lit< tt, move-admissible false m n i h)
-      back (swap false m n i j) h = (1, _, refl, lit< tt, swap-admissible false m n i j h)
-      back (move true m n i) h = (2, _, refl, lit< tt, move-admissible true m n i h)
-      back (swap true m n i j) h = (3, _, refl, lit< tt, swap-admissible true m n i j h)
+      back (relocate false m n i) h = (0, _, refl, lit< tt, move-admissible false m n i h)
+      back (exchange false m n i j) h = (1, _, refl, lit< tt, swap-admissible false m n i j h)
+      back (relocate true m n i) h = (2, _, refl, lit< tt, move-admissible true m n i h)
+      back (exchange true m n i j) h = (3, _, refl, lit< tt, swap-admissible true m n i j h)
 
   -- A search over an index finds, at the first index where there is anything to find, what is first there; so nested searches find
   -- the step whose numbers are first, the outermost deciding before the inner ones. The kinds are the outermost index, then m, n, i
   -- and j.
   pub nextStep-laws : NextStepLaws p words
-  nextStep-laws = go (finds-same (Under 4 Kind) (λ a s. (a ≡ keyOf s) × Admissible p words s) (nextStep p words) kinds-admissible finds-next)
+  nextStep-laws = go (finds-same (Under 4 Kind) (λ a s. (a ≡ stepKey s) × Admissible p words s) (nextStep p words) kinds-admissible finds-next)
     where
-      go : Finds (λ a s. (a ≡ keyOf s) × Admissible p words s) (nextStep p words) → NextStepLaws p words
+      go : Finds (λ a s. (a ≡ stepKey s) × Admissible p words s) (nextStep p words) → NextStepLaws p words
       go (inl (e, empty)) =
           record {
             admissible = inl e;
-            first = λ s h. absurd (empty (keyOf s) s (refl, h));
-            none-before = λ s h before. empty (keyOf s) s (refl, h);
-            rest = (λ q s h. empty (keyOf s) s (refl, h), λ h. e);
+            first = λ s h. absurd (empty (stepKey s) s (refl, h));
+            none-before = λ s h before. empty (stepKey s) s (refl, h);
+            rest = (λ q s h. empty (stepKey s) s (refl, h), λ h. e);
           }
       go (inr (a, (e, h), is, least)) =
-          let first : (s : Step) → Admissible p words s → (nextStep p words ≡ s) ⊎ Precedes (keyOf (nextStep p words)) (keyOf s) =
-          λ s l. rw e at (least (keyOf s) s (refl, l))
+          let first : (s : Step) → Admissible p words s → (nextStep p words ≡ s) ⊎ Precedes (stepKey (nextStep p words)) (stepKey s) =
+          λ s l. rw e at (least (stepKey s) s (refl, l))
           in
           record {
             admissible = inr h;
             first = first;
             none-before = λ s l before. elim (first s l) [
-              | inl same ↦ precedes-asym (keyOf s) (keyOf s) (rw same at before) (rw same at before)
-              | inr later ↦ precedes-asym (keyOf s) (keyOf (nextStep p words)) before later
+              | inl same ↦ precedes-asym (stepKey s) (stepKey s) (rw same at before) (rw same at before)
+              | inr later ↦ precedes-asym (stepKey s) (stepKey (nextStep p words)) before later
             ];
             rest = (λ q. no-contradiction (sym is ∙ ap isStep q), λ none-admissible. absurd (none-admissible (nextStep p words) h));
           }
@@ -297,23 +297,23 @@ module _ (p : Plan) (words : List ℕ) where
   unfolding run
   run-zero = refl
 
-  pub run-none : (budget : ℕ) → nextStep p words ≡ none
-      → run p budget words ≡ record { rested = true; steps = 0; words = words }
+  pub run-none : (limit : ℕ) → nextStep p words ≡ none
+      → run p limit words ≡ record { rested = true; steps = 0; words = words }
   unfolding run
   run-none zero e = rw e
-  run-none (suc budget) e = rw e
+  run-none (suc limit) e = rw e
 
-  pub run-suc : (budget : ℕ) → isStep (nextStep p words) ≡ true
-      → run p (suc budget) words
+  pub run-suc : (limit : ℕ) → isStep (nextStep p words) ≡ true
+      → run p (suc limit) words
       ≡ record {
-        rested = run p budget (after words (nextStep p words)) .rested;
-        steps = suc (run p budget (after words (nextStep p words)) .steps);
-        words = run p budget (after words (nextStep p words)) .words;
+        rested = run p limit (after words (nextStep p words)) .rested;
+        steps = suc (run p limit (after words (nextStep p words)) .steps);
+        words = run p limit (after words (nextStep p words)) .words;
       }
   unfolding run
-  run-suc budget e = rw e
+  run-suc limit e = rw e
 
-pub run-laws : (p : Plan) (budget : ℕ) (words : List ℕ) → RunLaws p budget words (run p budget words)
+pub run-laws : (p : Plan) (limit : ℕ) (words : List ℕ) → RunLaws p limit words (run p limit words)
 run-laws p zero words =
     rw (run-zero p words)
     (record {
@@ -322,15 +322,15 @@ run-laws p zero words =
       rest = λ e. isStep-false (nextStep p words) (not-true _ e);
       spent = λ e. (refl, not-false _ e);
     })
-run-laws p (suc budget) words =
-    go (bool-cases (isStep (nextStep p words))) (run-laws p budget (after words (nextStep p words)))
+run-laws p (suc limit) words =
+    go (bool-cases (isStep (nextStep p words))) (run-laws p limit (after words (nextStep p words)))
   where
     go : (isStep (nextStep p words) ≡ true) ⊎ (isStep (nextStep p words) ≡ false)
-        → RunLaws p budget (after words (nextStep p words)) (run p budget (after words (nextStep p words)))
-        → RunLaws p (suc budget) words (run p (suc budget) words)
+        → RunLaws p limit (after words (nextStep p words)) (run p limit (after words (nextStep p words)))
+        → RunLaws p (suc limit) words (run p (suc limit) words)
     go (inl e) later =
         let within = later .within in
-        rw (run-suc p words budget e)
+        rw (run-suc p words limit e)
         (record {
           within = omega arith;
           taken = one-more e (later .taken);
@@ -338,7 +338,7 @@ run-laws p (suc budget) words =
           spent = λ q. (ap suc (later .spent q .0), later .spent q .1);
         })
     go (inr e) later =
-        rw (run-none p words (suc budget) (isStep-false (nextStep p words) e))
+        rw (run-none p words (suc limit) (isStep-false (nextStep p words) e))
         (record {
           within = omega arith;
           taken = none-taken;
@@ -346,6 +346,6 @@ run-laws p (suc budget) words =
           spent = λ q. no-contradiction q;
         })
 
-pub run-feasible : (p : Plan) (count : ℕ → ℕ) (words : List ℕ) → Feasible p count words → (budget : ℕ)
-    → Feasible p count (run p budget words .words)
-run-feasible p count words feasible budget = taken-feasible p count (run-laws p budget words .taken) feasible
+pub run-feasible : (p : Plan) (count : ℕ → ℕ) (words : List ℕ) → Feasible p count words → (limit : ℕ)
+    → Feasible p count (run p limit words .words)
+run-feasible p count words feasible limit = taken-feasible p count (run-laws p limit words .taken) feasible

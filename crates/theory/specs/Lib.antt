@@ -6,5 +6,6 @@ pub mod Replication
 pub mod Placement
 pub mod Domains
 pub mod Steps
+pub mod Calls
 pub mod Listing
 pub mod Writing

@@ -7,9 +7,9 @@ use Rattle.model.specs.Listing.{listingOf, listingRoom}
 use Rattle.theory.specs.Refusal.{Valid}
 use Rattle.theory.specs.Widths.{shareBound}
 
--- The listing of an accepted plan fits, where its shares are in their bound and the step budget has 32 bits.
+-- The listing of an accepted plan fits, where its shares are in their bound and the step limit has 32 bits.
 abbrev pub ListingFits : Type 0
 ListingFits =
     (p : Plan) → Valid p
     → ((i : ℕ) → i < blockCount p → share (blockOf p i .popularity) (chosen p i) < shareBound)
-    → (budget : ℕ) → budget < 2 ^ 32 → length (listingOf p budget) ≤ listingRoom
+    → (limit : ℕ) → limit < 2 ^ 32 → length (listingOf p limit) ≤ listingRoom

@@ -6,7 +6,7 @@ use mathlib.Core.Logic.{_⊎_, _↔_}
 use Prim.Native.Nat.{ℕ, suc, _+_, _<_, _≤_}
 use Rattle.model.specs.Plan.{Plan, machines, blockCount, blockOf, isPaired, partner}
 use Rattle.model.specs.Placement.{wordOf, held, domainsUsed, used, shareOf, load}
-use Rattle.model.specs.Steps.{Step, none, move, swap, shifted, after, acrossRacks, canMove, canSwap, isStep, nextStep, AtRest, Run}
+use Rattle.model.specs.Steps.{Step, none, relocate, exchange, shifted, after, acrossRacks, canMove, canSwap, isStep, nextStep, AtRest, Run}
 
 -- What the loads must satisfy for m to give the share `given` and get `back`: both loads end below that of m.
 abbrev pub Lowers : Plan → List ℕ → ℕ → ℕ → ℕ → ℕ → Type 0
@@ -39,19 +39,19 @@ pub record LocalSwap (p : Plan) (words : List ℕ) (m n i j : ℕ) : Type 0 wher
 -- for one rack, RackMove and RackSwap for two.
 abbrev pub Admissible : Plan → List ℕ → Step → Type 0
 Admissible p words none = ⊥
-Admissible p words (move racks m n i) =
+Admissible p words (relocate racks m n i) =
     (m < machines p) × (n < machines p) × (i < blockCount p) × (canMove p words m n i ≡ true) × (racks ≡ acrossRacks p m n)
-Admissible p words (swap racks m n i j) =
+Admissible p words (exchange racks m n i j) =
     (m < machines p) × (n < machines p) × (i < blockCount p) × (j < blockCount p) × (canSwap p words m n i j ≡ true)
     × (racks ≡ acrossRacks p m n)
 
 -- The order of steps: by kind (Move, Swap, RackMove, RackSwap), then m, n, i, j, each lowest first.
-unfoldable pub keyOf : Step → List ℕ
-keyOf none = []
-keyOf (move false m n i) = 0 ∷ m ∷ n ∷ i ∷ []
-keyOf (swap false m n i j) = 1 ∷ m ∷ n ∷ i ∷ j ∷ []
-keyOf (move true m n i) = 2 ∷ m ∷ n ∷ i ∷ []
-keyOf (swap true m n i j) = 3 ∷ m ∷ n ∷ i ∷ j ∷ []
+unfoldable pub stepKey : Step → List ℕ
+stepKey none = []
+stepKey (relocate false m n i) = 0 ∷ m ∷ n ∷ i ∷ []
+stepKey (exchange false m n i j) = 1 ∷ m ∷ n ∷ i ∷ j ∷ []
+stepKey (relocate true m n i) = 2 ∷ m ∷ n ∷ i ∷ []
+stepKey (exchange true m n i j) = 3 ∷ m ∷ n ∷ i ∷ j ∷ []
 
 -- One key comes before another by the first number in which they differ.
 unfoldable pub Precedes : List ℕ → List ℕ → Type 0
@@ -63,8 +63,8 @@ Precedes (a ∷ rest) (b ∷ others) = (a < b) ⊎ ((a ≡ b) × Precedes rest o
 pub record NextStepLaws (p : Plan) (words : List ℕ) : Type 0 where
   pub admissible : (nextStep p words ≡ none) ⊎ Admissible p words (nextStep p words)
   -- every other lawful step comes after it, and none before it
-  pub first : (s : Step) → Admissible p words s → (nextStep p words ≡ s) ⊎ Precedes (keyOf (nextStep p words)) (keyOf s)
-  pub none-before : (s : Step) → Admissible p words s → Precedes (keyOf s) (keyOf (nextStep p words)) → ⊥
+  pub first : (s : Step) → Admissible p words s → (nextStep p words ≡ s) ⊎ Precedes (stepKey (nextStep p words)) (stepKey s)
+  pub none-before : (s : Step) → Admissible p words s → Precedes (stepKey s) (stepKey (nextStep p words)) → ⊥
   -- it is at rest exactly if there is none
   pub rest : AtRest p words ↔ ((s : Step) → Admissible p words s → ⊥)
 
@@ -75,8 +75,8 @@ pub data Taken (p : Plan) : List ℕ → ℕ → List ℕ → Type 0 where
       → Taken p (after words (nextStep p words)) n later → Taken p words (suc n) later
 
 -- What a run with a step limit has done: `rested` says that no step is left; otherwise the limit is used and one is.
-pub record RunLaws (p : Plan) (budget : ℕ) (words : List ℕ) (r : Run) : Type 0 where
-  pub within : r .steps ≤ budget
+pub record RunLaws (p : Plan) (limit : ℕ) (words : List ℕ) (r : Run) : Type 0 where
+  pub within : r .steps ≤ limit
   pub taken : Taken p words (r .steps) (r .words)
   pub rest : r .rested ≡ true → AtRest p (r .words)
-  pub spent : r .rested ≡ false → (r .steps ≡ budget) × (isStep (nextStep p (r .words)) ≡ true)
+  pub spent : r .rested ≡ false → (r .steps ≡ limit) × (isStep (nextStep p (r .words)) ≡ true)

@@ -15,7 +15,7 @@ use Rattle.order.proofs.Booleans.{bool-cases, not-so}
 use Rattle.order.proofs.Extremes.{below-suc}
 use Rattle.model.specs.Plan.{Plan, machines, blockCount, blockOf, isPaired, partner}
 use Rattle.model.specs.Placement.{wordOf, held, domainsUsed, used, shareOf}
-use Rattle.model.specs.Steps.{Step, none, move, swap, shifted, isStep, first, canMove, canSwap}
+use Rattle.model.specs.Steps.{Step, none, relocate, exchange, shifted, isStep, first, canMove, canSwap}
 use Rattle.theory.specs.Steps.{Lowers, LocalMove}
 use Rattle.theory.specs.Refusal.{Shaped}
 use Rattle.theory.proofs.Plan.{partner-paired, partner-partner}
@@ -25,7 +25,7 @@ use Rattle.cluster.specs.declared.Cluster.{Cluster}
 use Rattle.cluster.specs.Cluster.{machinesIn, domainIn}
 use Rattle.cluster.specs.Blocks.{linkedTo, shareIn, spreadIn, PlacementFits, PlacementOf}
 use Rattle.cluster.proofs.Laws.{cluster-blocks, cluster-domain, cluster-machines, mate-paired, mate-single, profiles-mate, placement-block, placement-share, placement-spread, placement-machine}
-use Rattle.index.specs.declared.Route.{Route}
+use Rattle.transfers.specs.declared.Route.{Route}
 use Rattle.index.specs.Index.{byNumber, spot, rankAt, NextOf}
 use Rattle.transfers.specs.Route.{blockStep, routeStep, Shift, RouteIn, BlockAsked, Lies, InMargin, Passable, Free, NoReturn, ReturnAsked, RouteAsked, RouteScene, Return, FreeReturn, CandidateAsked}
 use Rattle.transfers.proofs.Searches.{step-found, none-found, test-found, test-none}
@@ -207,19 +207,19 @@ module _ (p : Plan) (words : List ℕ) (across : Bool) (m n i : ℕ) where
       → blockStep p words swapping across m n i ≡ none
   unfolding blockStep
   blockStep-none false no-move no-swap = rw (no-move refl)
-  blockStep-none true no-move no-swap = test-none (blockCount p) (canSwap p words m n i) (swap across m n i) (no-swap refl)
+  blockStep-none true no-move no-swap = test-none (blockCount p) (canSwap p words m n i) (exchange across m n i) (no-swap refl)
 
   pub blockStep-move : (swapping : Bool) → swapping ≡ false → canMove p words m n i ≡ true
-      → blockStep p words swapping across m n i ≡ move across m n i
+      → blockStep p words swapping across m n i ≡ relocate across m n i
   unfolding blockStep
   blockStep-move swapping kind here = rw (kind, here)
 
   pub blockStep-swap : (swapping : Bool) → swapping ≡ true → (j : ℕ) → j < blockCount p
       → ((k : ℕ) → k < j → canSwap p words m n i k ≡ false) → canSwap p words m n i j ≡ true
-      → blockStep p words swapping across m n i ≡ swap across m n i j
+      → blockStep p words swapping across m n i ≡ exchange across m n i j
   unfolding blockStep
   blockStep-swap swapping kind j l before here =
-      rw kind (test-found (blockCount p) j (canSwap p words m n i) (swap across m n i) l before here refl)
+      rw kind (test-found (blockCount p) j (canSwap p words m n i) (exchange across m n i) l before here refl)
 
 -- ── PlacementOf, RouteScene: the definition's tests ─────────────────────────────────────────────────────────────────────
 

@@ -8,13 +8,13 @@ use lib.Dec.{eqb}
 use lib.ListN.{getD}
 use Rattle.model.specs.Plan.{Plan, blockCount}
 use Rattle.model.specs.Placement.{bit, wordOf, held, domainsUsed, used}
-use Rattle.model.specs.Steps.{Step, none, move, swap, shifted, canMove, canSwap, first}
+use Rattle.model.specs.Steps.{Step, none, relocate, exchange, shifted, canMove, canSwap, first}
 use Rattle.theory.specs.Widths.{shareBound, loadBound}
 use Rattle.theory.specs.Steps.{Lowers}
 use Rattle.cluster.specs.declared.Cluster.{Cluster}
 use Rattle.cluster.specs.Cluster.{machinesIn, domainIn, InRange, ClusterOf}
 use Rattle.cluster.specs.Blocks.{linkedTo, shareIn, spreadIn, PlacementFits, PlacementOf}
-use Rattle.index.specs.declared.Route.{Route}
+use Rattle.transfers.specs.declared.Route.{Route}
 use Rattle.index.specs.Index.{byRank, spot, shareAt, Indexed, AboveAsked}
 use Rattle.transfers.specs.declared.Hit.{Hit}
 use Rattle.transfers.specs.declared.Hit.the-variants.{Nothing, Move, Swap}
@@ -22,19 +22,19 @@ use Rattle.transfers.specs.declared.Hit.the-variants.{Nothing, Move, Swa
 -- A find as a step; `across` says whether its machines lie in different racks.
 unfoldable pub hitOf : Bool → Hit → Step
 hitOf across Nothing = none
-hitOf across (Move m n i) = move across m n i
-hitOf across (Swap m n i j) = swap across m n i j
+hitOf across (Move m n i) = relocate across m n i
+hitOf across (Swap m n i j) = exchange across m n i j
 
 -- The definition's first move or exchange between m and n.
 unfoldable pub routeStep : Plan → List ℕ → Bool → Bool → ℕ → ℕ → Step
-routeStep p words false across m n = first (blockCount p) (λ i. cond (canMove p words m n i) (move across m n i) none)
+routeStep p words false across m n = first (blockCount p) (λ i. cond (canMove p words m n i) (relocate across m n i) none)
 routeStep p words true across m n =
-    first (blockCount p) (λ i. first (blockCount p) (λ j. cond (canSwap p words m n i j) (swap across m n i j) none))
+    first (blockCount p) (λ i. first (blockCount p) (λ j. cond (canSwap p words m n i j) (exchange across m n i j) none))
 
 -- The same at block i alone.
 unfoldable pub blockStep : Plan → List ℕ → Bool → Bool → ℕ → ℕ → ℕ → Step
-blockStep p words false across m n i = cond (canMove p words m n i) (move across m n i) none
-blockStep p words true across m n i = first (blockCount p) (λ j. cond (canSwap p words m n i j) (swap across m n i j) none)
+blockStep p words false across m n i = cond (canMove p words m n i) (relocate across m n i) none
+blockStep p words true across m n i = first (blockCount p) (λ j. cond (canSwap p words m n i j) (exchange across m n i j) none)
 
 -- A copy of the block that is on m and could be on n.
 pub record Shift (c : Cluster) (words : List ℕ) (m n i : ℕ) : Type 0 where

@@ -4,12 +4,20 @@ use cluster::Cluster;
 use index::BY_NUMBER;
 use index::BY_RANK;
 use index::KEYS_AT;
-use index::Route;
 ghost use mathlib.Core.Path.{_≡_};
 ghost use mathlib.Core.Bool.{Bool};
 ghost use Rattle.model.specs.Steps.{isStep};
 ghost use Rattle.cluster.specs.Blocks.{shareIn, spreadIn};
 ghost use Rattle.transfers.specs.Route.{hitOf, routeStep, blockStep, BlockAsked, KeepsOf, PassableOf, FreeAsked, FreeOf, SharesAsked, NoReturn, ReturnAsked, ReturnOf, RouteAsked, ReturnFound, OwnAsked, OwnFound, CandidateAsked, ExchangeFound, HitOf};
+
+// A route: a step takes a block from machine m to machine n. What m's load may fall by stays below `margin`; `parted` says whether the
+// two lie in different failure domains.
+pub struct Route {
+    pub parted: bool,
+    pub m: usize,
+    pub n: usize,
+    pub margin: u64,
+}
 
 // Block i from m to n, or that and block j from n to m.
 pub enum Hit {
@@ -113,7 +121,7 @@ fn may_return(index: &[u64], cluster: Cluster, route: Route, given: u64) -> bool
     if cluster.blocks <= rank {
         return false;
     }
-    ranking::share_of(index[KEYS_AT + rank]) < given
+    ranking::key_share(index[KEYS_AT + rank]) < given
 }
 
 // Whether block j can go from m to n in return for one of the share `given`, and its partner is not on n.

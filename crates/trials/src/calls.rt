@@ -112,7 +112,7 @@ fn step_line(bytes: &[u8], words: &mut [u64]) -> Line {
     }
 }
 
-// Runs with a budget of steps: how the run ended, and the number of steps taken.
+// Runs with a step limit: how the run ended, and the number of steps taken.
 fn run_line(bytes: &[u8], words: &mut [u64], limit: u32) -> Line {
     let line = Line::new(b"run");
     let answer = service::run(bytes, words, limit);

@@ -2,7 +2,7 @@
 use crate::input::at_most;
 use crate::output::Line;
 use model::Entry;
-use window::ReadsAnswer;
+use readwindow::ReadsAnswer;
 ghost use Prim.Native.Nat.{_≤_};
 
 // The entry that a word is.

@@ -3,7 +3,7 @@
 use mathlib.Core.Path.{_∙_}
 use borrow.Author.Needs.{needs}
 use borrow.Author.Tests.{lt-ltb, le-ltb}
-use Rattle.header.specs.Header.{countIn}
+use Rattle.header.specs.Header.{countedBlocks}
 use Rattle.header.proofs.count_in.Statement.{statement}
 use Rattle.header.proofs.count_in.Tie as tie
 
@@ -11,7 +11,7 @@ add-if1 : tie.Need-add-if1
 add-if1 c = search needs
 
 returns : tie.Need-returns
-unfolding countIn
+unfolding countedBlocks
 returns c = rw (← (c .before .before .before .pre .format-is), lt-ltb _ _ (c .if1 .taken))
 
 add-field-at : tie.Need-add-field-at
@@ -21,7 +21,7 @@ field-at-requires : tie.Need-field-at-requires
 field-at-requires c κs = search needs
 
 returns-2 : tie.Need-returns-2
-unfolding countIn
+unfolding countedBlocks
 returns-2 c =
     let long = c .before .before in
     c .field-at .ensures .0 ∙ (rw (← (long .before .before .before .pre .format-is), le-ltb _ _ (long .if1 .left)))

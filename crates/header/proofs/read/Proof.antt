@@ -9,9 +9,9 @@ use lib.ListN.{length}
 use Rattle.model.specs.Plan.{markIn, versionIn, racksIn, rackSizeIn, feedsIn, capacityIn, blockCountIn, latestVersion, Format, formatIn, recordAt}
 use Rattle.model.specs.Refusal.{orElse, check1, check2, check3, check4, check22, check5, check6, check7, refusal}
 use Rattle.theory.proofs.Refusal.{orElse-some, check4-zero, check22-zero, check5-zero, check6-rest, check6-zero, check7-zero}
-use Rattle.header.specs.Header.{headerCounted, countIn}
+use Rattle.header.specs.Header.{headerCounted, countedBlocks}
 use Rattle.header.specs.declared.Header.{Header}
-use Rattle.header.proofs.Laws.{countIn-long, countIn-counted, countIn-rows}
+use Rattle.header.proofs.Laws.{countedBlocks-long, countedBlocks-counted, countedBlocks-rows}
 use Rattle.header.proofs.read.Statement.{statement}
 use Rattle.header.proofs.read.Tie as tie
 
@@ -42,7 +42,7 @@ past-hall c later = hall-code (c .before) later ∙ orElse-none _ later (c .if2 
 
 -- the blocks, and the format
 blocks-are : (c : tie.After-fields)
-    → c .fields .result .cluster .blocks ≡ countIn (now (c .before .before .before .before .before .args .bytes))
+    → c .fields .result .cluster .blocks ≡ countedBlocks (now (c .before .before .before .before .before .args .bytes))
 unfolding headerCounted
 blocks-are c = ap (λ (h : Header). h .cluster .blocks) (c .fields .ensures .0)
 
@@ -55,7 +55,7 @@ size-code : (c : tie.After-size-refusal) (later : ℕ)
 size-code c later =
     let read = c .before .before .before .before in
     let bytes = now (read .before .before .before .before .before .args .bytes) in
-    countIn-rows bytes later
+    countedBlocks-rows bytes later
     ∙ ap₂ (λ (f : Format) (n : ℕ). check6 f (length bytes) n (check7 f (length bytes) n later))
     (sym (read .before .format-in .ensures .0))
     (sym (blocks-are read))
@@ -101,7 +101,7 @@ size-refusal-requires c κs =
     let bytes = now (read .before .before .before .before .before .args .bytes) in
     record {
       fits = read .before .format-in .ensures .1;
-      counted = countIn-counted bytes _ _ (read .before .format-in .ensures .0) (blocks-are read);
+      counted = countedBlocks-counted bytes _ _ (read .before .format-in .ensures .0) (blocks-are read);
     }
 
 returns-3 : tie.Need-returns-3
@@ -130,7 +130,7 @@ returns-4 c =
     let z5 = check5-zero _ _ (z22 .2) in
     let rows = rw (read .before .format-in .ensures .0) at (c .before .size-refusal .ensures 0 ∙ orElse-none _ 0 (c .if3 .left)) in
     let size : length bytes ≡ recordAt f blocks = sizes f (length bytes) blocks rows in
-    let same : countIn bytes ≡ blockCountIn bytes = countIn-long bytes (omega (arith, size)) in
+    let same : countedBlocks bytes ≡ blockCountIn bytes = countedBlocks-long bytes (omega (arith, size)) in
     record {
       fields = rw same at (read .fields .ensures .0);
       left =

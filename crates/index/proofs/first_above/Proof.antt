@@ -1,4 +1,4 @@
--- `index::first_above` meets its contract. The loop's invariant: the shares below `low` are at most the limit, and those from `high` on
+-- `index::first_above` meets its contract. The loop's invariant: the shares below `low` are at most the bound, and those from `high` on
 -- above it.
 -- Assumes nothing.
 use Prim.Native.Nat.{ℕ, _-_, _<_, _≤_}
@@ -10,12 +10,12 @@ use Rattle.index.proofs.first_above.Statement.{statement}
 use Rattle.index.proofs.first_above.Tie as tie
 
 abbrev Inv-loop : tie.InvT-loop
-Inv-loop index limit low₀ high₀ low high =
-    (low ≤ high) × (high ≤ high₀) × ((k : ℕ) → k < low → shareAt index k ≤ limit)
-    × ((k : ℕ) → high ≤ k → k < high₀ → limit < shareAt index k)
+Inv-loop index bound low₀ high₀ low high =
+    (low ≤ high) × (high ≤ high₀) × ((k : ℕ) → k < low → shareAt index k ≤ bound)
+    × ((k : ℕ) → high ≤ k → k < high₀ → bound < shareAt index k)
 
 abbrev μ-loop : tie.MeasureT-loop
-μ-loop index limit low₀ high₀ low high = high - low
+μ-loop index bound low₀ high₀ low high = high - low
 
 loop-holds : tie.Need-loop-holds Inv-loop μ-loop
 loop-holds c = (omega arith, omega arith, λ k l. absurd (omega arith), λ k l h. absurd (omega arith))
@@ -23,17 +23,17 @@ loop-holds c = (omega arith, omega arith, λ k l. absurd (omega arith), λ k l h
 add-middle : tie.Need-add-middle Inv-loop μ-loop
 add-middle c = omega arith
 
-add-share-of : tie.Need-add-share-of Inv-loop μ-loop
-add-share-of c = omega arith
+add-key-share : tie.Need-add-key-share Inv-loop μ-loop
+add-key-share c = omega arith
 
-mul-share-of : tie.Need-mul-share-of Inv-loop μ-loop
-mul-share-of c = omega arith
+mul-key-share : tie.Need-mul-key-share Inv-loop μ-loop
+mul-key-share c = omega arith
 
-shared-slice-read-share-of : tie.Need-shared-slice-read-share-of Inv-loop μ-loop
-shared-slice-read-share-of c = omega arith
+shared-slice-read-key-share : tie.Need-shared-slice-read-key-share Inv-loop μ-loop
+shared-slice-read-key-share c = omega arith
 
-share-of-requires : tie.Need-share-of-requires Inv-loop μ-loop
-share-of-requires c κs = search needs
+key-share-requires : tie.Need-key-share-requires Inv-loop μ-loop
+key-share-requires c κs = search needs
 
 add-low : tie.Need-add-low Inv-loop μ-loop
 add-low c = omega arith
@@ -46,7 +46,7 @@ loop-again c =
     let at = c .before .before .before .before in
     let asked = at .before .before .pre in
     let inv = at .loop .inv in
-    let here = rw (c .before .share-of .ensures) at (c .if1 .taken) in (
+    let here = rw (c .before .key-share .ensures) at (c .if1 .taken) in (
       omega arith,
       inv .1,
       λ k l. le-trans (asked .rising k _ (omega arith) (omega arith)) here,
@@ -61,7 +61,7 @@ loop-again-2 c =
     let at = c .before .before .before .before in
     let asked = at .before .before .pre in
     let inv = at .loop .inv in
-    let here = rw (c .before .share-of .ensures) at (c .if1 .left) in (
+    let here = rw (c .before .key-share .ensures) at (c .if1 .left) in (
       omega arith,
       omega arith,
       inv .2,
@@ -81,10 +81,10 @@ first-above-spec =
     μ-loop
     loop-holds
     add-middle
-    add-share-of
-    mul-share-of
-    shared-slice-read-share-of
-    share-of-requires
+    add-key-share
+    mul-key-share
+    shared-slice-read-key-share
+    key-share-requires
     add-low
     loop-less
     loop-again

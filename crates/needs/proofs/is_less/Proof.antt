@@ -10,7 +10,7 @@ use lib.Dec.{ltb}
 use Rattle.theory.specs.Widths.{mostReplicas, popularityBound}
 use Rattle.theory.proofs.Replication.{share-compares}
 use Rattle.needs.specs.declared.Fraction.{Fraction}
-use Rattle.needs.specs.Needs.{FractionFits, shareAt}
+use Rattle.needs.specs.Needs.{FractionFits, fractionShare}
 use Rattle.needs.proofs.Laws.{fraction-divides}
 use Rattle.needs.proofs.is_less.Statement.{statement}
 use Rattle.needs.proofs.is_less.Tie as tie
@@ -19,11 +19,11 @@ module _ (a b : Fraction) (fits-a : FractionFits a) (fits-b : FractionFits b) wh
   product-max : a .popularity * b .count ≤ popularityBound * mostReplicas
   product-max = mul-le-mul (fits-a .popularity-max) (fits-b .count-max)
 
-  less-is : ltb (a .popularity * b .count) (b .popularity * a .count) ≡ ltb (shareAt a) (shareAt b)
+  less-is : ltb (a .popularity * b .count) (b .popularity * a .count) ≡ ltb (fractionShare a) (fractionShare b)
   less-is =
       let compares = share-compares (b .popularity) (b .count) (a .popularity) (a .count)
       (fraction-divides b fits-b) (fraction-divides a fits-a) in
-      elim (decLe (shareAt b) (shareAt a)) [
+      elim (decLe (fractionShare b) (fractionShare a)) [
         | yes l ↦ le-ltb _ _ (compares .0 l) ∙ sym (le-ltb _ _ l)
         | no l ↦ lt-ltb _ _ (lt-of-not-le (λ m. l (compares .1 m))) ∙ sym (lt-ltb _ _ (lt-of-not-le l))
       ]

@@ -3,7 +3,7 @@
 use mathlib.Core.Path.{refl, sym, _∙_}
 use native.Mathlib.Omega.{arith}
 use borrow.Author.Tests.{ltb-true, ltb-false}
-use Rattle.needs.specs.Needs.{shareAt}
+use Rattle.needs.specs.Needs.{fractionShare}
 use Rattle.needs.proofs.next_with.Statement.{statement}
 use Rattle.needs.proofs.next_with.Tie as tie
 
@@ -13,7 +13,7 @@ is-less-requires c κs = (c .before .pre .share-fits, c .before .pre .next-fits)
 returns : tie.Need-returns
 returns c =
     let start = c .before .before .before in
-    let less = ltb-true (shareAt (start .args .share)) (shareAt (start .args .next .share)) (sym (c .before .is-less .ensures) ∙ c .if1 .taken) in
+    let less = ltb-true (fractionShare (start .args .share)) (fractionShare (start .args .next .share)) (sym (c .before .is-less .ensures) ∙ c .if1 .taken) in
     record { share-is = refl; tied = λ e. absurd (omega (arith, less, e)); replaced = λ l. refl }
 
 add-blocks : tie.Need-add-blocks
@@ -23,8 +23,8 @@ returns-2 : tie.Need-returns-2
 returns-2 c =
     let tested = c .before .before in
     let start = tested .before .before in
-    let share = shareAt (start .args .share) in
-    let smallest = shareAt (start .args .next .share) in
+    let share = fractionShare (start .args .share) in
+    let smallest = fractionShare (start .args .next .share) in
     let at-least = ltb-false share smallest (sym (tested .is-less .ensures) ∙ c .before .if1 .left) in
     record { share-is = refl; tied = λ e. omega arith; replaced = λ l. absurd (omega (arith, at-least, l)) }
 

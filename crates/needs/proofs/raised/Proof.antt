@@ -6,7 +6,7 @@ use Prim.Native.Nat.{_<_}
 use native.Mathlib.Nat.{mul-le-mul, max-eq-left, max-eq-right, le-of-lt, lt-of-not-le}
 use native.Mathlib.Omega.{arith}
 use Rattle.theory.proofs.Replication.{share-within}
-use Rattle.needs.specs.Needs.{shareAt}
+use Rattle.needs.specs.Needs.{fractionShare}
 use Rattle.needs.proofs.Laws.{fraction-divides}
 use Rattle.needs.proofs.raised.Statement.{statement}
 use Rattle.needs.proofs.raised.Tie as tie
@@ -26,7 +26,7 @@ returns c =
     let top = start .args .top in
     let share = start .args .share in
     let within = share-within (share .popularity) (share .count) top (fraction-divides share (start .pre .1)) .0 in
-    let above : top < shareAt share = lt-of-not-le (λ l. omega (arith, c .before .if1 .taken, within l)) in
+    let above : top < fractionShare share = lt-of-not-le (λ l. omega (arith, c .before .if1 .taken, within l)) in
     c .share-at .ensures ∙ sym (max-eq-right (le-of-lt above))
 
 returns-2 : tie.Need-returns-2

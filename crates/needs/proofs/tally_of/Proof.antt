@@ -21,7 +21,7 @@ use Rattle.theory.proofs.Replication.{share-one, need-same, need-less, need-les
 use Rattle.cluster.specs.Blocks.{DemandInRange, DemandsOf}
 use Rattle.cluster.proofs.Laws.{cluster-blocks, cluster-block, demands-popularity, demands-least}
 use Rattle.needs.specs.declared.NextShare.{NextShare}
-use Rattle.needs.specs.Needs.{FractionFits, shareAt}
+use Rattle.needs.specs.Needs.{FractionFits, fractionShare}
 use Rattle.needs.proofs.Laws.{fraction-of, need-of}
 use Rattle.needs.proofs.tally_of.Statement.{statement}
 use Rattle.needs.proofs.tally_of.Tie as tie
@@ -115,8 +115,8 @@ Inv-loop demands cluster wanted scale total₀ next₀ i₀ total next i =
     × (next .blocks ≤ i)
     × (next .blocks ≤ total)
     × FractionFits (next .share)
-    × (wanted < shareAt (next .share))
-    × ((p : Plan) → DemandsOf p cluster demands → Passed p wanted (shareAt (next .share)) (next .blocks) total i)
+    × (wanted < fractionShare (next .share))
+    × ((p : Plan) → DemandsOf p cluster demands → Passed p wanted (fractionShare (next .share)) (next .blocks) total i)
 
 abbrev μ-loop : tie.MeasureT-loop
 μ-loop demands cluster wanted scale total₀ next₀ i₀ total next i = cluster .blocks - i
@@ -195,7 +195,7 @@ is-less-requires c κs = (At (c .before .before .before .before) .loop .inv .4, 
 -- where the test says so, its share is not above the next one
 less-most : (c : tie.Then3 Inv-loop μ-loop)
     → share (c .before .before .before .popularity-of .result) (c .before .before .before .before .before .before .needed .result - 1)
-    ≤ shareAt (At (c .before .before .before .before .before .before) .loop .next .share)
+    ≤ fractionShare (At (c .before .before .before .before .before .before) .loop .next .share)
 less-most c = ltb-false _ _ (sym (c .before .is-less .ensures) ∙ not-true _ (c .if3 .taken))
 
 next-with-requires : tie.Need-next-with-requires Inv-loop μ-loop
@@ -234,10 +234,10 @@ module _ (c : tie.Joined2 Inv-loop μ-loop) where
   IsNext next =
       (next .blocks ≤ suc (Loop .loop .next .blocks))
       × FractionFits (next .share)
-      × (Loop .before .before .before .args .wanted < shareAt (next .share))
+      × (Loop .before .before .before .args .wanted < fractionShare (next .share))
       × ((p : Plan) → let a = Loop .before .before .before .args in
       DemandsOf p (a .cluster) (now (a .demands))
-      → Passed p (a .wanted) (shareAt (next .share)) (next .blocks) (Loop .loop .total + found) (Loop .loop .i + 1))
+      → Passed p (a .wanted) (fractionShare (next .share)) (next .blocks) (Loop .loop .total + found) (Loop .loop .i + 1))
 
   -- the count found is the block's need
   module _ (p : Plan) (of : DemandsOf p (Loop .before .before .before .args .cluster) (now (Loop .before .before .before .args .demands))) where
@@ -276,12 +276,12 @@ module _ (c : tie.Joined2 Inv-loop μ-loop) where
         rw (joined .share-is) (omega (arith, above, less-is)),
         λ p of.
             let same = ap₂ (λ (P k : ℕ). share P (k - 1)) (w .1 .ensures ∙ demands-popularity p _ _ of i i-below) (need-here p of) in
-            subst (λ (k : ℕ). Passed p wanted (shareAt (w .5 .result .share)) (w .5 .result .blocks) (total + k) (i + 1))
+            subst (λ (k : ℕ). Passed p wanted (fractionShare (w .5 .result .share)) (w .5 .result .blocks) (total + k) (i + 1))
             (sym (need-here p of))
             (passed-more p wanted i _ _ total (block p of) (inv .6 p of) (in-upper p of) (inv .5)
             (omega (arith, w .0 .taken, least-here p of, need-here p of)) _ _
             (omega (arith, at-most, same))
-            (ap shareAt (joined .share-is) ∙ same)
+            (ap fractionShare (joined .share-is) ∙ same)
             (λ e. joined .tied (same ∙ e))
             (λ l. joined .replaced (omega (arith, same)))),
       ))
@@ -293,8 +293,8 @@ module _ (c : tie.Joined2 Inv-loop μ-loop) where
         inv .5,
         λ p of.
             let same = ap₂ (λ (P k : ℕ). share P (k - 1)) (w .1 .ensures ∙ demands-popularity p _ _ of i i-below) (need-here p of) in
-            let kept = ltb-true (shareAt (Loop .loop .next .share)) (share (w .1 .result) (found - 1)) (sym (w .3 .ensures) ∙ not-false _ (w .4 .left)) in
-            subst (λ (k : ℕ). Passed p wanted (shareAt (Loop .loop .next .share)) (Loop .loop .next .blocks) (total + k) (i + 1))
+            let kept = ltb-true (fractionShare (Loop .loop .next .share)) (share (w .1 .result) (found - 1)) (sym (w .3 .ensures) ∙ not-false _ (w .4 .left)) in
+            subst (λ (k : ℕ). Passed p wanted (fractionShare (Loop .loop .next .share)) (Loop .loop .next .blocks) (total + k) (i + 1))
             (sym (need-here p of))
             (passed-kept p wanted i _ _ total (block p of) (inv .6 p of) (in-upper p of) (inv .5)
             (omega (arith, w .0 .taken, least-here p of, need-here p of))
@@ -306,7 +306,7 @@ module _ (c : tie.Joined2 Inv-loop μ-loop) where
         inv .4,
         inv .5,
         λ p of.
-            subst (λ (k : ℕ). Passed p wanted (shareAt (Loop .loop .next .share)) (Loop .loop .next .blocks) (total + k) (i + 1))
+            subst (λ (k : ℕ). Passed p wanted (fractionShare (Loop .loop .next .share)) (Loop .loop .next .blocks) (total + k) (i + 1))
             (sym (need-here p of))
             (passed-least p wanted i _ _ total (block p of) (inv .6 p of) (in-upper p of) (inv .5)
             (omega (arith, w .0 .left, least-here p of, need-here p of))),

@@ -1,5 +1,5 @@
 -- `readlog::append` meets its contract: its code is gone through by hand.
--- Where the place is below the limit the borrow is opened, the element there is taken out of the row and stored to, and the borrow is
+-- Where the place is below the span the borrow is opened, the element there is taken out of the row and stored to, and the borrow is
 -- closed at the list with the new entry; else the list stays. Both arms meet in `ends`.
 -- Assumes nothing.
 use mathlib.Core.Path.{_≡_, refl, sym, ap, subst}

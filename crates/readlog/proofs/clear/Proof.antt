@@ -53,17 +53,17 @@ no-entry : Is entryRow noEntry (entry-vals noEntry)
 no-entry = LL.owes T.the-type T′.the-laws noEntry ((refl, lit< tt), ((refl, lit< tt), tt))
 
 module _ {M : Type 1} (𝓤 : URA M) (H : Heap 𝓤) (A : Atoms 𝓤) (W : Given 𝓤 H A) (mem : Memory → SProp 𝓤) (run : Routine → Fun 𝓤)
-    (κ : Lft) (q : Share) (b o : ℕ) (γ : GName) (ys : List Entry) (start limit : ℕ)
-    (room : Room entryRow (length ys)) (gs : start < 2 ^ 64) (gl : limit < 2 ^ 64) (sl : start ≤ limit) (ll : limit ≤ length ys) where
+    (κ : Lft) (q : Share) (b o : ℕ) (γ : GName) (ys : List Entry) (start span : ℕ)
+    (room : Room entryRow (length ys)) (gs : start < 2 ^ 64) (gl : span < 2 ^ 64) (sl : start ≤ span) (ll : span ≤ length ys) where
   abbrev Arg : Type 0
   Arg = RefT (List Entry) × (ℕ × (ℕ × Unit {0}))
 
   abbrev x : Arg
-  x = (record { ptr = (b, o); name = γ; now = ys }, (start, (limit, tt)))
+  x = (record { ptr = (b, o); name = γ; now = ys }, (start, (span, tt)))
 
   -- the parameters as the machine holds them
   abbrev at : Vals f.signature (κ, tt)
-  at = (sliceVal (b, o) (length ys) ∷ [], (vint w64 start ∷ [], (vint w64 limit ∷ [], tt)))
+  at = (sliceVal (b, o) (length ys) ∷ [], (vint w64 start ∷ [], (vint w64 span ∷ [], tt)))
 
   -- the lifetime, the share and the arguments at which the contract is read
   abbrev bound : walkOf 𝓤 H A f.ended stayed (f.clauses 𝓤 H A mem run) .Ghost
@@ -73,7 +73,7 @@ module _ {M : Type 1} (𝓤 : URA M) (H : Heap 𝓤) (A : Atoms 𝓤) (W : Given
   Post = walkOf 𝓤 H A f.ended stayed (f.clauses 𝓤 H A mem run) .post bound
 
   -- the contract, from the list as it is at exit
-  exits : (zs : List Entry) → length zs ≡ length ys → zs ≡ cleared start limit ys
+  exits : (zs : List Entry) → length zs ≡ length ys → zs ≡ cleared start span ys
       → ent 𝓤 (⋆ 𝓤 H A (‵ (fobs γ (codedHoleys entryRow .code (heres entryRow zs))) ∷ ‵ (fbor κ (Held entryRow (length zs) b o γ)) ∷ ‵ (flft κ q) ∷ [])) (Post vunit)
   exits zs long said =
       qed W (‵ (fobs γ (codedHoleys entryRow .code (heres entryRow zs))) ∷ ‵ (fbor κ (Held entryRow (length zs) b o γ)) ∷ ‵ (flft κ q) ∷ []) ∵
@@ -87,23 +87,23 @@ module _ {M : Type 1} (𝓤 : URA M) (H : Heap 𝓤) (A : Atoms 𝓤) (W : Given
   abbrev list-at : ℕ → List Entry
   list-at i = cleared start i ys
 
-  inside : (i : ℕ) → i < limit → i < length ys
+  inside : (i : ℕ) → i < span → i < length ys
   inside i l = lt-of-lt-of-le l ll
 
-  bytes-fit : (i : ℕ) → i < limit → i * 8 < 2 ^ 64
+  bytes-fit : (i : ℕ) → i < span → i * 8 < 2 ^ 64
   bytes-fit i l = place-fits (length ys) i room (inside i l)
 
   abbrev Upto : Type 0
-  Upto = (i : ℕ) × ((start ≤ i) × (i ≤ limit))
+  Upto = (i : ℕ) × ((start ≤ i) × (i ≤ span))
 
   list-long : (i : Upto) → length (list-at (i .0)) ≡ length ys
-  list-long i = cleared-length start ys (i .0) (i .1 .0) (let l : i .0 ≤ limit = i .1 .1 in omega (arith, l, ll))
+  list-long i = cleared-length start ys (i .0) (i .1 .0) (let l : i .0 ≤ span = i .1 .1 in omega (arith, l, ll))
 
   abbrev Nearer : Upto → Upto → Type 0
-  Nearer j i = limit - j .0 < limit - i .0
+  Nearer j i = span - j .0 < span - i .0
 
   Nearer-wf : WellFounded Nearer
-  Nearer-wf = InvImage·wf (λ (i : Upto). limit - i .0) (Nat·lt-wfRel .wf)
+  Nearer-wf = InvImage·wf (λ (i : Upto). span - i .0) (Nat·lt-wfRel .wf)
 
   typed : T (hasTy T′.mir (LL.val T.the-type T′.the-laws noEntry)) × WT (LL.val T.the-type T′.the-laws noEntry)
   typed = LL.lawful T.the-type T′.the-laws 𝓤 H A W .typed noEntry (entry-vals noEntry) no-entry .0
@@ -127,7 +127,7 @@ module _ {M : Type 1} (𝓤 : URA M) (H : Heap 𝓤) (A : Atoms 𝓤) (W : Given
         ∷ ‵ (froom T′.mir l₆ 0) ∷ ‵ (fdies T′.mir l₆)
         ∷ ‵ (froom tyBool l₅ 0) ∷ ‵ (fdies tyBool l₅)
         ∷ ‵ (fat fullShare word l₄ 0 (vint w64 (i .0))) ∷ ‵ (fdies word l₄)
-        ∷ ‵ (fat fullShare word l₃ 0 (vint w64 limit)) ∷ ‵ (fdies word l₃)
+        ∷ ‵ (fat fullShare word l₃ 0 (vint w64 span)) ∷ ‵ (fdies word l₃)
         ∷ ‵ (fat fullShare word l₂ 0 (vint w64 start)) ∷ ‵ (fdies word l₂)
         ∷ ‵ (fat fullShare mutList l₁ 0 (sliceVal (b, o) (length ys))) ∷ ‵ (fdies mutList l₁)
         ∷ ‵ (froom tyUnit l₀ 0) ∷ ‵ (fdies tyUnit l₀) ∷ []
@@ -136,12 +136,12 @@ module _ {M : Type 1} (𝓤 : URA M) (H : Heap 𝓤) (A : Atoms 𝓤) (W : Given
     abbrev Turned : Upto → Out → SProp 𝓤
     Turned i = afterTurn 𝓤 H (Below 𝓤 H A Nearer At i) (afterBlock 𝓤 H (afterSeq 𝓤 H (Wp 𝓤 H C Λ En body.t-3 (atReturn 𝓤 H En Post)) (atReturn 𝓤 H En Post)))
 
-    -- at the limit the list is closed
-    ends : (i : Upto) → i .0 ≡ limit → Sq W (At i) (runs C Λ En body.turn-1 (anyQ (Turned i)))
+    -- at the span the list is closed
+    ends : (i : Upto) → i .0 ≡ span → Sq W (At i) (runs C Λ En body.turn-1 (anyQ (Turned i)))
     unfolding afterTurn
     ends i e =
         assigns ! (bin ! (load ! (from ! (stop !)) (look ! 12 refl)) (load ! (from ! (stop !)) (look ! 14 refl)) tt) (from ! (stop !)) (init ! 10 refl (tt, tt)) $
-        rewrite ! 10 (λ (t : Bool). ‵ (fat fullShare tyBool l₅ 0 (vbool t))) (le-ltb (i .0) limit (subst (λ (m : ℕ). limit ≤ m) (sym e) (le-refl limit))) refl $
+        rewrite ! 10 (λ (t : Bool). ‵ (fat fullShare tyBool l₅ 0 (vbool t))) (le-ltb (i .0) span (subst (λ (m : ℕ). span ≤ m) (sym e) (le-refl span))) refl $
         leaves-loop ! (load ! (from ! (stop !)) (look ! 10 refl)) $ exec ! C Λ En body.t-3 (atRet En Post) $
         assigns ! (of-opd ! (unit-lit !)) (from ! (stop !)) (init ! 20 refl (tt, tt)) $
         closes-slice ! tt entryRow ys (list-at (i .0)) (list-long i) b o $
@@ -151,11 +151,11 @@ module _ {M : Type 1} (𝓤 : URA M) (H : Heap 𝓤) (A : Atoms 𝓤) (W : Given
         by ! (exits (list-at (i .0)) (list-long i) (ap (λ (m : ℕ). cleared start m ys) e))
 
     -- a turn over one more record
-    more : (i : Upto) → i .0 < limit → Sq W (At i) (runs C Λ En body.turn-1 (anyQ (Turned i)))
+    more : (i : Upto) → i .0 < span → Sq W (At i) (runs C Λ En body.turn-1 (anyQ (Turned i)))
     unfolding afterTurn
     more i less =
         assigns ! (bin ! (load ! (from ! (stop !)) (look ! 12 refl)) (load ! (from ! (stop !)) (look ! 14 refl)) tt) (from ! (stop !)) (init ! 10 refl (tt, tt)) $
-        rewrite ! 10 (λ (t : Bool). ‵ (fat fullShare tyBool l₅ 0 (vbool t))) (lt-ltb (i .0) limit less) refl $ stays ! (load ! (from ! (stop !)) (look ! 10 refl)) $
+        rewrite ! 10 (λ (t : Bool). ‵ (fat fullShare tyBool l₅ 0 (vbool t))) (lt-ltb (i .0) span less) refl $ stays ! (load ! (from ! (stop !)) (look ! 10 refl)) $
         assigns ! (agg ! (and-then ! (lit ! tt) (and-then ! (lit ! tt) (no-more !)))) (from ! (stop !)) (init ! 8 refl typed) $
         assigns ! (bin ! (load ! (from ! (stop !)) (look ! 12 refl)) (lit ! tt) (record { fits = bytes-fit (i .0) less })) (from ! (stop !)) (init ! 6 refl (tt, record { fits = bytes-fit (i .0) less })) $
         assigns ! (bin ! (load ! (from ! (fld ! refl (stop !))) (look-in ! 18 (sub ! 0 refl (whole !)))) (load ! (from ! (stop !)) (look ! 6 refl)) tt) (from ! (stop !)) (init ! 4 refl (tt, tt)) $
@@ -168,7 +168,7 @@ module _ {M : Type 1} (𝓤 : URA M) (H : Heap 𝓤) (A : Atoms 𝓤) (W : Given
         assigns-last ! (bin ! (load ! (from ! (stop !)) (look ! 12 refl)) (lit ! tt) (record { fits = next-fits })) (from ! (stop !)) (store ! 12 refl (tt, record { fits = next-fits })) $
         forget ! 10 refl $ forget ! 8 refl $ forget ! 6 refl $ forget ! 4 refl $
         rewrite ! 0 (λ (zs : List Entry). ‵ (row entryRow fullShare zs b o)) (cleared-next start ys (i .0) (i .1 .0) (inside (i .0) less)) refl $
-        again ! Nearer At i (i .0 + 1, (next-above, add-one-le less)) (add-one-dec limit (i .0) less))
+        again ! Nearer At i (i .0 + 1, (next-above, add-one-le less)) (add-one-dec span (i .0) less))
       where
         here-inside : i .0 < length (list-at (i .0))
         here-inside = subst (λ (n : ℕ). i .0 < n) (sym (list-long i)) (inside (i .0) less)
@@ -185,12 +185,12 @@ module _ {M : Type 1} (𝓤 : URA M) (H : Heap 𝓤) (A : Atoms 𝓤) (W : Given
     from-loop : Sq W (At (start, (le-refl start, sl))) (runs C Λ En body.t-2 (atRet En Post))
     from-loop = first ! $ blocks ! $ loops ! 𝓣 Nearer Nearer-wf At turns (start, (le-refl start, sl))
 
-  walk : (𝓣 : Tables 𝓤 H) → ent 𝓤 (onEntry 𝓤 H A f.signature (κ, tt) (q, tt) x at) (WpFn 𝓤 H (𝓣 .C) (𝓣 .Λ) code.function (sliceVal (b, o) (length ys) ∷ vint w64 start ∷ vint w64 limit ∷ []) Post)
+  walk : (𝓣 : Tables 𝓤 H) → ent 𝓤 (onEntry 𝓤 H A f.signature (κ, tt) (q, tt) x at) (WpFn 𝓤 H (𝓣 .C) (𝓣 .Λ) code.function (sliceVal (b, o) (length ys) ∷ vint w64 start ∷ vint w64 span ∷ []) Post)
   walk 𝓣 =
       qed W ((‵ (flft κ q) ⊛ ‵ ftrue) ∷ ‵ (owns (MutSlice (named 0) κ entryRow ∷ usize ∷ usize ∷ []) x at) ∷ []) ∵
       -- of what is owned, the list and the token are kept
       split ! $ move ! (2 ∷ []) $ fsplit ! $ fsplit ! $ move ! (1 ∷ []) $ fsplit ! $ keep ! (0 ∷ 1 ∷ 4 ∷ []) $
-      enter ! (𝓣 .C) (𝓣 .Λ) code.function (sliceVal (b, o) (length ys) ∷ vint w64 start ∷ vint w64 limit ∷ []) _ $
+      enter ! (𝓣 .C) (𝓣 .Λ) code.function (sliceVal (b, o) (length ys) ∷ vint w64 start ∷ vint w64 span ∷ []) _ $
       alloc1 ! (λ l₀. alloc1 ! (λ l₁. alloc1 ! (λ l₂. alloc1 ! (λ l₃. alloc1 ! (λ l₄. alloc1 ! (λ l₅. alloc1 ! (λ l₆. alloc1 ! (λ l₇. alloc1 ! (λ l₈. alloc0 ! $ params1 ! $
       pass1 ! (init ! 14 refl (tt, (tt, (record { fits = room .0 }, tt)))) $ pass1 ! (init ! 12 refl (tt, record { fits = gs })) $ pass1 ! (init ! 10 refl (tt, record { fits = gl })) $ pass0 ! $
       assigns ! (of-opd ! (load ! (from ! (stop !)) (look ! 12 refl))) (from ! (stop !)) (init ! 8 refl (tt, record { fits = gs })) $

@@ -1,6 +1,6 @@
 -- `readlog::compact` meets its contract. Its MIR is gone through by hand, with the lent list open from before the loop until after it:
 -- after i records the list and the number kept are those of `swept tick list i`, and a turn is one more `sweep`, by the contract of
--- `window::keep`.
+-- `readwindow::keep`.
 -- Assumes nothing.
 use native.Mathlib.Nat.{lt-of-le-of-lt, lt-of-lt-of-le, le-refl}
 use native.Mathlib.Numerals.{add-one-le}
@@ -37,11 +37,11 @@ use Rattle.model.specs.declared.Entry.{Entry}
 use Rattle.model.specs.ReadLog.{noEntry}
 use Rattle.model.proofs.Entry as T
 use Rattle.model.proofs.Entry.Laws as T′
-use Rattle.window.specs.Window.{keptWith}
-use Rattle.window.proofs.keep as keeps
-use Rattle.window.proofs.keep.Symbol as keep-def
-use Rattle.window.proofs.keep.Symbol.{name as #window·keep}
-use Rattle.window.proofs.keep.Met as keep-thm
+use Rattle.readwindow.specs.Window.{keptWith}
+use Rattle.readwindow.proofs.keep as keeps
+use Rattle.readwindow.proofs.keep.Symbol as keep-def
+use Rattle.readwindow.proofs.keep.Symbol.{name as #readwindow·keep}
+use Rattle.readwindow.proofs.keep.Met as keep-thm
 use Rattle.readlog.specs.Records.{Swept, SweptTo, sweep, swept}
 use Rattle.readlog.proofs.compact.Key.{name as #readlog·compact}
 use Rattle.readlog.proofs.compact as f
@@ -155,7 +155,7 @@ module _ {M : Type 1} (𝓤 : URA M) (H : Heap 𝓤) (A : Atoms 𝓤) (W : Given
   Nearer-wf : WellFounded Nearer
   Nearer-wf = InvImage·wf (λ (i : Upto). count - i .0) (Nat·lt-wfRel .wf)
 
-  module _ (𝓣 : Tables 𝓤 H) (known : Triple 𝓤 (𝓣 .C #window·keep) (Keep 𝓤 H A at-mem run)) (l₀ l₁ l₂ l₃ l₄ l₅ l₆ l₇ l₈ l₉ l₁₀ l₁₁ : ℕ) where
+  module _ (𝓣 : Tables 𝓤 H) (known : Triple 𝓤 (𝓣 .C #readwindow·keep) (Keep 𝓤 H A at-mem run)) (l₀ l₁ l₂ l₃ l₄ l₅ l₆ l₇ l₈ l₉ l₁₀ l₁₁ : ℕ) where
     abbrev C : Calls 𝓤 H
     C = 𝓣 .C
 
@@ -268,7 +268,7 @@ module _ {M : Type 1} (𝓤 : URA M) (H : Heap 𝓤) (A : Atoms 𝓤) (W : Given
     from-loop : Sq W (At (0, zero-le)) (runs C Λ En body.t-3 (atRet En Post))
     from-loop = first ! $ blocks ! $ loops ! 𝓣 Nearer Nearer-wf At turns (0, zero-le)
 
-  walk : (𝓣 : Tables 𝓤 H) → Triple 𝓤 (𝓣 .C #window·keep) (Keep 𝓤 H A at-mem run) → ent 𝓤 (onEntry 𝓤 H A f.signature (κ, tt) (q, tt) x at)
+  walk : (𝓣 : Tables 𝓤 H) → Triple 𝓤 (𝓣 .C #readwindow·keep) (Keep 𝓤 H A at-mem run) → ent 𝓤 (onEntry 𝓤 H A f.signature (κ, tt) (q, tt) x at)
       (WpFn 𝓤 H (𝓣 .C) (𝓣 .Λ) code.function (sliceVal (b, o) (length ys) ∷ vint w64 count ∷ vint w32 tick ∷ []) Post)
   walk 𝓣 known =
       qed W ((‵ (flft κ q) ⊛ ‵ ftrue) ∷ ‵ (owns (MutSlice (named 0) κ entryRow ∷ usize ∷ u32 ∷ []) x at) ∷ []) ∵
@@ -286,7 +286,7 @@ module _ {M : Type 1} (𝓤 : URA M) (H : Heap 𝓤) (A : Atoms 𝓤) (W : Given
       from-loop 𝓣 known l₀ l₁ l₂ l₃ l₄ l₅ l₆ l₇ l₈ l₉ l₁₀ l₁₁))))))))))))
 
 module _ {M : Type 1} (𝓤 : URA M) (H : Heap 𝓤) (A : Atoms 𝓤) (W : Given 𝓤 H A) (at-mem : Memory → SProp 𝓤) (run : Routine → Fun 𝓤) (𝓣 : Tables 𝓤 H)
-    (known : Triple 𝓤 (𝓣 .C #window·keep) (Keep 𝓤 H A at-mem run)) where
+    (known : Triple 𝓤 (𝓣 .C #readwindow·keep) (Keep 𝓤 H A at-mem run)) where
   compact-walks : Walks 𝓤 H A f.ended stayed (WpFn 𝓤 H (𝓣 .C) (𝓣 .Λ) code.function) (f.clauses 𝓤 H A at-mem run)
   compact-walks =
       walked 𝓤 H A f.ended stayed (f.clauses 𝓤 H A at-mem run) (WpFn 𝓤 H (𝓣 .C) (𝓣 .Λ) code.function)
@@ -311,4 +311,4 @@ compact-spec 𝓤 H 𝓜 𝓖 𝓡 =
     entered 𝓤 H (tripleOf 𝓤 H (𝓖 .A) f.signature (f.spec 𝓤 H (𝓖 .A) (𝓜 .mem) (𝓡 .run)))
     (tables 𝓤 H 𝓜 𝓡 code.env .C) (tables 𝓤 H 𝓜 𝓡 code.env .Λ) #readlog·compact code.function (code.unfolded 𝓤 H 𝓜 𝓡)
     (compact-meets 𝓤 H (𝓖 .A) (givenOf 𝓤 H 𝓜 𝓖) (𝓜 .mem) (𝓡 .run) (tablesOf 𝓤 H 𝓜 (tables 𝓤 H 𝓜 𝓡 code.env))
-    (cited 𝓤 H (Keep 𝓤 H (𝓖 .A) (𝓜 .mem) (𝓡 .run)) 𝓜 𝓡 code.env #window·keep keep-def.routine code.calls-window·keep (keep-thm.met 𝓤 H 𝓜 𝓖 𝓡)))
+    (cited 𝓤 H (Keep 𝓤 H (𝓖 .A) (𝓜 .mem) (𝓡 .run)) 𝓜 𝓡 code.env #readwindow·keep keep-def.routine code.calls-readwindow·keep (keep-thm.met 𝓤 H 𝓜 𝓖 𝓡)))

@@ -69,8 +69,8 @@ module _ {M : Type 1} (𝓤 : URA M) (H : Heap 𝓤) (A : Atoms 𝓤) (mem : Mem
   Clear = tripleOf 𝓤 H A clear.signature (clear.spec 𝓤 H A mem run)
 
 module _ {M : Type 1} (𝓤 : URA M) (H : Heap 𝓤) (A : Atoms 𝓤) (W : Given 𝓤 H A) (mem : Memory → SProp 𝓤) (run : Routine → Fun 𝓤) (κ : Lft) (q : Share)
-    (b o : ℕ) (γ : GName) (ys : List Entry) (limit count tick : ℕ)
-    (room : Room entryRow (length ys)) (gl : limit < 2 ^ 64) (gc : count < 2 ^ 64) (gt : tick < 2 ^ 32) (ll : limit ≤ length ys) (cl : count ≤ limit) where
+    (b o : ℕ) (γ : GName) (ys : List Entry) (span count tick : ℕ)
+    (room : Room entryRow (length ys)) (gl : span < 2 ^ 64) (gc : count < 2 ^ 64) (gt : tick < 2 ^ 32) (ll : span ≤ length ys) (cl : count ≤ span) where
   abbrev Arg : Type 0
   Arg = RefT (List Entry) × (ℕ × (ℕ × (ℕ × Unit {0})))
 
@@ -79,14 +79,14 @@ module _ {M : Type 1} (𝓤 : URA M) (H : Heap 𝓤) (A : Atoms 𝓤) (W : Given
   at-list δ zs = record { ptr = (b, o); name = δ; now = zs }
 
   abbrev x : Arg
-  x = (at-list γ ys, (limit, (count, (tick, tt))))
+  x = (at-list γ ys, (span, (count, (tick, tt))))
 
   -- the machine values that x has
   abbrev vl : Val
   vl = sliceVal (b, o) (length ys)
 
   abbrev at : Vals f.signature (κ, tt)
-  at = (vl ∷ [], (vint w64 limit ∷ [], (vint w64 count ∷ [], (vint w32 tick ∷ [], tt))))
+  at = (vl ∷ [], (vint w64 span ∷ [], (vint w64 count ∷ [], (vint w32 tick ∷ [], tt))))
 
   -- what the triple binds outside
   abbrev bound : walkOf 𝓤 H A f.ended stayed (f.clauses 𝓤 H A mem run) .Ghost
@@ -116,18 +116,18 @@ module _ {M : Type 1} (𝓤 : URA M) (H : Heap 𝓤) (A : Atoms 𝓤) (W : Given
 
   -- the list is given for good: at its own lifetime, share and ghost name
   abbrev to-clear : List Entry → ℕ → Clear 𝓤 H A mem run .Ghost
-  to-clear zs kept = (((κ, tt), (q, tt), tt, (at-list γ zs, (kept, (limit, tt))), (vl ∷ [], (vint w64 kept ∷ [], (vint w64 limit ∷ [], tt)))), tt)
+  to-clear zs kept = (((κ, tt), (q, tt), tt, (at-list γ zs, (kept, (span, tt))), (vl ∷ [], (vint w64 kept ∷ [], (vint w64 span ∷ [], tt)))), tt)
 
-  goes-clear : (zs : List Entry) (kept : ℕ) → kept < 2 ^ 64 → kept ≤ limit → limit ≤ length zs
+  goes-clear : (zs : List Entry) (kept : ℕ) → kept < 2 ^ 64 → kept ≤ span → span ≤ length zs
       → ent 𝓤 (sep 𝓤 (sem 𝓤 H A (list-own zs)) (sem 𝓤 H A (flft κ q))) (Clear 𝓤 H A mem run .pre (to-clear zs kept))
   goes-clear zs kept gk kl lz =
       qed W (‵ (list-own zs) ∷ ‵ (flft κ q) ∷ []) ∵ says ! (kl, lz) $ nothing ! $ move ! (2 ∷ 0 ∷ []) $ join ! $ nothing ! $
-      owned ! usize (Is usize) (uint-makes 𝓤 H A W w64) limit (vint w64 limit ∷ []) (refl, gl) $ fjoin ! $
+      owned ! usize (Is usize) (uint-makes 𝓤 H A W w64) span (vint w64 span ∷ []) (refl, gl) $ fjoin ! $
       owned ! usize (Is usize) (uint-makes 𝓤 H A W w64) kept (vint w64 kept ∷ []) (refl, gk) $ fjoin ! $ move ! (2 ∷ 0 ∷ []) $ fjoin ! $ move ! (1 ∷ 0 ∷ []) $ frame ! $ done !
 
   -- ── The exit ───────────────────────────────────────────────────────────────────────────────────────────────────────────
 
-  exits : (kept : ℕ) (ws : List Entry) → kept < 2 ^ 64 → length ws ≡ length ys → CompactedAs tick limit count ys ws kept
+  exits : (kept : ℕ) (ws : List Entry) → kept < 2 ^ 64 → length ws ≡ length ys → CompactedAs tick span count ys ws kept
       → ent 𝓤 (⋆ 𝓤 H A (‵ (flft κ q) ∷ ‵ (finally entryRow γ ws) ∷ [])) (Post (vint w64 kept))
   exits kept ws gk long old =
       qed W (‵ (flft κ q) ∷ ‵ (finally entryRow γ ws) ∷ []) ∵
@@ -139,7 +139,7 @@ module _ {M : Type 1} (𝓤 : URA M) (H : Heap 𝓤) (A : Atoms 𝓤) (W : Given
   -- ── The walk ───────────────────────────────────────────────────────────────────────────────────────────────────────────
 
   module _ (𝓣 : Tables 𝓤 H) (clears : Triple 𝓤 (𝓣 .C #readlog·clear) (Clear 𝓤 H A mem run)) (l₀ l₁ l₂ l₃ l₄ l₅ l₆ l₇ l₈ l₉ l₁₀ : ℕ) where
-    -- the locals: the answer, the list, limit, count, tick, the number kept; then what is lent to `compact`, the result of `clear` and what
+    -- the locals: the answer, the list, span, count, tick, the number kept; then what is lent to `compact`, the result of `clear` and what
     -- is given to it
     abbrev En : Env 𝓤 H
     En = (word, l₀) ∷ (mutList, l₁) ∷ (word, l₂) ∷ (word, l₃) ∷ (half, l₄) ∷ (word, l₅) ∷ (mutPtr, l₆) ∷ (sliceTy mutPtr, l₇) ∷ (tyUnit, l₈) ∷ (mutPtr, l₉) ∷ (sliceTy mutPtr, l₁₀) ∷ []
@@ -150,18 +150,18 @@ module _ {M : Type 1} (𝓤 : URA M) (H : Heap 𝓤) (A : Atoms 𝓤) (W : Given
         ∷ ‵ (froom (sliceTy mutPtr) l₁₀ 0) ∷ ‵ (fdies (sliceTy mutPtr) l₁₀) ∷ ‵ (froom mutPtr l₉ 0) ∷ ‵ (fdies mutPtr l₉) ∷ ‵ (froom tyUnit l₈ 0) ∷ ‵ (fdies tyUnit l₈)
         ∷ ‵ (froom (sliceTy mutPtr) l₇ 0) ∷ ‵ (fdies (sliceTy mutPtr) l₇) ∷ ‵ (froom mutPtr l₆ 0) ∷ ‵ (fdies mutPtr l₆) ∷ ‵ (fat fullShare word l₅ 0 (vint w64 kept)) ∷ ‵ (fdies word l₅)
         ∷ ‵ (fat fullShare half l₄ 0 (vint w32 tick)) ∷ ‵ (fdies half l₄) ∷ ‵ (fat fullShare word l₃ 0 (vint w64 count)) ∷ ‵ (fdies word l₃)
-        ∷ ‵ (fat fullShare word l₂ 0 (vint w64 limit)) ∷ ‵ (fdies word l₂) ∷ ‵ (fat fullShare mutList l₁ 0 vl) ∷ ‵ (fdies mutList l₁) ∷ ‵ (froom word l₀ 0) ∷ ‵ (fdies word l₀) ∷ [])
+        ∷ ‵ (fat fullShare word l₂ 0 (vint w64 span)) ∷ ‵ (fdies word l₂) ∷ ‵ (fat fullShare mutList l₁ 0 vl) ∷ ‵ (fdies mutList l₁) ∷ ‵ (froom word l₀ 0) ∷ ‵ (fdies word l₀) ∷ [])
         (runs (𝓣 .C) (𝓣 .Λ) En body.t-4 (atRet En Post))
     cleared-behind zs kept gk long moved =
         assigns ! (addr ! (from ! (fld ! refl (hop ! (look-in ! 20 (sub ! 0 refl (whole !))) (stop !))))) (from ! (stop !)) (init ! 4 refl (tt, tt)) $
         assigns ! (agg ! (and-then ! (load ! (from ! (stop !)) (look ! 4 refl)) (and-then ! (load ! (from ! (fld ! refl (stop !))) (look-in ! 20 (sub ! 1 refl (whole !)))) (no-more !)))) (from ! (stop !)) (init ! 2 refl (tt, (tt, (record { fits = room .0 }, tt)))) $
-        use2 W (raw (Clear 𝓤 H A mem run .pre (to-clear zs kept))) (goes-clear zs kept gk (swept-most tick limit count ys zs kept cl moved) (subst (λ (n : ℕ). limit ≤ n) (sym long) ll)) $
+        use2 W (raw (Clear 𝓤 H A mem run .pre (to-clear zs kept))) (goes-clear zs kept gk (swept-most tick span count ys zs kept cl moved) (subst (λ (n : ℕ). span ≤ n) (sym long) ll)) $
         -- [what the call needs; _10; …; _0; …]
         calls-at ! (fmOf 𝓤 H (W .laws) 𝓣) (Clear 𝓤 H A mem run) clears (to-clear zs kept)
         (and-then ! (load ! (from ! (stop !)) (look ! 1 refl)) (and-then ! (load ! (from ! (stop !)) (look ! 11 refl)) (and-then ! (load ! (from ! (stop !)) (look ! 17 refl)) (no-more !)))) (λ u.
         use1 W (later (some (λ (r : Unit {0}). ((‵ (flft κ q) ⊛ ‵ ftrue) ⊛ ‵ (Nothing .own r (u ∷ []))) ⊛ raw (ensured 𝓤 H A clear.ended (clear.clauses 𝓤 H A mem run) (κ, tt) (to-clear zs kept .0 .3) tt r)))) (id⊢ 𝓤 _) $ await ! tt $ pick ! (λ _.
-        split ! $ move ! (1 ∷ []) $ use1 W (some (λ (ws : List Entry × (Unit {0} × (Unit {0} × Unit {0}))). ‵ (lasts clear.ended (κ, tt) (to-clear zs kept .0 .3) ws) ⊛ raw (fact 𝓤 (ws .0 ≡ cleared kept limit zs)))) (id⊢ 𝓤 _) $ pick ! (λ ws.
-        split ! $ move ! (1 ∷ []) $ heard ! (ws .0 ≡ cleared kept limit zs) (λ new. fsplit ! $ fsplit ! $ move ! (1 ∷ []) $ feqL ! (λ same. move ! (1 ∷ []) $ drop ! $
+        split ! $ move ! (1 ∷ []) $ use1 W (some (λ (ws : List Entry × (Unit {0} × (Unit {0} × Unit {0}))). ‵ (lasts clear.ended (κ, tt) (to-clear zs kept .0 .3) ws) ⊛ raw (fact 𝓤 (ws .0 ≡ cleared kept span zs)))) (id⊢ 𝓤 _) $ pick ! (λ ws.
+        split ! $ move ! (1 ∷ []) $ heard ! (ws .0 ≡ cleared kept span zs) (λ new. fsplit ! $ fsplit ! $ move ! (1 ∷ []) $ feqL ! (λ same. move ! (1 ∷ []) $ drop ! $
         move ! (1 ∷ []) $ split ! $ move ! (1 ∷ []) $ feqL ! (λ is-u. split ! $ move ! (1 ∷ []) $ drop ! $
         -- [the list's token; its last value; _10; …; _0; …]
         land ! (from ! (stop !)) (init ! 6 refl (subst (λ (y : Val). T (hasTy tyUnit y) × WT y) (sym (ap only is-u)) (tt, tt))) $
@@ -169,14 +169,14 @@ module _ {M : Type 1} (𝓤 : URA M) (H : Heap 𝓤) (A : Atoms 𝓤) (W : Given
         returns ! (look ! 22 refl) $ forget ! 22 refl $ forget ! 20 refl $ forget ! 18 refl $ forget ! 16 refl $ forget ! 14 refl $ forget ! 12 refl $ forget ! 6 refl $ forget ! 4 refl $ forget ! 2 refl $
         move ! (22 ∷ 23 ∷ []) $ free1 ! $ move ! (20 ∷ 21 ∷ []) $ free1 ! $ move ! (18 ∷ 19 ∷ []) $ free1 ! $ move ! (16 ∷ 17 ∷ []) $ free1 ! $ move ! (14 ∷ 15 ∷ []) $ free1 ! $ move ! (12 ∷ 13 ∷ []) $ free1 ! $
         move ! (10 ∷ 11 ∷ []) $ free1 ! $ move ! (8 ∷ 9 ∷ []) $ free1 ! $ move ! (6 ∷ 7 ∷ []) $ free1 ! $ move ! (4 ∷ 5 ∷ []) $ free1 ! $ move ! (2 ∷ 3 ∷ []) $ free1 ! $ free0 ! $
-        by ! (exits kept (ws .0) gk (same ∙ long) (subst (λ (l : List Entry). CompactedAs tick limit count ys l kept) (sym new) (cleared-compacted tick limit count ys zs kept ll cl moved)))))))))
+        by ! (exits kept (ws .0) gk (same ∙ long) (subst (λ (l : List Entry). CompactedAs tick span count ys l kept) (sym new) (cleared-compacted tick span count ys zs kept ll cl moved)))))))))
 
   walk : (𝓣 : Tables 𝓤 H) → Triple 𝓤 (𝓣 .C #readlog·compact) (Compact 𝓤 H A mem run) → Triple 𝓤 (𝓣 .C #readlog·clear) (Clear 𝓤 H A mem run)
-      → ent 𝓤 (onEntry 𝓤 H A f.signature (κ, tt) (q, tt) x at) (WpFn 𝓤 H (𝓣 .C) (𝓣 .Λ) code.function (vl ∷ vint w64 limit ∷ vint w64 count ∷ vint w32 tick ∷ []) Post)
+      → ent 𝓤 (onEntry 𝓤 H A f.signature (κ, tt) (q, tt) x at) (WpFn 𝓤 H (𝓣 .C) (𝓣 .Λ) code.function (vl ∷ vint w64 span ∷ vint w64 count ∷ vint w32 tick ∷ []) Post)
   walk 𝓣 compacts clears =
       qed W ((‵ (flft κ q) ⊛ ‵ ftrue) ∷ ‵ (owns (MutSlice (named 0) κ entryRow ∷ usize ∷ usize ∷ u32 ∷ []) x at) ∷ []) ∵
       split ! $ move ! (2 ∷ []) $ fsplit ! $ keep ! (0 ∷ 2 ∷ []) $
-      enter ! (𝓣 .C) (𝓣 .Λ) code.function (vl ∷ vint w64 limit ∷ vint w64 count ∷ vint w32 tick ∷ []) _ $
+      enter ! (𝓣 .C) (𝓣 .Λ) code.function (vl ∷ vint w64 span ∷ vint w64 count ∷ vint w32 tick ∷ []) _ $
       alloc1 ! (λ l₀. alloc1 ! (λ l₁. alloc1 ! (λ l₂. alloc1 ! (λ l₃. alloc1 ! (λ l₄. alloc1 ! (λ l₅. alloc1 ! (λ l₆. alloc1 ! (λ l₇. alloc1 ! (λ l₈. alloc1 ! (λ l₉. alloc1 ! (λ l₁₀. alloc0 ! $ params1 ! $
       pass1 ! (init ! 18 refl (tt, (tt, (record { fits = room .0 }, tt)))) $ pass1 ! (init ! 16 refl (tt, record { fits = gl })) $ pass1 ! (init ! 14 refl (tt, record { fits = gc })) $
       pass1 ! (init ! 12 refl (tt, record { fits = gt })) $ pass0 ! $ move ! (22 ∷ 23 ∷ []) $

@@ -1,4 +1,4 @@
--- `readlog::reads_of` meets its contract: a walk of its MIR, by hand. The list is looked into once before the loop and shut once after it; each record is counted by `window::tally`.
+-- `readlog::reads_of` meets its contract: a walk of its MIR, by hand. The list is looked into once before the loop and shut once after it; each record is counted by `readwindow::tally`.
 -- Assumes nothing.
 use Rattle.readlog.proofs.Prelude.{_≡_, refl, sym, _∙_, ap, inl, inr, List, [], _∷_, WellFounded, InvImage·wf, ℕ, _+_, _*_, _-_, _≤_}
 use Rattle.readlog.proofs.Prelude.{_<_, _^_, zero-le, eq-or-lt-of-le, arith, add-one-dec, lt-ltb, le-ltb, Nat·lt-wfRel, lit<, length}
@@ -22,11 +22,11 @@ use Rattle.readlog.proofs.Entries.{entryRow, entry-vals, entry-tells, e
 use Rattle.readlog.proofs.CountLaws.{readsOf-[], readsOf-take, readsOf-le}
 use Rattle.model.specs.declared.Entry.{Entry}
 use Rattle.model.specs.ReadLog.{noEntry, readsOf}
-use Rattle.window.specs.Window.{tallied}
-use Rattle.window.proofs.tally as tally
-use Rattle.window.proofs.tally.Symbol as tally-def
-use Rattle.window.proofs.tally.Symbol.{name as #window·tally}
-use Rattle.window.proofs.tally.Met as tally-thm
+use Rattle.readwindow.specs.Window.{tallied}
+use Rattle.readwindow.proofs.tally as tally
+use Rattle.readwindow.proofs.tally.Symbol as tally-def
+use Rattle.readwindow.proofs.tally.Symbol.{name as #readwindow·tally}
+use Rattle.readwindow.proofs.tally.Met as tally-thm
 use Rattle.readlog.proofs.reads_of.Key.{name as #readlog·reads-of}
 use Rattle.readlog.proofs.reads_of as f
 use Rattle.readlog.proofs.reads_of.Statement as stated
@@ -111,7 +111,7 @@ module _ {M : Type 1} (𝓤 : URA M) (H : Heap 𝓤) (A : Atoms 𝓤) (W : Given
       let g : length ys * 8 < 2 ^ 63 = room .1 in
       omega arith
 
-  module _ (𝓣 : Tables 𝓤 H) (known : Triple 𝓤 (𝓣 .C #window·tally) (Tally 𝓤 H A mem run)) (q′ : Share) (l₀ l₁ l₂ l₃ l₄ l₅ l₆ l₇ l₈ l₉ : ℕ) where
+  module _ (𝓣 : Tables 𝓤 H) (known : Triple 𝓤 (𝓣 .C #readwindow·tally) (Tally 𝓤 H A mem run)) (q′ : Share) (l₀ l₁ l₂ l₃ l₄ l₅ l₆ l₇ l₈ l₉ : ℕ) where
     -- the locals: the result, the list, count, block, found, i, the test, the bytes before record i, its place, and its block
     abbrev En : Env 𝓤 H
     En = (word, l₀) ∷ (shrList, l₁) ∷ (word, l₂) ∷ (half, l₃) ∷ (word, l₄) ∷ (word, l₅) ∷ (tyBool, l₆) ∷ (word, l₇) ∷ (tyPtr, l₈) ∷ (half, l₉) ∷ []
@@ -197,7 +197,7 @@ module _ {M : Type 1} (𝓤 : URA M) (H : Heap 𝓤) (A : Atoms 𝓤) (W : Given
     counts : Sq W (At (0, zero-le)) (runs (𝓣 .C) (𝓣 .Λ) En body.t-3 (atRet En Post))
     counts = first ! $ blocks ! $ loops ! 𝓣 Nearer Nearer-wf At turns (0, zero-le)
 
-  walk : (𝓣 : Tables 𝓤 H) → Triple 𝓤 (𝓣 .C #window·tally) (Tally 𝓤 H A mem run) → ent 𝓤 (onEntry 𝓤 H A f.signature (κ, tt) (q, tt) x at)
+  walk : (𝓣 : Tables 𝓤 H) → Triple 𝓤 (𝓣 .C #readwindow·tally) (Tally 𝓤 H A mem run) → ent 𝓤 (onEntry 𝓤 H A f.signature (κ, tt) (q, tt) x at)
       (WpFn 𝓤 H (𝓣 .C) (𝓣 .Λ) code.function (sliceVal (b, o) (length ys) ∷ vint w64 count ∷ vint w32 block ∷ []) Post)
   walk 𝓣 known =
       qed W ((‵ (flft κ q) ⊛ ‵ ftrue) ∷ ‵ (owns (ShrSlice (named 0) κ entryRow ∷ usize ∷ u32 ∷ []) x at) ∷ []) ∵
@@ -213,7 +213,7 @@ module _ {M : Type 1} (𝓤 : URA M) (H : Heap 𝓤) (A : Atoms 𝓤) (W : Given
       counts 𝓣 known q′ l₀ l₁ l₂ l₃ l₄ l₅ l₆ l₇ l₈ l₉)))))))))))
 
 module _ {M : Type 1} (𝓤 : URA M) (H : Heap 𝓤) (A : Atoms 𝓤) (W : Given 𝓤 H A) (mem : Memory → SProp 𝓤) (run : Routine → Fun 𝓤) where
-  reads-of-walks : (𝓣 : Tables 𝓤 H) → Triple 𝓤 (𝓣 .C #window·tally) (Tally 𝓤 H A mem run) → Walks 𝓤 H A f.ended stayed (WpFn 𝓤 H (𝓣 .C) (𝓣 .Λ) code.function) (f.clauses 𝓤 H A mem run)
+  reads-of-walks : (𝓣 : Tables 𝓤 H) → Triple 𝓤 (𝓣 .C #readwindow·tally) (Tally 𝓤 H A mem run) → Walks 𝓤 H A f.ended stayed (WpFn 𝓤 H (𝓣 .C) (𝓣 .Λ) code.function) (f.clauses 𝓤 H A mem run)
   reads-of-walks 𝓣 known = walked 𝓤 H A f.ended stayed (f.clauses 𝓤 H A mem run) (WpFn 𝓤 H (𝓣 .C) (𝓣 .Λ) code.function) (λ κs. (slice-vals, (uint-vals w64, (uint-vals w32, tt)))) (λ κs. (shr-slice-tells (named 0) (κs .0) entryRow, (uint-tells w64, (uint-tells w32, tt))))
       (λ κs qs bounds a g are. needs 𝓤 (a .1 .0 ≤ length (now (a .0))) _ (λ within.
       walk 𝓤 H A W mem run (κs .0) (qs .0) (a .0 .ptr .0) (a .0 .ptr .1) (a .0 .name) (a .0 .now) (a .1 .0) (a .1 .1 .0) (are .0 .0 .1) (are .1 .0 .1) (are .1 .1 .0 .1) within 𝓣 known))
@@ -221,7 +221,7 @@ module _ {M : Type 1} (𝓤 : URA M) (H : Heap 𝓤) (A : Atoms 𝓤) (W : Given
   goes : AllGo 𝓤 H A W 1 (f.signature .params) (f.ended .kept) stayed
   goes = (goes-none-slice 𝓤 H A W 1 (0 ∷ []) tt (plain (λ _. entryRow)) yes, (goes-none 𝓤 H A W 1 (λ _. usize) yes (λ κs x f. refl), (goes-none 𝓤 H A W 1 (λ _. u32) yes (λ κs x f. refl), tt)))
 
-reads-of-meets : {M : Type 1} (𝓤 : URA M) (H : Heap 𝓤) (A : Atoms 𝓤) → Given 𝓤 H A → (mem : Memory → SProp 𝓤) (run : Routine → Fun 𝓤) (𝓣 : Tables 𝓤 H) → Triple 𝓤 (𝓣 .C #window·tally) (Tally 𝓤 H A mem run)
+reads-of-meets : {M : Type 1} (𝓤 : URA M) (H : Heap 𝓤) (A : Atoms 𝓤) → Given 𝓤 H A → (mem : Memory → SProp 𝓤) (run : Routine → Fun 𝓤) (𝓣 : Tables 𝓤 H) → Triple 𝓤 (𝓣 .C #readwindow·tally) (Tally 𝓤 H A mem run)
     → Meets 𝓤 H A f.signature (WpFn 𝓤 H (𝓣 .C) (𝓣 .Λ) code.function) (f.spec 𝓤 H A mem run)
 reads-of-meets 𝓤 H A W mem run 𝓣 known = walk-meets 𝓤 H A f.ended stayed W (goes 𝓤 H A W mem run) (f.clauses 𝓤 H A mem run) (WpFn 𝓤 H (𝓣 .C) (𝓣 .Λ) code.function) (WpFn-mono 𝓤 H (W .laws) 𝓣 code.function) (reads-of-walks 𝓤 H A W mem run 𝓣 known)
 
@@ -231,4 +231,4 @@ reads-of-spec 𝓤 H 𝓜 𝓖 𝓡 =
     entered 𝓤 H (tripleOf 𝓤 H (𝓖 .A) f.signature (f.spec 𝓤 H (𝓖 .A) (𝓜 .mem) (𝓡 .run)))
     (tables 𝓤 H 𝓜 𝓡 code.env .C) (tables 𝓤 H 𝓜 𝓡 code.env .Λ) #readlog·reads-of code.function (code.unfolded 𝓤 H 𝓜 𝓡)
     (reads-of-meets 𝓤 H (𝓖 .A) (givenOf 𝓤 H 𝓜 𝓖) (𝓜 .mem) (𝓡 .run) (tablesOf 𝓤 H 𝓜 (tables 𝓤 H 𝓜 𝓡 code.env))
-    (cited 𝓤 H (Tally 𝓤 H (𝓖 .A) (𝓜 .mem) (𝓡 .run)) 𝓜 𝓡 code.env #window·tally tally-def.routine code.calls-window·tally (tally-thm.met 𝓤 H 𝓜 𝓖 𝓡)))
+    (cited 𝓤 H (Tally 𝓤 H (𝓖 .A) (𝓜 .mem) (𝓡 .run)) 𝓜 𝓡 code.env #readwindow·tally tally-def.routine code.calls-readwindow·tally (tally-thm.met 𝓤 H 𝓜 𝓖 𝓡)))

@@ -26,26 +26,26 @@ use Rattle.readlog.proofs.Entries.{entryRow}
 use Rattle.model.specs.declared.Entry.{Entry}
 use Rattle.model.specs.Refusal.{judge}
 use Rattle.model.specs.ReadLog.{readsOf, popularityCall}
-use Rattle.lookup.specs.declared.Searched.{Searched}
-use Rattle.window.specs.declared.ReadsAnswer.{ReadsAnswer}
-use Rattle.window.specs.Window.{popularityNumber}
-use Rattle.lookup.specs.Lookup.{searched}
-use Rattle.lookup.proofs.Searched as S
-use Rattle.lookup.proofs.Searched.Laws as S′
-use Rattle.window.proofs.ReadsAnswer as R
-use Rattle.window.proofs.ReadsAnswer.Laws as R′
-use Rattle.lookup.proofs.search as search
-use Rattle.lookup.proofs.search.Symbol as search-def
-use Rattle.lookup.proofs.search.Symbol.{name as #lookup·search}
-use Rattle.lookup.proofs.search.Met as search-thm
+use Rattle.readlookup.specs.declared.Searched.{Searched}
+use Rattle.readwindow.specs.declared.ReadsAnswer.{ReadsAnswer}
+use Rattle.readwindow.specs.Window.{popularityNumber}
+use Rattle.readlookup.specs.Lookup.{searched}
+use Rattle.readlookup.proofs.Searched as S
+use Rattle.readlookup.proofs.Searched.Laws as S′
+use Rattle.readwindow.proofs.ReadsAnswer as R
+use Rattle.readwindow.proofs.ReadsAnswer.Laws as R′
+use Rattle.readlookup.proofs.search as search
+use Rattle.readlookup.proofs.search.Symbol as search-def
+use Rattle.readlookup.proofs.search.Symbol.{name as #readlookup·search}
+use Rattle.readlookup.proofs.search.Met as search-thm
 use Rattle.readlog.proofs.reads_of as reads-of
 use Rattle.readlog.proofs.reads_of.Symbol as reads-of-def
 use Rattle.readlog.proofs.reads_of.Symbol.{name as #readlog·reads-of}
 use Rattle.readlog.proofs.reads_of.Met as reads-of-thm
-use Rattle.window.proofs.popularity_answer as answer
-use Rattle.window.proofs.popularity_answer.Symbol as answer-def
-use Rattle.window.proofs.popularity_answer.Symbol.{name as #window·popularity-answer}
-use Rattle.window.proofs.popularity_answer.Met as answer-thm
+use Rattle.readwindow.proofs.popularity_answer as answer
+use Rattle.readwindow.proofs.popularity_answer.Symbol as answer-def
+use Rattle.readwindow.proofs.popularity_answer.Symbol.{name as #readwindow·popularity-answer}
+use Rattle.readwindow.proofs.popularity_answer.Met as answer-thm
 use Rattle.reads.specs.Answers.{readsOutcome}
 use Rattle.reads.proofs.Laws.{own-room, other-room, popularity-is}
 use Rattle.reads.proofs.popularity.Key.{name as #reads·popularity}
@@ -185,7 +185,7 @@ module _ {M : Type 1} (𝓤 : URA M) (H : Heap 𝓤) (A : Atoms 𝓤) (W : Given
       owned ! u32 (Is u32) (uint-makes 𝓤 H A W w32) block (vint w32 block ∷ []) (refl, gb) $ fjoin ! $ move ! (3 ∷ 0 ∷ []) $ fjoin ! $ move ! (1 ∷ 0 ∷ []) $
       frame ! $ frame ! $ done !
 
-  module _ (𝓣 : Tables 𝓤 H) (known-reads-of : Triple 𝓤 (𝓣 .C #readlog·reads-of) (ReadsOf 𝓤 H A mem run)) (known-answer : Triple 𝓤 (𝓣 .C #window·popularity-answer) (Answer 𝓤 H A mem run)) (l₀ l₁ l₂ l₃ l₄ l₅ l₆ l₇ l₈ : ℕ) where
+  module _ (𝓣 : Tables 𝓤 H) (known-reads-of : Triple 𝓤 (𝓣 .C #readlog·reads-of) (ReadsOf 𝓤 H A mem run)) (known-answer : Triple 𝓤 (𝓣 .C #readwindow·popularity-answer) (Answer 𝓤 H A mem run)) (l₀ l₁ l₂ l₃ l₄ l₅ l₆ l₇ l₈ : ℕ) where
     -- the locals: the answer, the plan, block, the list, count, the list's length, what is counted over, and the two counts
     abbrev En : Env 𝓤 H
     En = (R′.mir, l₀) ∷ (planTy, l₁) ∷ (half, l₂) ∷ (listTy, l₃) ∷ (word, l₄) ∷ (word, l₅) ∷ (S′.mir, l₆) ∷ (word, l₇) ∷ (word, l₈) ∷ []
@@ -242,7 +242,7 @@ module _ {M : Type 1} (𝓤 : URA M) (H : Heap 𝓤) (A : Atoms 𝓤) (W : Given
         to-other : ReadsOf 𝓤 H A mem run .Ghost
         to-other = to-reads-of (over .other) (over .mate)
 
-  walk : (𝓣 : Tables 𝓤 H) → Triple 𝓤 (𝓣 .C #lookup·search) (Search 𝓤 H A mem run) → Triple 𝓤 (𝓣 .C #readlog·reads-of) (ReadsOf 𝓤 H A mem run) → Triple 𝓤 (𝓣 .C #window·popularity-answer) (Answer 𝓤 H A mem run)
+  walk : (𝓣 : Tables 𝓤 H) → Triple 𝓤 (𝓣 .C #readlookup·search) (Search 𝓤 H A mem run) → Triple 𝓤 (𝓣 .C #readlog·reads-of) (ReadsOf 𝓤 H A mem run) → Triple 𝓤 (𝓣 .C #readwindow·popularity-answer) (Answer 𝓤 H A mem run)
       → ent 𝓤 (onEntry 𝓤 H A f.signature (κ, (κ′, tt)) (q, (q′, tt)) x at) (WpFn 𝓤 H (𝓣 .C) (𝓣 .Λ) code.function (vp ∷ vint w32 block ∷ vl ∷ vint w64 count ∷ []) Post)
   walk 𝓣 known-search known-reads-of known-answer =
       qed W ((‵ (flft κ q) ⊛ (‵ (flft κ′ q′) ⊛ ‵ ftrue)) ∷ ‵ (owns (ShrSlice (named 0) κ u8 ∷ u32 ∷ ShrSlice (named 1) κ′ entryRow ∷ u64 ∷ []) x at) ∷ []) ∵
@@ -266,7 +266,7 @@ module _ {M : Type 1} (𝓤 : URA M) (H : Heap 𝓤) (A : Atoms 𝓤) (W : Given
       counts 𝓣 known-reads-of known-answer l₀ l₁ l₂ l₃ l₄ l₅ l₆ l₇ l₈ (subst (λ (d : Searched). Is S.the-row d (v ∷ [])) e is-s))))))))))))))
 
 module _ {M : Type 1} (𝓤 : URA M) (H : Heap 𝓤) (A : Atoms 𝓤) (W : Given 𝓤 H A) (mem : Memory → SProp 𝓤) (run : Routine → Fun 𝓤) where
-  popularity-walks : (𝓣 : Tables 𝓤 H) → Triple 𝓤 (𝓣 .C #lookup·search) (Search 𝓤 H A mem run) → Triple 𝓤 (𝓣 .C #readlog·reads-of) (ReadsOf 𝓤 H A mem run) → Triple 𝓤 (𝓣 .C #window·popularity-answer) (Answer 𝓤 H A mem run)
+  popularity-walks : (𝓣 : Tables 𝓤 H) → Triple 𝓤 (𝓣 .C #readlookup·search) (Search 𝓤 H A mem run) → Triple 𝓤 (𝓣 .C #readlog·reads-of) (ReadsOf 𝓤 H A mem run) → Triple 𝓤 (𝓣 .C #readwindow·popularity-answer) (Answer 𝓤 H A mem run)
       → Walks 𝓤 H A f.ended stayed (WpFn 𝓤 H (𝓣 .C) (𝓣 .Λ) code.function) (f.clauses 𝓤 H A mem run)
   popularity-walks 𝓣 known-search known-reads-of known-answer = walked 𝓤 H A f.ended stayed (f.clauses 𝓤 H A mem run) (WpFn 𝓤 H (𝓣 .C) (𝓣 .Λ) code.function)
       (λ κs. (slice-vals, (uint-vals w32, (slice-vals, (uint-vals w64, tt))))) (λ κs. (shr-slice-tells (named 0) (κs .0) u8, (uint-tells w32, (shr-slice-tells (named 1) (κs .1 .0) entryRow, (uint-tells w64, tt)))))
@@ -283,7 +283,7 @@ module _ {M : Type 1} (𝓤 : URA M) (H : Heap 𝓤) (A : Atoms 𝓤) (W : Given
   )
 
 popularity-meets : {M : Type 1} (𝓤 : URA M) (H : Heap 𝓤) (A : Atoms 𝓤) → Given 𝓤 H A → (mem : Memory → SProp 𝓤) (run : Routine → Fun 𝓤) (𝓣 : Tables 𝓤 H)
-    → Triple 𝓤 (𝓣 .C #lookup·search) (Search 𝓤 H A mem run) → Triple 𝓤 (𝓣 .C #readlog·reads-of) (ReadsOf 𝓤 H A mem run) → Triple 𝓤 (𝓣 .C #window·popularity-answer) (Answer 𝓤 H A mem run)
+    → Triple 𝓤 (𝓣 .C #readlookup·search) (Search 𝓤 H A mem run) → Triple 𝓤 (𝓣 .C #readlog·reads-of) (ReadsOf 𝓤 H A mem run) → Triple 𝓤 (𝓣 .C #readwindow·popularity-answer) (Answer 𝓤 H A mem run)
     → Meets 𝓤 H A f.signature (WpFn 𝓤 H (𝓣 .C) (𝓣 .Λ) code.function) (f.spec 𝓤 H A mem run)
 popularity-meets 𝓤 H A W mem run 𝓣 known-search known-reads-of known-answer = walk-meets 𝓤 H A f.ended stayed W (goes 𝓤 H A W mem run) (f.clauses 𝓤 H A mem run) (WpFn 𝓤 H (𝓣 .C) (𝓣 .Λ) code.function) (WpFn-mono 𝓤 H (W .laws) 𝓣 code.function)
     (popularity-walks 𝓤 H A W mem run 𝓣 known-search known-reads-of known-answer)
@@ -294,6 +294,6 @@ popularity-spec 𝓤 H 𝓜 𝓖 𝓡 =
     entered 𝓤 H (tripleOf 𝓤 H (𝓖 .A) f.signature (f.spec 𝓤 H (𝓖 .A) (𝓜 .mem) (𝓡 .run)))
     (tables 𝓤 H 𝓜 𝓡 code.env .C) (tables 𝓤 H 𝓜 𝓡 code.env .Λ) #reads·popularity code.function (code.unfolded 𝓤 H 𝓜 𝓡)
     (popularity-meets 𝓤 H (𝓖 .A) (givenOf 𝓤 H 𝓜 𝓖) (𝓜 .mem) (𝓡 .run) (tablesOf 𝓤 H 𝓜 (tables 𝓤 H 𝓜 𝓡 code.env))
-    (cited 𝓤 H (Search 𝓤 H (𝓖 .A) (𝓜 .mem) (𝓡 .run)) 𝓜 𝓡 code.env #lookup·search search-def.routine code.calls-lookup·search (search-thm.met 𝓤 H 𝓜 𝓖 𝓡))
+    (cited 𝓤 H (Search 𝓤 H (𝓖 .A) (𝓜 .mem) (𝓡 .run)) 𝓜 𝓡 code.env #readlookup·search search-def.routine code.calls-readlookup·search (search-thm.met 𝓤 H 𝓜 𝓖 𝓡))
     (cited 𝓤 H (ReadsOf 𝓤 H (𝓖 .A) (𝓜 .mem) (𝓡 .run)) 𝓜 𝓡 code.env #readlog·reads-of reads-of-def.routine code.calls-readlog·reads-of (reads-of-thm.met 𝓤 H 𝓜 𝓖 𝓡))
-    (cited 𝓤 H (Answer 𝓤 H (𝓖 .A) (𝓜 .mem) (𝓡 .run)) 𝓜 𝓡 code.env #window·popularity-answer answer-def.routine code.calls-window·popularity-answer (answer-thm.met 𝓤 H 𝓜 𝓖 𝓡)))
+    (cited 𝓤 H (Answer 𝓤 H (𝓖 .A) (𝓜 .mem) (𝓡 .run)) 𝓜 𝓡 code.env #readwindow·popularity-answer answer-def.routine code.calls-readwindow·popularity-answer (answer-thm.met 𝓤 H 𝓜 𝓖 𝓡)))

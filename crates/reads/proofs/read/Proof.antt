@@ -35,26 +35,26 @@ use Rattle.model.specs.declared.Entry.{Entry}
 use Rattle.model.specs.Refusal.{judge}
 use Rattle.model.specs.ReadLog.{entry, standing, readCall}
 use Rattle.readlog.specs.Records.{lastOr, CompactedAs, appended}
-use Rattle.lookup.specs.declared.Judged.{Judged}
-use Rattle.window.specs.declared.ReadsAnswer.{ReadsAnswer}
-use Rattle.window.specs.Window.{readNumber}
-use Rattle.lookup.specs.Lookup.{judged}
-use Rattle.lookup.proofs.Judged as J
-use Rattle.lookup.proofs.Judged.Laws as J′
-use Rattle.window.proofs.ReadsAnswer as R
-use Rattle.window.proofs.ReadsAnswer.Laws as R′
-use Rattle.window.proofs.standing as stand
-use Rattle.window.proofs.standing.Symbol as stand-def
-use Rattle.window.proofs.standing.Symbol.{name as #window·standing}
-use Rattle.window.proofs.standing.Met as stand-thm
+use Rattle.readlookup.specs.declared.Judged.{Judged}
+use Rattle.readwindow.specs.declared.ReadsAnswer.{ReadsAnswer}
+use Rattle.readwindow.specs.Window.{readNumber}
+use Rattle.readlookup.specs.Lookup.{judged}
+use Rattle.readlookup.proofs.Judged as J
+use Rattle.readlookup.proofs.Judged.Laws as J′
+use Rattle.readwindow.proofs.ReadsAnswer as R
+use Rattle.readwindow.proofs.ReadsAnswer.Laws as R′
+use Rattle.readwindow.proofs.standing as stand
+use Rattle.readwindow.proofs.standing.Symbol as stand-def
+use Rattle.readwindow.proofs.standing.Symbol.{name as #readwindow·standing}
+use Rattle.readwindow.proofs.standing.Met as stand-thm
 use Rattle.readlog.proofs.last_tick as last-tick
 use Rattle.readlog.proofs.last_tick.Symbol as last-tick-def
 use Rattle.readlog.proofs.last_tick.Symbol.{name as #readlog·last-tick}
 use Rattle.readlog.proofs.last_tick.Met as last-tick-thm
-use Rattle.lookup.proofs.judge_read as judge-read
-use Rattle.lookup.proofs.judge_read.Symbol as judge-read-def
-use Rattle.lookup.proofs.judge_read.Symbol.{name as #lookup·judge-read}
-use Rattle.lookup.proofs.judge_read.Met as judge-read-thm
+use Rattle.readlookup.proofs.judge_read as judge-read
+use Rattle.readlookup.proofs.judge_read.Symbol as judge-read-def
+use Rattle.readlookup.proofs.judge_read.Symbol.{name as #readlookup·judge-read}
+use Rattle.readlookup.proofs.judge_read.Met as judge-read-thm
 use Rattle.readlog.proofs.drop_old as drop-old
 use Rattle.readlog.proofs.drop_old.Symbol as drop-old-def
 use Rattle.readlog.proofs.drop_old.Symbol.{name as #readlog·drop-old}
@@ -63,12 +63,12 @@ use Rattle.readlog.proofs.append as append
 use Rattle.readlog.proofs.append.Symbol as append-def
 use Rattle.readlog.proofs.append.Symbol.{name as #readlog·append}
 use Rattle.readlog.proofs.append.Met as append-thm
-use Rattle.window.proofs.read_answer as answer
-use Rattle.window.proofs.read_answer.Symbol as answer-def
-use Rattle.window.proofs.read_answer.Symbol.{name as #window·read-answer}
-use Rattle.window.proofs.read_answer.Met as answer-thm
+use Rattle.readwindow.proofs.read_answer as answer
+use Rattle.readwindow.proofs.read_answer.Symbol as answer-def
+use Rattle.readwindow.proofs.read_answer.Symbol.{name as #readwindow·read-answer}
+use Rattle.readwindow.proofs.read_answer.Met as answer-thm
 use Rattle.reads.specs.Answers.{readsOutcome}
-use Rattle.reads.proofs.Laws.{standing-room, limit-room, count-limit, read-is}
+use Rattle.reads.proofs.Laws.{standing-room, span-room, count-span, read-is}
 use Rattle.reads.proofs.read.Key.{name as #reads·read}
 use Rattle.reads.proofs.read as f
 use Rattle.reads.proofs.read.Statement as stated
@@ -125,12 +125,12 @@ module _ {M : Type 1} (𝓤 : URA M) (H : Heap 𝓤) (A : Atoms 𝓤) (mem : Mem
 
   -- that the table's entries meet them
   record Known (𝓣 : Tables 𝓤 H) : Type 1 where
-    stands : Triple 𝓤 (𝓣 .C #window·standing) Stand
+    stands : Triple 𝓤 (𝓣 .C #readwindow·standing) Stand
     last-ticks : Triple 𝓤 (𝓣 .C #readlog·last-tick) LastTick
-    judges-read : Triple 𝓤 (𝓣 .C #lookup·judge-read) JudgeRead
+    judges-read : Triple 𝓤 (𝓣 .C #readlookup·judge-read) JudgeRead
     drops-old : Triple 𝓤 (𝓣 .C #readlog·drop-old) DropOld
     appends : Triple 𝓤 (𝓣 .C #readlog·append) Append
-    answers : Triple 𝓤 (𝓣 .C #window·read-answer) Answer
+    answers : Triple 𝓤 (𝓣 .C #readwindow·read-answer) Answer
 
   stood-of : (lent count r : ℕ) → ent 𝓤 (ensured 𝓤 H A stand.ended (stand.clauses 𝓤 H A mem run) tt (lent, (count, tt)) tt r) (fact 𝓤 (r ≡ standing lent count))
   stood-of lent count r = exE 𝓤 _ (λ ws. snd∗ 𝓤 (sem 𝓤 H A (lasts stand.ended tt (lent, (count, tt)) ws)) (fact 𝓤 (r ≡ standing lent count)))
@@ -144,8 +144,8 @@ module _ {M : Type 1} (𝓤 : URA M) (H : Heap 𝓤) (A : Atoms 𝓤) (mem : Mem
   judged-of κ p block tick last lent held r =
       exE 𝓤 _ (λ ws. snd∗ 𝓤 (sem 𝓤 H A (lasts judge-read.ended (κ, tt) (p, (block, (tick, (last, (lent, (held, tt)))))) ws)) (fact 𝓤 (r ≡ judged (judge (p .now)) block tick last lent held)))
 
-  answered-of : (number kept limit : ℕ) (r : ReadsAnswer) → ent 𝓤 (ensured 𝓤 H A answer.ended (answer.clauses 𝓤 H A mem run) tt (number, (kept, (limit, tt))) tt r) (fact 𝓤 (r ≡ readNumber number kept limit))
-  answered-of number kept limit r = exE 𝓤 _ (λ ws. snd∗ 𝓤 (sem 𝓤 H A (lasts answer.ended tt (number, (kept, (limit, tt))) ws)) (fact 𝓤 (r ≡ readNumber number kept limit)))
+  answered-of : (number kept span : ℕ) (r : ReadsAnswer) → ent 𝓤 (ensured 𝓤 H A answer.ended (answer.clauses 𝓤 H A mem run) tt (number, (kept, (span, tt))) tt r) (fact 𝓤 (r ≡ readNumber number kept span))
+  answered-of number kept span r = exE 𝓤 _ (λ ws. snd∗ 𝓤 (sem 𝓤 H A (lasts answer.ended tt (number, (kept, (span, tt))) ws)) (fact 𝓤 (r ≡ readNumber number kept span)))
 
 module _ {M : Type 1} (𝓤 : URA M) (H : Heap 𝓤) (A : Atoms 𝓤) (W : Given 𝓤 H A) (mem : Memory → SProp 𝓤) (run : Routine → Fun 𝓤) (κ κ′ : Lft) (q q′ : Share)
     (p : RefT (List ℕ)) (block tick b o : ℕ) (γ : GName) (ys : List Entry) (count : ℕ)
@@ -187,8 +187,8 @@ module _ {M : Type 1} (𝓤 : URA M) (H : Heap 𝓤) (A : Atoms 𝓤) (W : Given
   held-fits : held < 2 ^ 64
   held-fits = let within = standing-room (length ys) count in let g : length ys < 2 ^ 64 = room .0 in omega (arith, within)
 
-  within : work .limit ≤ length ys
-  within = limit-room (judge (p .now)) block tick last (length ys) count
+  within : work .span ≤ length ys
+  within = span-room (judge (p .now)) block tick last (length ys) count
 
   -- the slices, as they are owned
   abbrev plan-own : Fml
@@ -253,18 +253,18 @@ module _ {M : Type 1} (𝓤 : URA M) (H : Heap 𝓤) (A : Atoms 𝓤) (W : Given
       (ν ∷ [], tt),
       (fullShare, tt),
       tt,
-      (at-list δ ys, (work .limit, (work .count, (tick, tt)))),
-      (vl ∷ [], (vint w64 (work .limit) ∷ [], (vint w64 (work .count) ∷ [], (vint w32 tick ∷ [], tt)))),
+      (at-list δ ys, (work .span, (work .count, (tick, tt)))),
+      (vl ∷ [], (vint w64 (work .span) ∷ [], (vint w64 (work .count) ∷ [], (vint w32 tick ∷ [], tt)))),
     ),
     tt,
   )
 
-  goes-drop : (ν : ℕ) (δ : GName) → work .limit < 2 ^ 64 → work .count < 2 ^ 64 → ent 𝓤 (sep 𝓤 (sem 𝓤 H A (mut-own ν δ)) (sem 𝓤 H A (flft (ν ∷ []) fullShare))) (DropOld 𝓤 H A mem run .pre (to-drop ν δ))
+  goes-drop : (ν : ℕ) (δ : GName) → work .span < 2 ^ 64 → work .count < 2 ^ 64 → ent 𝓤 (sep 𝓤 (sem 𝓤 H A (mut-own ν δ)) (sem 𝓤 H A (flft (ν ∷ []) fullShare))) (DropOld 𝓤 H A mem run .pre (to-drop ν δ))
   goes-drop ν δ gm gn =
-      qed W (‵ (mut-own ν δ) ∷ ‵ (flft (ν ∷ []) fullShare) ∷ []) ∵ says ! (within, count-limit (judge (p .now)) block tick last (length ys) count) $ nothing ! $ move ! (2 ∷ 0 ∷ []) $ join ! $ nothing ! $
+      qed W (‵ (mut-own ν δ) ∷ ‵ (flft (ν ∷ []) fullShare) ∷ []) ∵ says ! (within, count-span (judge (p .now)) block tick last (length ys) count) $ nothing ! $ move ! (2 ∷ 0 ∷ []) $ join ! $ nothing ! $
       owned ! u32 (Is u32) (uint-makes 𝓤 H A W w32) tick (vint w32 tick ∷ []) (refl, gt) $ fjoin ! $
       owned ! usize (Is usize) (uint-makes 𝓤 H A W w64) (work .count) (vint w64 (work .count) ∷ []) (refl, gn) $ fjoin ! $
-      owned ! usize (Is usize) (uint-makes 𝓤 H A W w64) (work .limit) (vint w64 (work .limit) ∷ []) (refl, gm) $ fjoin ! $ move ! (2 ∷ 0 ∷ []) $ fjoin ! $ move ! (1 ∷ 0 ∷ []) $ frame ! $ done !
+      owned ! usize (Is usize) (uint-makes 𝓤 H A W w64) (work .span) (vint w64 (work .span) ∷ []) (refl, gm) $ fjoin ! $ move ! (2 ∷ 0 ∷ []) $ fjoin ! $ move ! (1 ∷ 0 ∷ []) $ frame ! $ done !
 
   -- the list is given for good: at its own lifetime, share and ghost name
   abbrev to-append : List Entry → ℕ → Append 𝓤 H A mem run .Ghost
@@ -273,33 +273,33 @@ module _ {M : Type 1} (𝓤 : URA M) (H : Heap 𝓤) (A : Atoms 𝓤) (W : Given
       (κ′, tt),
       (q′, tt),
       tt,
-      (at-list γ zs, (kept, (work .limit, (block, (tick, tt))))),
-      (vl ∷ [], (vint w64 kept ∷ [], (vint w64 (work .limit) ∷ [], (vint w32 block ∷ [], (vint w32 tick ∷ [], tt))))),
+      (at-list γ zs, (kept, (work .span, (block, (tick, tt))))),
+      (vl ∷ [], (vint w64 kept ∷ [], (vint w64 (work .span) ∷ [], (vint w32 block ∷ [], (vint w32 tick ∷ [], tt))))),
     ),
     tt,
   )
 
-  goes-append : (zs : List Entry) (kept : ℕ) → length zs ≡ length ys → kept < 2 ^ 64 → work .limit < 2 ^ 64
+  goes-append : (zs : List Entry) (kept : ℕ) → length zs ≡ length ys → kept < 2 ^ 64 → work .span < 2 ^ 64
       → ent 𝓤 (sep 𝓤 (sem 𝓤 H A (list-own zs)) (sem 𝓤 H A (flft κ′ q′))) (Append 𝓤 H A mem run .pre (to-append zs kept))
   goes-append zs kept long gk gm =
-      qed W (‵ (list-own zs) ∷ ‵ (flft κ′ q′) ∷ []) ∵ says ! (subst (λ (n : ℕ). work .limit ≤ n) (sym long) within) $ nothing ! $ move ! (2 ∷ 0 ∷ []) $ join ! $ nothing ! $
+      qed W (‵ (list-own zs) ∷ ‵ (flft κ′ q′) ∷ []) ∵ says ! (subst (λ (n : ℕ). work .span ≤ n) (sym long) within) $ nothing ! $ move ! (2 ∷ 0 ∷ []) $ join ! $ nothing ! $
       owned ! u32 (Is u32) (uint-makes 𝓤 H A W w32) tick (vint w32 tick ∷ []) (refl, gt) $ fjoin ! $
       owned ! u32 (Is u32) (uint-makes 𝓤 H A W w32) block (vint w32 block ∷ []) (refl, gb) $ fjoin ! $
-      owned ! usize (Is usize) (uint-makes 𝓤 H A W w64) (work .limit) (vint w64 (work .limit) ∷ []) (refl, gm) $ fjoin ! $
+      owned ! usize (Is usize) (uint-makes 𝓤 H A W w64) (work .span) (vint w64 (work .span) ∷ []) (refl, gm) $ fjoin ! $
       owned ! usize (Is usize) (uint-makes 𝓤 H A W w64) kept (vint w64 kept ∷ []) (refl, gk) $ fjoin ! $ move ! (2 ∷ 0 ∷ []) $ fjoin ! $ move ! (1 ∷ 0 ∷ []) $ frame ! $ done !
 
   abbrev to-answer : ℕ → Answer 𝓤 H A mem run .Ghost
-  to-answer kept = ((tt, tt, tt, (work .code, (kept, (work .limit, tt))), (vint w8 (work .code) ∷ [], (vint w64 kept ∷ [], (vint w64 (work .limit) ∷ [], tt)))), tt)
+  to-answer kept = ((tt, tt, tt, (work .code, (kept, (work .span, tt))), (vint w8 (work .code) ∷ [], (vint w64 kept ∷ [], (vint w64 (work .span) ∷ [], tt)))), tt)
 
-  goes-answer : (kept : ℕ) → work .code < 2 ^ 8 → kept < 2 ^ 64 → work .limit < 2 ^ 64 → ent 𝓤 (emp 𝓤) (Answer 𝓤 H A mem run .pre (to-answer kept))
+  goes-answer : (kept : ℕ) → work .code < 2 ^ 8 → kept < 2 ^ 64 → work .span < 2 ^ 64 → ent 𝓤 (emp 𝓤) (Answer 𝓤 H A mem run .pre (to-answer kept))
   goes-answer kept gn gk gm =
-      qed W [] ∵ nothing ! $ nothing ! $ owned ! usize (Is usize) (uint-makes 𝓤 H A W w64) (work .limit) (vint w64 (work .limit) ∷ []) (refl, gm) $ fjoin ! $
+      qed W [] ∵ nothing ! $ nothing ! $ owned ! usize (Is usize) (uint-makes 𝓤 H A W w64) (work .span) (vint w64 (work .span) ∷ []) (refl, gm) $ fjoin ! $
       owned ! usize (Is usize) (uint-makes 𝓤 H A W w64) kept (vint w64 kept ∷ []) (refl, gk) $ fjoin ! $
       owned ! u8 (Is u8) (uint-makes 𝓤 H A W w8) (work .code) (vint w8 (work .code) ∷ []) (refl, gn) $ fjoin ! $ move ! (1 ∷ 0 ∷ []) $ join ! $ frame ! $ done !
 
   -- ── The exit ───────────────────────────────────────────────────────────────────────────────────────────────────────────
 
-  said-all : (zs ws : List Entry) (kept : ℕ) (r : ReadsAnswer) → CompactedAs tick (work .limit) (work .count) ys zs kept → ws ≡ appended (entry block tick) kept (work .limit) zs → r ≡ readNumber (work .code) kept (work .limit)
+  said-all : (zs ws : List Entry) (kept : ℕ) (r : ReadsAnswer) → CompactedAs tick (work .span) (work .count) ys zs kept → ws ≡ appended (entry block tick) kept (work .span) zs → r ≡ readNumber (work .code) kept (work .span)
       → readsOutcome r ws ≡ readCall (p .now) block tick ys count
   said-all zs ws kept r old new e =
       ap₂ (λ (a : ReadsAnswer) (l : List Entry). readsOutcome a l) e new ∙ read-is (p .now) block tick count ys zs kept gt old
@@ -338,28 +338,28 @@ module _ {M : Type 1} (𝓤 : URA M) (H : Heap 𝓤) (A : Atoms 𝓤) (W : Given
         ∷ ‵ (fat fullShare half l₂ 0 (vint w32 block)) ∷ ‵ (fdies half l₂) ∷ ‵ (fat fullShare planTy l₁ 0 vp) ∷ ‵ (fdies planTy l₁) ∷ ‵ (froom R′.mir l₀ 0) ∷ ‵ (fdies R′.mir l₀) ∷ []
 
     -- the read is stored, and answered
-    stores : {vs : List Val} → Is J.the-row work vs → (zs : List Entry) (kept : ℕ) → length zs ≡ length ys → kept < 2 ^ 64 → CompactedAs tick (work .limit) (work .count) ys zs kept
+    stores : {vs : List Val} → Is J.the-row work vs → (zs : List Entry) (kept : ℕ) → length zs ≡ length ys → kept < 2 ^ 64 → CompactedAs tick (work .span) (work .count) ys zs kept
         → Sq W (Between zs (‵ (fat fullShare word l₁₀ 0 (vint w64 kept)) ∷ ‵ (fdies word l₁₀) ∷ ‵ (fat fullShare J′.mir l₉ 0 (J′.lowered work)) ∷ ‵ (fdies J′.mir l₉) ∷ Asked))
         (runs (𝓣 .C) (𝓣 .Λ) En body.t-10 (atRet En Post))
     stores {vs} is-work zs kept long gk old =
         assigns ! (addr ! (from ! (fld ! refl (hop ! (look-in ! 30 (sub ! 0 refl (whole !))) (stop !))))) (from ! (stop !)) (init ! 6 refl (tt, tt)) $
         assigns ! (agg ! (and-then ! (load ! (from ! (stop !)) (look ! 6 refl)) (and-then ! (load ! (from ! (fld ! refl (stop !))) (look-in ! 30 (sub ! 1 refl (whole !)))) (no-more !)))) (from ! (stop !)) (init ! 4 refl (tt, (tt, (record { fits = room .0 }, tt)))) $
-        move ! (2 ∷ 3 ∷ []) $ use2 W (raw (Append 𝓤 H A mem run .pre (to-append zs kept))) (goes-append zs kept long gk limit-fits) $
+        move ! (2 ∷ 3 ∷ []) $ use2 W (raw (Append 𝓤 H A mem run .pre (to-append zs kept))) (goes-append zs kept long gk span-fits) $
         -- [what the call needs; the plan's token; the plan; _17; …; _0; …]
         calls-at ! (fmOf 𝓤 H (W .laws) 𝓣) (Append 𝓤 H A mem run) (known .appends) (to-append zs kept)
         (and-then ! (load ! (from ! (stop !)) (look ! 3 refl)) (and-then ! (load ! (from ! (stop !)) (look ! 17 refl)) (and-then ! (load ! (from ! (fld ! refl (stop !))) (look-in ! 19 (sub ! 1 refl (whole !))))
         (and-then ! (load ! (from ! (stop !)) (look ! 33 refl)) (and-then ! (load ! (from ! (stop !)) (look ! 31 refl)) (no-more !)))))) (λ u.
         use1 W (later (some (λ (r : Unit {0}). ((‵ (flft κ′ q′) ⊛ ‵ ftrue) ⊛ ‵ (Nothing .own r (u ∷ []))) ⊛ raw (ensured 𝓤 H A append.ended (append.clauses 𝓤 H A mem run) (κ′, tt) (to-append zs kept .0 .3) tt r)))) (id⊢ 𝓤 _) $ await ! tt $ pick ! (λ _.
-        split ! $ move ! (1 ∷ []) $ use1 W (some (λ (ws : List Entry × (Unit {0} × (Unit {0} × (Unit {0} × (Unit {0} × Unit {0}))))). ‵ (lasts append.ended (κ′, tt) (to-append zs kept .0 .3) ws) ⊛ raw (fact 𝓤 (ws .0 ≡ appended (entry block tick) kept (work .limit) zs)))) (id⊢ 𝓤 _) $ pick ! (λ ws.
-        split ! $ move ! (1 ∷ []) $ heard ! (ws .0 ≡ appended (entry block tick) kept (work .limit) zs) (λ new. fsplit ! $ fsplit ! $ move ! (1 ∷ []) $ feqL ! (λ same. move ! (1 ∷ []) $ drop ! $
+        split ! $ move ! (1 ∷ []) $ use1 W (some (λ (ws : List Entry × (Unit {0} × (Unit {0} × (Unit {0} × (Unit {0} × Unit {0}))))). ‵ (lasts append.ended (κ′, tt) (to-append zs kept .0 .3) ws) ⊛ raw (fact 𝓤 (ws .0 ≡ appended (entry block tick) kept (work .span) zs)))) (id⊢ 𝓤 _) $ pick ! (λ ws.
+        split ! $ move ! (1 ∷ []) $ heard ! (ws .0 ≡ appended (entry block tick) kept (work .span) zs) (λ new. fsplit ! $ fsplit ! $ move ! (1 ∷ []) $ feqL ! (λ same. move ! (1 ∷ []) $ drop ! $
         -- [the list's last value; the list's token and the result; the plan's token; the plan; _17; …; _0; …]
         move ! (1 ∷ []) $ split ! $ move ! (1 ∷ []) $ feqL ! (λ is-u. split ! $ move ! (1 ∷ []) $ drop ! $
         land ! (from ! (stop !)) (init ! 8 refl (subst (λ (y : Val). T (hasTy tyUnit y) × WT y) (sym (ap only is-u)) (tt, tt))) $
-        use0 W (raw (Answer 𝓤 H A mem run .pre (to-answer kept))) (goes-answer kept code-fits gk limit-fits) $
+        use0 W (raw (Answer 𝓤 H A mem run .pre (to-answer kept))) (goes-answer kept code-fits gk span-fits) $
         calls-at ! (fmOf 𝓤 H (W .laws) 𝓣) (Answer 𝓤 H A mem run) (known .answers) (to-answer kept)
         (and-then ! (load ! (from ! (fld ! refl (stop !))) (look-in ! 21 (sub ! 0 refl (whole !)))) (and-then ! (load ! (from ! (stop !)) (look ! 19 refl)) (and-then ! (load ! (from ! (fld ! refl (stop !))) (look-in ! 21 (sub ! 1 refl (whole !)))) (no-more !)))) (λ v.
         use1 W (later (some (λ (r : ReadsAnswer). (‵ ftrue ⊛ ‵ (R.the-row .own r (v ∷ []))) ⊛ raw (ensured 𝓤 H A answer.ended (answer.clauses 𝓤 H A mem run) tt (to-answer kept .0 .3) tt r)))) (id⊢ 𝓤 _) $ await ! tt $ pick ! (λ r.
-        split ! $ move ! (1 ∷ []) $ use1 W (raw (fact 𝓤 (r ≡ readNumber (work .code) kept (work .limit)))) (answered-of 𝓤 H A mem run (work .code) kept (work .limit) r) $ heard ! (r ≡ readNumber (work .code) kept (work .limit)) (λ e.
+        split ! $ move ! (1 ∷ []) $ use1 W (raw (fact 𝓤 (r ≡ readNumber (work .code) kept (work .span)))) (answered-of 𝓤 H A mem run (work .code) kept (work .span) r) $ heard ! (r ≡ readNumber (work .code) kept (work .span)) (λ e.
         split ! $ drop ! $ peeks ! R.the-row (Is R.the-row) (shows 𝓤 H A R.the-row) r (v ∷ []) (λ is-r.
         -- [what the answer owns; the list's token; its last value; the plan's token; the plan; _17; …; _0; …]
         land ! (from ! (stop !)) (init ! 39 refl (EL.lawful R.the-type R′.the-laws 𝓤 H A W tt .typed r (v ∷ []) is-r .0)) $
@@ -373,8 +373,8 @@ module _ {M : Type 1} (𝓤 : URA M) (H : Heap 𝓤) (A : Atoms 𝓤) (W : Given
         code-fits : work .code < 2 ^ 8
         code-fits = LL.owed J.the-type J′.the-laws work vs is-work .0 .1
 
-        limit-fits : work .limit < 2 ^ 64
-        limit-fits = LL.owed J.the-type J′.the-laws work vs is-work .1 .0 .1
+        span-fits : work .span < 2 ^ 64
+        span-fits = LL.owed J.the-type J′.the-laws work vs is-work .1 .0 .1
 
     -- the read is judged, and the old entries are dropped
     drops : last < 2 ^ 32 → Sq W (Between ys (‵ (froom word l₁₀ 0) ∷ ‵ (fdies word l₁₀) ∷ ‵ (froom J′.mir l₉ 0) ∷ ‵ (fdies J′.mir l₉) ∷ Asked)) (runs (𝓣 .C) (𝓣 .Λ) En body.t-6 (atRet En Post))
@@ -402,8 +402,8 @@ module _ {M : Type 1} (𝓤 : URA M) (H : Heap 𝓤) (A : Atoms 𝓤) (W : Given
         (and-then ! (load ! (from ! (stop !)) (look ! 10 refl)) (and-then ! (load ! (from ! (fld ! refl (stop !))) (look-in ! 20 (sub ! 1 refl (whole !))))
         (and-then ! (load ! (from ! (fld ! refl (stop !))) (look-in ! 20 (sub ! 2 refl (whole !)))) (and-then ! (load ! (from ! (stop !)) (look ! 32 refl)) (no-more !))))) (λ w.
         use1 W (later (some (λ (kept : ℕ). ((‵ (flft (ν ∷ []) fullShare) ⊛ ‵ ftrue) ⊛ ‵ (usize .own kept (w ∷ []))) ⊛ raw (ensured 𝓤 H A drop-old.ended (drop-old.clauses 𝓤 H A mem run) (ν ∷ [], tt) (to-drop ν δ .0 .3) tt kept)))) (id⊢ 𝓤 _) $ await ! tt $ pick ! (λ kept.
-        split ! $ move ! (1 ∷ []) $ use1 W (some (λ (zs : List Entry × (Unit {0} × (Unit {0} × (Unit {0} × Unit {0})))). ‵ (lasts drop-old.ended (ν ∷ [], tt) (to-drop ν δ .0 .3) zs) ⊛ raw (fact 𝓤 (CompactedAs tick (work .limit) (work .count) ys (zs .0) kept)))) (id⊢ 𝓤 _) $ pick ! (λ zs.
-        split ! $ move ! (1 ∷ []) $ heard ! (CompactedAs tick (work .limit) (work .count) ys (zs .0) kept) (λ old. fsplit ! $ fsplit ! $ move ! (1 ∷ []) $ feqL ! (λ long. move ! (1 ∷ []) $ drop ! $
+        split ! $ move ! (1 ∷ []) $ use1 W (some (λ (zs : List Entry × (Unit {0} × (Unit {0} × (Unit {0} × Unit {0})))). ‵ (lasts drop-old.ended (ν ∷ [], tt) (to-drop ν δ .0 .3) zs) ⊛ raw (fact 𝓤 (CompactedAs tick (work .span) (work .count) ys (zs .0) kept)))) (id⊢ 𝓤 _) $ pick ! (λ zs.
+        split ! $ move ! (1 ∷ []) $ heard ! (CompactedAs tick (work .span) (work .count) ys (zs .0) kept) (λ old. fsplit ! $ fsplit ! $ move ! (1 ∷ []) $ feqL ! (λ long. move ! (1 ∷ []) $ drop ! $
         move ! (1 ∷ []) $ split ! $ move ! (1 ∷ []) $ facts ! usize (Is usize) (shows 𝓤 H A usize) kept (w ∷ []) (λ is-kept. split ! $ move ! (1 ∷ []) $ drop ! $
         -- [the token of ν; the list's last value; what is kept of the list; the plan's token; the plan; _17; …; _0; …]
         land ! (from ! (stop !)) (init ! 19 refl (uint-lawful 𝓤 H A W w64 .typed kept _ is-kept .0)) $ rewrite ! 19 (λ (u : Val). ‵ (fat fullShare word l₁₀ 0 u)) (ap only (is-kept .0)) refl $
@@ -477,10 +477,10 @@ read-spec 𝓤 H 𝓜 𝓖 𝓡 =
     entered 𝓤 H (tripleOf 𝓤 H (𝓖 .A) f.signature (f.spec 𝓤 H (𝓖 .A) (𝓜 .mem) (𝓡 .run)))
     (tables 𝓤 H 𝓜 𝓡 code.env .C) (tables 𝓤 H 𝓜 𝓡 code.env .Λ) #reads·read code.function (code.unfolded 𝓤 H 𝓜 𝓡)
     (read-meets 𝓤 H (𝓖 .A) (givenOf 𝓤 H 𝓜 𝓖) (𝓜 .mem) (𝓡 .run) (tablesOf 𝓤 H 𝓜 (tables 𝓤 H 𝓜 𝓡 code.env)) (record {
-      stands = cited 𝓤 H (Stand 𝓤 H (𝓖 .A) (𝓜 .mem) (𝓡 .run)) 𝓜 𝓡 code.env #window·standing stand-def.routine code.calls-window·standing (stand-thm.met 𝓤 H 𝓜 𝓖 𝓡);
+      stands = cited 𝓤 H (Stand 𝓤 H (𝓖 .A) (𝓜 .mem) (𝓡 .run)) 𝓜 𝓡 code.env #readwindow·standing stand-def.routine code.calls-readwindow·standing (stand-thm.met 𝓤 H 𝓜 𝓖 𝓡);
       last-ticks = cited 𝓤 H (LastTick 𝓤 H (𝓖 .A) (𝓜 .mem) (𝓡 .run)) 𝓜 𝓡 code.env #readlog·last-tick last-tick-def.routine code.calls-readlog·last-tick (last-tick-thm.met 𝓤 H 𝓜 𝓖 𝓡);
-      judges-read = cited 𝓤 H (JudgeRead 𝓤 H (𝓖 .A) (𝓜 .mem) (𝓡 .run)) 𝓜 𝓡 code.env #lookup·judge-read judge-read-def.routine code.calls-lookup·judge-read (judge-read-thm.met 𝓤 H 𝓜 𝓖 𝓡);
+      judges-read = cited 𝓤 H (JudgeRead 𝓤 H (𝓖 .A) (𝓜 .mem) (𝓡 .run)) 𝓜 𝓡 code.env #readlookup·judge-read judge-read-def.routine code.calls-readlookup·judge-read (judge-read-thm.met 𝓤 H 𝓜 𝓖 𝓡);
       drops-old = cited 𝓤 H (DropOld 𝓤 H (𝓖 .A) (𝓜 .mem) (𝓡 .run)) 𝓜 𝓡 code.env #readlog·drop-old drop-old-def.routine code.calls-readlog·drop-old (drop-old-thm.met 𝓤 H 𝓜 𝓖 𝓡);
       appends = cited 𝓤 H (Append 𝓤 H (𝓖 .A) (𝓜 .mem) (𝓡 .run)) 𝓜 𝓡 code.env #readlog·append append-def.routine code.calls-readlog·append (append-thm.met 𝓤 H 𝓜 𝓖 𝓡);
-      answers = cited 𝓤 H (Answer 𝓤 H (𝓖 .A) (𝓜 .mem) (𝓡 .run)) 𝓜 𝓡 code.env #window·read-answer answer-def.routine code.calls-window·read-answer (answer-thm.met 𝓤 H 𝓜 𝓖 𝓡);
+      answers = cited 𝓤 H (Answer 𝓤 H (𝓖 .A) (𝓜 .mem) (𝓡 .run)) 𝓜 𝓡 code.env #readwindow·read-answer answer-def.routine code.calls-readwindow·read-answer (answer-thm.met 𝓤 H 𝓜 𝓖 𝓡);
     }))

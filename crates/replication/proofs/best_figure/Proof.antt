@@ -13,7 +13,7 @@ use Rattle.model.specs.Plan.{Plan, blockCount, blockOf, minTotal}
 use Rattle.model.specs.Refusal.{maxMachines, maxCapacity}
 use Rattle.model.specs.Replication.{largestShare, need, reachable, chosen}
 use Rattle.theory.specs.Refusal.{Valid}
-use Rattle.theory.proofs.Replication.{limit-max, feasibleCounts-valid, largestShare-term, need-enough, reachable-counts, reachable-upper, figure-by-bisection, figure-full}
+use Rattle.theory.proofs.Replication.{copyLimit-max, feasibleCounts-valid, largestShare-term, need-enough, reachable-counts, reachable-upper, figure-by-bisection, figure-full}
 use Rattle.cluster.specs.declared.Cluster.{Cluster}
 use Rattle.replication.specs.Choice.{BracketFits, BracketOf, LimitedDemands, ChooseAsked}
 use Rattle.replication.proofs.Laws.{most-within, tally-reached}
@@ -21,19 +21,19 @@ use Rattle.replication.proofs.best_figure.Statement.{statement}
 use Rattle.replication.proofs.best_figure.Tie as tie
 
 abbrev Inv-loop : tie.InvT-loop
-Inv-loop demands limit cluster bracket₀ bracket =
-    BracketFits bracket × ((p : Plan) → LimitedDemands p cluster demands limit → BracketOf p bracket)
+Inv-loop demands allowed cluster bracket₀ bracket =
+    BracketFits bracket × ((p : Plan) → LimitedDemands p cluster demands allowed → BracketOf p bracket)
 
 abbrev μ-loop : tie.MeasureT-loop
-μ-loop demands limit cluster bracket₀ bracket = bracket .high - bracket .low
+μ-loop demands allowed cluster bracket₀ bracket = bracket .high - bracket .low
 
 -- the limit of a plan is at most its places, and at least its least copies
-module _ (c : Cluster) (demands : List ℕ) (limit : ℕ) (asked : ChooseAsked c demands limit) where
-  limit-here : limit ≤ maxMachines * maxCapacity
+module _ (c : Cluster) (demands : List ℕ) (allowed : ℕ) (asked : ChooseAsked c demands allowed) where
+  limit-here : allowed ≤ maxMachines * maxCapacity
   limit-here =
-      rw (asked .limited .limit-is) (limit-max (asked .plan) (asked .limited .demands-of .cluster .valid .shaped))
+      rw (asked .limited .limit-is) (copyLimit-max (asked .plan) (asked .limited .demands-of .cluster .valid .shaped))
 
-  least-here : minTotal (asked .plan) ≤ limit
+  least-here : minTotal (asked .plan) ≤ allowed
   unfolding minTotal
   least-here = rw (asked .limited .limit-is) (feasibleCounts-valid (asked .plan) (asked .limited .demands-of .cluster .valid) .in-limit)
 

@@ -6,7 +6,7 @@ use native.Mathlib.Omega.{arith}
 use borrow.Author.Needs.{needs}
 use denote.Ref.{now}
 use Rattle.order.proofs.Booleans.{no-contradiction}
-use Rattle.screen.specs.Screen.{rankedOn, SweptTo}
+use Rattle.screen.specs.Screen.{rankedOn, SweptBelow}
 use Rattle.screen.proofs.Laws.{start, spot-word}
 use Rattle.screen.proofs.no_exchange.Statement.{statement}
 use Rattle.screen.proofs.no_exchange.Tie as tie
@@ -14,7 +14,7 @@ use Rattle.screen.proofs.no_exchange.Tie as tie
 abbrev Inv-loop : tie.InvT-loop
 Inv-loop index cluster m n margin sweep₀ base₀ sweep base =
     (base % 64 ≡ 0)
-    × SweptTo (rankedOn index m) (rankedOn index n) index margin (cluster .blocks) base (sweep .top) (sweep .reach) (sweep .under)
+    × SweptBelow (rankedOn index m) (rankedOn index n) index margin (cluster .blocks) base (sweep .top) (sweep .reach) (sweep .under)
 
 abbrev μ-loop : tie.MeasureT-loop
 μ-loop index cluster m n margin sweep₀ base₀ sweep base = cluster .blocks - base

@@ -40,19 +40,19 @@ next-requires c κs = asked-from _ _ _ _ _ (c .before .pre) 0 (omega arith)
 loop-holds : tie.Need-loop-holds Inv-loop μ-loop
 loop-holds c x l h a = absurd (c .next .ensures .passed x (omega arith) l h (a .holds) (a .lacks))
 
-add-share-of : tie.Need-add-share-of Inv-loop μ-loop
-add-share-of c = search needs
+add-key-share : tie.Need-add-key-share Inv-loop μ-loop
+add-key-share c = search needs
 
-mul-share-of : tie.Need-mul-share-of Inv-loop μ-loop
-mul-share-of c = search needs
+mul-key-share : tie.Need-mul-key-share Inv-loop μ-loop
+mul-key-share c = search needs
 
-shared-slice-read-share-of : tie.Need-shared-slice-read-share-of Inv-loop μ-loop
-shared-slice-read-share-of c =
+shared-slice-read-key-share : tie.Need-shared-slice-read-key-share Inv-loop μ-loop
+shared-slice-read-key-share c =
     let asked = c .before .before .before .before .before .before .pre in
     omega (arith, asked .sized, asked .in-range .blocks-max, c .before .if1 .taken)
 
-share-of-requires : tie.Need-share-of-requires Inv-loop μ-loop
-share-of-requires c κs = search needs
+key-share-requires : tie.Need-key-share-requires Inv-loop μ-loop
+key-share-requires c κs = search needs
 
 -- the first candidate with another share has the smallest share of the rest
 returns : tie.Need-returns Inv-loop μ-loop
@@ -60,10 +60,10 @@ returns c ruled x h alone positive =
     let called = c .before in
     let at = called .before .before .before .before in
     let start = at .before .before .before in
-    let less = leb-true (start .args .margin) (called .share-of .result) ruled in
+    let less = leb-true (start .args .margin) (called .key-share .result) ruled in
     elim (decLt x (at .loop .k)) [
       | yes m ↦ absurd (omega (arith, at .loop .inv x m h alone))
-      | no m ↦ omega (arith, less, called .share-of .ensures, start .pre .rising (at .loop .k) x (omega arith) h)
+      | no m ↦ omega (arith, less, called .key-share .ensures, start .pre .rising (at .loop .k) x (omega arith) h)
     ]
 
 add-next : tie.Need-add-next Inv-loop μ-loop
@@ -85,7 +85,7 @@ loop-again c x l h a =
     elim (decLt x (at .loop .k)) [
       | yes m ↦ at .loop .inv x m h a
       | no m ↦ elim (decLt x (at .loop .k + 1)) [
-        | yes n ↦ let e : x ≡ at .loop .k = omega arith in rw e (sym (called .share-of .ensures) ∙ c .before .if2 .left)
+        | yes n ↦ let e : x ≡ at .loop .k = omega arith in rw e (sym (called .key-share .ensures) ∙ c .before .if2 .left)
         | no n ↦ absurd (c .next2 .ensures .passed x (omega arith) l h (a .holds) (a .lacks))
       ]
     ]
@@ -102,10 +102,10 @@ no-move-spec =
     μ-loop
     next-requires
     loop-holds
-    add-share-of
-    mul-share-of
-    shared-slice-read-share-of
-    share-of-requires
+    add-key-share
+    mul-key-share
+    shared-slice-read-key-share
+    key-share-requires
     returns
     add-next
     next-requires-2

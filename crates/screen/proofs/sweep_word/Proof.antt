@@ -23,7 +23,7 @@ use Rattle.ranking.specs.Ranks.{keyShare}
 use Rattle.index.specs.Index.{keysAt}
 use Rattle.ranking.proofs.Laws.{keyShare-narrow}
 use Rattle.screen.specs.declared.Sweep.{Sweep}
-use Rattle.screen.specs.Screen.{Side, SweptTo, Rising, Bits}
+use Rattle.screen.specs.Screen.{Side, SweptBelow, SharesRise, Bits}
 use Rattle.screen.proofs.Laws.{skip}
 use Rattle.screen.proofs.sweep_word.Statement.{statement}
 use Rattle.screen.proofs.sweep_word.Tie as tie
@@ -31,9 +31,9 @@ use Rattle.screen.proofs.sweep_word.Tie as tie
 -- the ranks from base to base + c are swept
 abbrev Reached : ℕ → ℕ → List ℕ → ℕ → ℕ → Sweep → ℕ → Sweep → Type 0
 Reached a b index base margin s c r =
-    (mine theirs : ℕ → ℕ) (blocks : ℕ) → Rising index blocks → Bits mine theirs a b base
-    → SweptTo mine theirs index margin blocks base (s .top) (s .reach) (s .under)
-    → SweptTo mine theirs index margin blocks (base + c) (r .top) (r .reach) (r .under)
+    (mine theirs : ℕ → ℕ) (blocks : ℕ) → SharesRise index blocks → Bits mine theirs a b base
+    → SweptBelow mine theirs index margin blocks base (s .top) (s .reach) (s .under)
+    → SweptBelow mine theirs index margin blocks (base + c) (r .top) (r .reach) (r .under)
 
 -- `rest` has the differing bits from c on, and none below
 record Left (a b rest c : ℕ) : Type 0 where
@@ -114,28 +114,28 @@ lowest-requires c κs = omega arith
 bit-at-requires : tie.Need-bit-at-requires Inv-loop μ-loop
 bit-at-requires c κs = c .lowest .ensures .below
 
-add-share-of : tie.Need-add-share-of Inv-loop μ-loop
-add-share-of c = search needs
+add-key-share : tie.Need-add-key-share Inv-loop μ-loop
+add-key-share c = search needs
 
-add-share-of-2 : tie.Need-add-share-of-2 Inv-loop μ-loop
-add-share-of-2 c = search needs
+add-key-share-2 : tie.Need-add-key-share-2 Inv-loop μ-loop
+add-key-share-2 c = search needs
 
-mul-share-of : tie.Need-mul-share-of Inv-loop μ-loop
-mul-share-of c = search needs
+mul-key-share : tie.Need-mul-key-share Inv-loop μ-loop
+mul-key-share c = search needs
 
-shared-slice-read-share-of : tie.Need-shared-slice-read-share-of Inv-loop μ-loop
-shared-slice-read-share-of c =
+shared-slice-read-key-share : tie.Need-shared-slice-read-key-share Inv-loop μ-loop
+shared-slice-read-key-share c =
     let asked = c .before .before .before .before .before .before .before .pre in
     omega (arith, asked .room, asked .sized, c .before .before .lowest .ensures .below)
 
-share-of-requires : tie.Need-share-of-requires Inv-loop μ-loop
-share-of-requires c κs = search needs
+key-share-requires : tie.Need-key-share-requires Inv-loop μ-loop
+key-share-requires c κs = search needs
 
 sweep-block-requires : tie.Need-sweep-block-requires Inv-loop μ-loop
 sweep-block-requires c κs =
     let start = c .before .before .before .before .before .before .before .before in
     record {
-      share-narrow = rw (c .share-of .ensures) (keyShare-narrow _ (c .before .shared-slice-known2 .given _ .fits));
+      share-narrow = rw (c .key-share .ensures) (keyShare-narrow _ (c .before .shared-slice-known2 .given _ .fits));
       margin-narrow = start .pre .margin-narrow;
     }
 
@@ -164,7 +164,7 @@ loop-again c =
     let left = inv .2 in
     let from = from-c (a .a) (a .b) (at .loop .rest) (inv .0) t left (low .ensures .on) in
     let odd : (bit (a .a) t + bit (a .b) t) % 2 ≡ 1 = sym (left .ahead t (low .ensures .below) from) ∙ low .ensures .on in
-    let at-rank = call .before .share-of .ensures ∙ ap (λ (k : ℕ). keyShare (getD index k 0)) (add-assoc keysAt (a .base) t) in (
+    let at-rank = call .before .key-share .ensures ∙ ap (λ (k : ℕ). keyShare (getD index k 0)) (add-assoc keysAt (a .base) t) in (
       t + 1,
       omega (arith, low .ensures .below),
       cleared (a .a) (a .b) (at .loop .rest) (inv .0) t _ left (low .ensures) (c .without-bit .ensures),
@@ -196,11 +196,11 @@ sweep-word-spec =
     loop-holds
     lowest-requires
     bit-at-requires
-    add-share-of
-    add-share-of-2
-    mul-share-of
-    shared-slice-read-share-of
-    share-of-requires
+    add-key-share
+    add-key-share-2
+    mul-key-share
+    shared-slice-read-key-share
+    key-share-requires
     sweep-block-requires
     returns
     without-bit-requires

@@ -10,7 +10,7 @@ use Rattle.model.specs.Placement.{held}
 use Rattle.model.specs.Steps.{isStep}
 use Rattle.cluster.specs.declared.Cluster.{Cluster}
 use Rattle.cluster.proofs.Laws.{cluster-blocks, placement-block}
-use Rattle.index.specs.declared.Route.{Route}
+use Rattle.transfers.specs.declared.Route.{Route}
 use Rattle.transfers.specs.Route.{hitOf, blockStep, RouteIn, RouteScene, HasRoom}
 use Rattle.transfers.proofs.Laws.{Passed, passed-first, passed-next, passed-candidate, routeStep-found, routeStep-none, blockStep-others}
 use borrow.Author.Needs.{needs}

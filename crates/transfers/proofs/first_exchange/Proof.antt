@@ -16,7 +16,7 @@ use Rattle.model.specs.Placement.{wordOf, held}
 use Rattle.theory.proofs.Placement.{bit-cases}
 use Rattle.cluster.specs.declared.Cluster.{Cluster}
 use Rattle.cluster.specs.Blocks.{linkedTo}
-use Rattle.index.specs.declared.Route.{Route}
+use Rattle.transfers.specs.declared.Route.{Route}
 use Rattle.transfers.specs.Route.{Free, FreeOf, RouteScene, CandidateAsked, ExchangeFound}
 use Rattle.transfers.proofs.Laws.{candidate-block, reversed-asked, lies-at, linked-back, Exchange, exchange-free, exchange-own, swap-exchange}
 use borrow.Author.Needs.{needs}

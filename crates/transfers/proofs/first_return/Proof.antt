@@ -10,7 +10,7 @@ use Rattle.model.specs.Plan.{Plan}
 use Rattle.model.specs.Placement.{held}
 use Rattle.cluster.specs.declared.Cluster.{Cluster}
 use Rattle.cluster.specs.Blocks.{PlacementOf}
-use Rattle.index.specs.declared.Route.{Route}
+use Rattle.transfers.specs.declared.Route.{Route}
 use Rattle.transfers.specs.Route.{FreeReturn}
 use Rattle.transfers.proofs.Laws.{Passed, passed-first, passed-next, passed-candidate, candidate-return, noReturn-block}
 use borrow.Author.Needs.{needs}

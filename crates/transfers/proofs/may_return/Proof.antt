@@ -8,7 +8,7 @@ use native.Mathlib.Omega.{arith}
 use borrow.Author.Tests.{ltb-false}
 use Rattle.order.proofs.Booleans.{no-contradiction}
 use Rattle.cluster.specs.declared.Cluster.{Cluster}
-use Rattle.index.specs.declared.Route.{Route}
+use Rattle.transfers.specs.declared.Route.{Route}
 use Rattle.index.specs.Index.{byRank, spot, shareAt, NextOf, AboveOf}
 use Rattle.transfers.specs.Route.{InMargin}
 use borrow.Author.Needs.{needs}
@@ -46,17 +46,17 @@ returns-2 c =
     λ e r l on off margin.
     omega (arith, c .if2 .taken, l, not-before (a .route) (a .given) few (found .before .first-above .ensures) (found .next .ensures) r l on off margin)
 
-add-share-of : tie.Need-add-share-of
-add-share-of c = search needs
+add-key-share : tie.Need-add-key-share
+add-key-share c = search needs
 
-mul-share-of : tie.Need-mul-share-of
-mul-share-of c = search needs
+mul-key-share : tie.Need-mul-key-share
+mul-key-share c = search needs
 
-shared-slice-read-share-of : tie.Need-shared-slice-read-share-of
-shared-slice-read-share-of c = search needs
+shared-slice-read-key-share : tie.Need-shared-slice-read-key-share
+shared-slice-read-key-share c = search needs
 
-share-of-requires : tie.Need-share-of-requires
-share-of-requires c κs = search needs
+key-share-requires : tie.Need-key-share-requires
+key-share-requires c κs = search needs
 
 returns-3 : tie.Need-returns-3
 returns-3 c =
@@ -66,7 +66,7 @@ returns-3 c =
     let a = start .args in
     λ e r l on off margin.
     let after = not-before (a .route) (a .given) few (found .before .first-above .ensures) (found .next .ensures) r l on off margin in
-    omega (arith, ltb-false (c .share-of .result) (a .given) e, c .share-of .ensures, start .pre .above-asked .rising _ r after l, margin .gain)
+    omega (arith, ltb-false (c .key-share .result) (a .given) e, c .key-share .ensures, start .pre .above-asked .rising _ r after l, margin .gain)
 
 pub may-return-spec : {M : Type 1} → statement M
 may-return-spec =
@@ -76,8 +76,8 @@ may-return-spec =
     first-above-requires
     next-requires
     returns-2
-    add-share-of
-    mul-share-of
-    shared-slice-read-share-of
-    share-of-requires
+    add-key-share
+    mul-key-share
+    shared-slice-read-key-share
+    key-share-requires
     returns-3)

@@ -12,7 +12,7 @@ use Rattle.model.specs.Placement.{wordOf, held}
 use Rattle.theory.proofs.Placement.{bit-cases}
 use Rattle.cluster.specs.declared.Cluster.{Cluster}
 use Rattle.cluster.specs.Blocks.{linkedTo, PlacementOf}
-use Rattle.index.specs.declared.Route.{Route}
+use Rattle.transfers.specs.declared.Route.{Route}
 use Rattle.transfers.specs.Route.{ReturnAsked, Return, OwnAsked, OwnFound}
 use Rattle.transfers.proofs.Laws.{linked-below, return-block, lies-at}
 use borrow.Author.Needs.{needs}

@@ -20,9 +20,9 @@ use denote.Steps.{peeks}
 use denote.Enum.Laws as EL
 use denote.Triple.Walked.{stay-dropped, goes-dropped}
 use Rattle.model.specs.declared.Entry.{Entry}
-use Rattle.window.specs.declared.ReadsAnswer.{ReadsAnswer}
-use Rattle.window.proofs.ReadsAnswer as R
-use Rattle.window.proofs.ReadsAnswer.Laws as R′
+use Rattle.readwindow.specs.declared.ReadsAnswer.{ReadsAnswer}
+use Rattle.readwindow.proofs.ReadsAnswer as R
+use Rattle.readwindow.proofs.ReadsAnswer.Laws as R′
 use Rattle.reads.proofs.popularity as popularity
 use Rattle.reads.proofs.popularity.Symbol as popularity-def
 use Rattle.reads.proofs.popularity.Symbol.{name as #reads·popularity}

@@ -20,9 +20,9 @@ use denote.Triple.Walked.{stay-dropped, goes-dropped}
 use Rattle.model.specs.declared.Entry.{Entry}
 use Rattle.model.specs.ReadLog.{readCall}
 use Rattle.reads.specs.Answers.{readsOutcome}
-use Rattle.window.specs.declared.ReadsAnswer.{ReadsAnswer}
-use Rattle.window.proofs.ReadsAnswer as R
-use Rattle.window.proofs.ReadsAnswer.Laws as R′
+use Rattle.readwindow.specs.declared.ReadsAnswer.{ReadsAnswer}
+use Rattle.readwindow.proofs.ReadsAnswer as R
+use Rattle.readwindow.proofs.ReadsAnswer.Laws as R′
 use Rattle.reads.proofs.read as read
 use Rattle.reads.proofs.read.Symbol as read-def
 use Rattle.reads.proofs.read.Symbol.{name as #reads·read}
