@@ -1,6 +1,6 @@
 // A cluster's numbers, and those of its blocks in one word each, as they travel from the reader to every inner function.
 ghost use mathlib.Core.Path.{_≡_};
-ghost use Prim.Native.Nat.{_+_, _≤_, _<_};
+ghost use Prim.Native.Nat.{_+_, _≤_, _<_, min};
 ghost use Rattle.model.specs.Refusal.{maxMachines, maxBlocks};
 ghost use Rattle.theory.specs.Widths.{popularityBound, shareBound};
 ghost use Rattle.cluster.specs.Cluster.{machinesIn, InRange};
@@ -10,6 +10,16 @@ ghost use Rattle.cluster.specs.Blocks.{linkIn, linkedTo, demandWord, pop
 pub const MAX_MACHINES: usize = 64;
 
 pub const MAX_BLOCKS: usize = 1024;
+
+// The smaller of two numbers.
+pub fn smaller(a: u64, b: u64) -> u64
+    ensures { λ r. ⌜ r ≡ min a b ⌝ }
+{
+    if b < a {
+        return b;
+    }
+    a
+}
 
 // The racks R, the machines in each S, the mains feeds F, the copies that a machine can hold C, and the blocks B.
 pub struct Cluster {

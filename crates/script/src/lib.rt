@@ -4,7 +4,6 @@ use service::CheckAnswer;
 use service::RunAnswer;
 use service::StepAnswer;
 ghost use mathlib.Core.Path.{_≡_};
-ghost use Prim.Native.Nat.{min};
 ghost use Rattle.model.specs.Claims.{askCheck, askStep, askRun, respond, does};
 ghost use Rattle.script.specs.Script.{requestIn, callWith, callOf, playedBy};
 ghost use Rattle.script.specs.Promise.{ScriptPlayed};
@@ -74,23 +73,13 @@ fn call_lent(bytes: &[u8], words: &mut [u64], item: u64) -> LastReply
     run_lent(bytes, words, (item % LIMIT_SPAN) as u32)
 }
 
-// The smaller of two numbers.
-fn fewer(asked: usize, held: usize) -> usize
-    ensures { λ r. ⌜ r ≡ min asked held ⌝ }
-{
-    if asked < held {
-        return asked;
-    }
-    held
-}
-
 // The call of an item, on the first so many of the words as it asks for.
 fn call_part(bytes: &[u8], words: &mut [u64], item: u64) -> LastReply
     ensures { λ r. ⌜ playedBy r (now (words .exit))
         ≡ does (callWith (now (bytes .entry)) item) (now (words .entry)) ⌝ }
 {
-    let asked = (item / LIMIT_SPAN / 8) as usize;
-    let lent = fewer(asked, words.len());
+    let asked = item / LIMIT_SPAN / 8;
+    let lent = cluster::smaller(asked, words.len() as u64) as usize;
     call_lent(bytes, &mut words[..lent], item)
 }
 

@@ -7,8 +7,8 @@ use Rattle.script.proofs.Laws.{does-part}
 use Rattle.script.proofs.call_part.Statement.{statement}
 use Rattle.script.proofs.call_part.Tie as tie
 
-fewer-requires : tie.Need-fewer-requires
-fewer-requires c κs = search needs
+smaller-requires : tie.Need-smaller-requires
+smaller-requires c κs = search needs
 
 slice-relend-prefix-call-lent : tie.Need-slice-relend-prefix-call-lent
 slice-relend-prefix-call-lent c = search needs
@@ -25,13 +25,13 @@ same-length c = search needs
 returns : tie.Need-returns
 returns c =
     let called = c .before .before in
-    does-part _ _ _ _ _ (called .before .before .fewer .ensures) (called .call-lent .ensures)
+    does-part _ _ _ _ _ (called .before .before .smaller .ensures) (called .call-lent .ensures)
 
 pub call-part-spec : {M : Type 1} → statement M
 call-part-spec =
     tie.close
     (tie.spec
-    fewer-requires
+    smaller-requires
     slice-relend-prefix-call-lent
     slice-aggregate-call-lent
     call-lent-requires
