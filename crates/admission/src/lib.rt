@@ -5,11 +5,13 @@ use header::Header;
 use loads::Loads;
 use plan::Reading;
 ghost use mathlib.Core.Path.{_≡_};
-ghost use Prim.Native.Nat.{_≤_, min};
+ghost use Prim.Native.Nat.{_≤_};
 ghost use lib.ListN.{length};
 ghost use Rattle.model.specs.Refusal.{maxBlocks, judge, accepted};
+ghost use Rattle.model.specs.Plan.{Plan};
+ghost use Rattle.cluster.specs.Blocks.{DemandsOf};
 ghost use Rattle.plan.specs.Reading.{planOf, DecodeAsked};
-ghost use Rattle.admission.specs.Admission.{Prepared, Admitted, PlacementAdmitted};
+ghost use Rattle.admission.specs.Admission.{Demanded, PreparedChosen, Admitted, CountedAsked, Weighed, PlacementAdmitted};
 
 // What a call on a plan begins with: the refusal code, 0 for none; the cluster, and the largest share at the chosen counts.
 pub struct Intake {
@@ -26,23 +28,24 @@ pub struct Placement {
     pub loads: Loads,
 }
 
-fn smaller(a: usize, b: usize) -> usize
-    ensures { λ r. ⌜ r ≡ min a b ⌝ }
+// The demands of an accepted plan's blocks, and the most copies that it allows in all.
+fn demand_all(bytes: &[u8], h: Header, demands: &mut [u64]) -> usize
+    requires { ⌜ DecodeAsked (now bytes) h (now demands) ⌝ }
+    ensures { λ r. ⌜ Demanded (planOf (now (bytes .entry)) h) (h .cluster) (now (demands .exit)) r ⌝ }
 {
-    if a < b {
-        return a;
-    }
-    b
+    let cluster = h.cluster;
+    plan::decode(bytes, h, demands);
+    let places = cluster.machines() * cluster.capacity;
+    cluster::smaller(h.budget as u64, places as u64) as usize
 }
 
 // The profiles of an accepted plan's blocks at the chosen counts, and the largest share.
 pub fn prepare(bytes: &[u8], h: Header, profiles: &mut [u64]) -> u64
     requires { ⌜ DecodeAsked (now bytes) h (now profiles) ⌝ }
-    ensures { λ r. ⌜ Prepared (planOf (now (bytes .entry)) h) (h .cluster) (now (profiles .exit)) r ⌝ }
+    ensures { λ r. ⌜ PreparedChosen (planOf (now (bytes .entry)) h) (h .cluster) (now (profiles .exit)) r ⌝ }
 {
     let cluster = h.cluster;
-    plan::decode(bytes, h, profiles);
-    let allowed = smaller(h.budget, cluster.machines() * cluster.capacity);
+    let allowed = demand_all(bytes, h, profiles);
     replication::choose(profiles, allowed, cluster)
 }
 
@@ -81,7 +84,7 @@ fn admit_accepted(bytes: &[u8], h: Header, lent: usize, profiles: &mut [u64]) ->
     }
 }
 
-// Any bytes, with so many items lent: rows 1 to 12. Where the code is 0, the profiles are in the lent list.
+// Any bytes, with so many items lent: rows 1 to 12, 17, 22 and 23. Where the code is 0, the profiles are in the lent list.
 pub fn admit(bytes: &[u8], lent: usize, profiles: &mut [u64]) -> Intake
     requires { ⌜ maxBlocks ≤ length (now profiles) ⌝ }
     ensures { λ r. ⌜ Admitted (now (bytes .entry)) lent (now (profiles .exit)) r ⌝ }
@@ -93,31 +96,67 @@ pub fn admit(bytes: &[u8], lent: usize, profiles: &mut [u64]) -> Intake
     }
 }
 
-// Any bytes with any words: rows 1 to 16. Where the code is 0, the profiles are in the lent list.
+// A refused placement has no cluster and no loads.
+fn refused_placement(code: u8) -> Placement
+    ensures { λ r. ⌜ r .code ≡ code ⌝ }
+{
+    let intake = turned_back(code);
+    let cluster = intake.cluster;
+    let loads = Loads {
+        load: [0u64; MAX_MACHINES],
+        copies: [0usize; MAX_MACHINES],
+    };
+    Placement {
+        code: intake.code,
+        cluster,
+        top: 0,
+        loads,
+    }
+}
+
+// Words that have passed rows 13 and 14, with the demands: the profiles and loads at the counts held, and rows 15, 16 and 18.
+fn admit_counted(words: &[u64], profiles: &mut [u64], cluster: Cluster) -> Placement
+    requires { ⌜ CountedAsked cluster (now words) (now profiles) ⌝ }
+    ensures { λ r. ⌜ ((p : Plan) → DemandsOf p cluster (now (profiles .entry))
+        → Weighed p cluster (now (words .entry)) (now (profiles .exit)) r) ⌝ }
+{
+    let largest = replication::fill_held(profiles, words, cluster);
+    let loads = loads::sum_words(words, profiles, cluster);
+    let code = validation::layout_refusal(words, profiles, loads, cluster);
+    Placement {
+        code,
+        cluster,
+        top: largest,
+        loads,
+    }
+}
+
+// An accepted plan with any words: rows 12, 13 and 14 on words and demands, then the others.
+fn admit_words(bytes: &[u8], h: Header, words: &[u64], profiles: &mut [u64]) -> Placement
+    requires { ⌜ (judge (now bytes) ≡ accepted (planOf (now bytes) h)) × (maxBlocks ≤ length (now profiles)) ⌝ }
+    ensures { λ r. ⌜ PlacementAdmitted (now (bytes .entry)) (now (words .entry)) (now (profiles .exit)) r ⌝ }
+{
+    let cluster = h.cluster;
+    if words.len() < cluster.blocks {
+        return refused_placement(12);
+    }
+    let allowed = demand_all(bytes, h, profiles);
+    let figure = replication::best_figure(profiles, allowed, cluster);
+    let code = validation::counts_refusal(words, profiles, cluster, figure);
+    if code != 0 {
+        return refused_placement(code);
+    }
+    admit_counted(words, profiles, cluster)
+}
+
+// Any bytes with any words: rows 1 to 18, 22 and 23. Where the code is 0, the profiles are in the lent list.
 pub fn admit_placement(bytes: &[u8], words: &[u64], profiles: &mut [u64]) -> Placement
     requires { ⌜ maxBlocks ≤ length (now profiles) ⌝ }
     ensures { λ r. ⌜ PlacementAdmitted (now (bytes .entry)) (now (words .entry)) (now (profiles .exit)) r ⌝ }
 {
-    let intake = admit(bytes, words.len(), profiles);
-    let cluster = intake.cluster;
-    if intake.code != 0 {
-        let loads = Loads {
-            load: [0u64; MAX_MACHINES],
-            copies: [0usize; MAX_MACHINES],
-        };
-        return Placement {
-            code: intake.code,
-            cluster,
-            top: 0,
-            loads,
-        };
-    }
-    let loads = loads::sum_words(words, profiles, cluster);
-    let code = validation::validate(words, profiles, loads, cluster);
-    Placement {
-        code,
-        cluster,
-        top: intake.top,
-        loads,
+    let reading = plan::read(bytes);
+    match reading {
+        Reading::Refused(code) => refused_placement(code),
+        Reading::Accepted(h) => admit_words(bytes, h, words, profiles),
     }
 }

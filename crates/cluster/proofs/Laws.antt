@@ -1,26 +1,29 @@
 -- The numbers of a valid plan are in range, and its blocks' words give back what was put into them.
 -- Assumes nothing.
-use mathlib.Core.Path.{_≡_, refl, ap, _∙_}
+use mathlib.Core.Path.{_≡_, refl, ap, sym, _∙_}
 use mathlib.Core.Bool.{Bool, true, false, cond, _||_}
 use mathlib.Core.List.{List}
 use mathlib.Core.Logic.{inl, inr}
-use Prim.Native.Nat.{ℕ, zero, suc, _+_, _*_, _-_, _≤_, _<_}
+use Prim.Native.Nat.{ℕ, zero, suc, _+_, _*_, _-_, _^_, _≤_, _<_}
 use native.Mathlib.Nat.{le-trans, one-le-mul, mul-le-mul-right}
 use native.Mathlib.Omega.{arith}
 use lib.ListN.{getD}
 use Rattle.order.proofs.Arithmetic.{divisor-le}
+use Rattle.order.specs.Sum.{sum}
+use Rattle.order.proofs.Sums.{sum-cong, sum-none}
+use Rattle.order.proofs.Ranges.{sum-append}
 use Rattle.order.proofs.Booleans.{bool-cases}
 use Rattle.model.specs.Plan.{Plan, machines, domain, blockCount, blockOf, pairsNext, pairsBack, isPaired, partner, upper}
-use Rattle.model.specs.Replication.{FeasibleCounts, share}
-use Rattle.model.specs.Placement.{shareOf}
+use Rattle.model.specs.Replication.{share}
+use Rattle.model.specs.Refusal.{maxMachines}
+use Rattle.model.specs.Placement.{bit, wordOf, replicas, countOf, shareOf}
 use Rattle.theory.specs.Widths.{mostReplicas}
 use Rattle.theory.specs.Refusal.{ValidBlock, Shaped, Valid}
 use Rattle.theory.proofs.Plan.{partner-below, upper-max}
-use Rattle.theory.proofs.Replication.{feasibleCounts-range}
-use Rattle.theory.proofs.Placement.{shareOf-feasible}
+use Rattle.theory.proofs.Placement.{bit-above-from, shareOf-feasible}
 use Rattle.cluster.specs.declared.Cluster.{Cluster}
 use Rattle.cluster.specs.Cluster.{machinesIn, domainIn, InRange, clusterOf, ClusterOf}
-use Rattle.cluster.specs.Blocks.{linkOf, linkIn, linkedTo, mate, Linked, popularityIn, leastIn, spreadAsked, mostIn, shareIn, countIn, spreadIn, demandOf, DemandsOf, profileOf, ProfilesOf, PlacementOf}
+use Rattle.cluster.specs.Blocks.{linkOf, linkIn, linkedTo, mate, Linked, popularityIn, leastIn, spreadAsked, mostIn, shareIn, countIn, spreadIn, demandOf, DemandsOf, copiesIn, CountsFit, profileOf, ProfilesOf, PlacementOf}
 
 -- ── InRange ────────────────────────────────────────────────────────────────────────────────────────────────────────────
 
@@ -217,6 +220,35 @@ module _ (p : Plan) (c : Cluster) (demands : List ℕ) (of : DemandsOf p c deman
   pub demands-link : linkIn (getD demands i 0) ≡ linkOf p i
   demands-link = rw (of .are i l) (demandOf-link p i)
 
+-- ── copiesIn ───────────────────────────────────────────────────────────────────────────────────────────────────────────
+
+-- below 2 ^ M, the sum of the first n bits is that of the first M
+bits-within : (n M w : ℕ) → M ≤ n → w < 2 ^ M → sum n (bit w) ≡ sum M (bit w)
+bits-within n M w l h =
+    let cut : M + (n - M) ≡ n = omega arith in
+    let above : sum (n - M) (λ j. bit w (M + j)) ≡ 0 =
+    sum-cong (n - M) _ (λ j. 0) (λ j b. bit-above-from w M h (M + j) (omega arith)) ∙ sum-none (n - M)
+    in
+    ap (λ (k : ℕ). sum k (bit w)) (sym cut) ∙ sum-append M (n - M) (bit w) ∙ (omega arith)
+
+-- a word that names the plan's machines alone has as many copies as the plan counts
+pub copiesIn-within : (p : Plan) → machines p ≤ maxMachines → (word : ℕ) → word < 2 ^ machines p → copiesIn word ≡ replicas p word
+unfolding replicas
+copiesIn-within p most word below = bits-within maxMachines (machines p) word most below
+
+-- ── CountsFit ──────────────────────────────────────────────────────────────────────────────────────────────────────────
+
+-- the copies held are the plan's own counts of the words, from its least copies to its upper counts
+module _ (p : Plan) (c : Cluster) (words demands : List ℕ) (of : DemandsOf p c demands) (fit : CountsFit c words demands)
+    (i : ℕ) (l : i < c .blocks) where
+  pub counts-held : copiesIn (wordOf words i) ≡ countOf p words i
+  counts-held =
+      copiesIn-within p (of .cluster .valid .shaped .machines-max) (wordOf words i)
+      (rw (cluster-machines p c (of .cluster)) at (fit .within i l))
+
+  pub counts-upper : countOf p words i ≤ upper p i
+  counts-upper = rw (counts-held, demands-most p c demands of i l) at (fit .at-most i l)
+
 -- ── profileOf ──────────────────────────────────────────────────────────────────────────────────────────────────────────
 
 module _ (p : Plan) (count : ℕ → ℕ) (i : ℕ) (b : ValidBlock p i) (few : count i ≤ mostReplicas) where
@@ -238,13 +270,14 @@ profileOf-link p count i = let k = linkOf-narrow p i in omega arith
 
 -- ── ProfilesOf ─────────────────────────────────────────────────────────────────────────────────────────────────────────
 
+-- at counts that are at most the upper counts
 module _ (p : Plan) (count : ℕ → ℕ) (c : Cluster) (profiles : List ℕ) (of : ProfilesOf p count c profiles)
-    (counts : FeasibleCounts p count) (i : ℕ) (l : i < c .blocks) where
+    (at-most : (i : ℕ) → i < blockCount p → count i ≤ upper p i) (i : ℕ) (l : i < c .blocks) where
   in-plan : i < blockCount p
   in-plan = rw (cluster-blocks p c (of .cluster)) at l
 
   count-few : count i ≤ mostReplicas
-  count-few = feasibleCounts-range p count (of .cluster .valid .shaped) counts i in-plan .1
+  count-few = le-trans (at-most i in-plan) (upper-max p i)
 
   pub profiles-share : shareIn (getD profiles i 0) ≡ share (blockOf p i .popularity) (count i)
   profiles-share = rw (of .are i l) (profileOf-share p count i (cluster-block p c (of .cluster) i l) count-few)
@@ -269,11 +302,11 @@ module _ (p : Plan) (count : ℕ → ℕ) (c : Cluster) (words profiles : List �
 
   pub placement-share : shareIn (getD profiles i 0) ≡ shareOf p words i
   placement-share =
-      profiles-share p count c profiles (of .profiles-of) (of .feasible .counts) i l
+      profiles-share p count c profiles (of .profiles-of) (of .feasible .counts .at-most) i l
       ∙ shareOf-feasible p count words (of .feasible) i placement-block
 
   pub placement-spread : spreadIn (getD profiles i 0) ≡ blockOf p i .minDomains
-  placement-spread = profiles-spread p count c profiles (of .profiles-of) (of .feasible .counts) i l
+  placement-spread = profiles-spread p count c profiles (of .profiles-of) (of .feasible .counts .at-most) i l
 
 -- a machine of the cluster is one of the plan
 pub placement-machine : (p : Plan) (count : ℕ → ℕ) (c : Cluster) (words profiles : List ℕ) → PlacementOf p count c words profiles

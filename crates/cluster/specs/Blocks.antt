@@ -3,14 +3,16 @@
 use mathlib.Core.Path.{_≡_}
 use mathlib.Core.Bool.{cond}
 use mathlib.Core.List.{List}
-use Prim.Native.Nat.{ℕ, _+_, _*_, _-_, _/_, _%_, _<_, _≤_}
+use Prim.Native.Nat.{ℕ, _+_, _*_, _-_, _/_, _%_, _^_, _<_, _≤_}
 use lib.ListN.{length, getD}
+use Rattle.order.specs.Sum.{sum}
 use Rattle.model.specs.Plan.{Plan, blockOf, pairsNext, pairsBack, isPaired, partner, upper}
 use Rattle.model.specs.Replication.{share}
-use Rattle.model.specs.Placement.{Feasible}
+use Rattle.model.specs.Refusal.{maxMachines}
+use Rattle.model.specs.Placement.{bit, wordOf, Feasible}
 use Rattle.theory.specs.Widths.{mostReplicas, popularityBound, shareBound}
 use Rattle.cluster.specs.declared.Cluster.{Cluster}
-use Rattle.cluster.specs.Cluster.{InRange, ClusterOf}
+use Rattle.cluster.specs.Cluster.{machinesIn, InRange, ClusterOf}
 
 -- Where a block's partner stands, told by a link: 0 for the preceding block, 2 for the next one, 1 for a block that has none. Both
 -- words end in it, in two bits.
@@ -88,6 +90,18 @@ pub record DemandsFit (c : Cluster) (demands : List ℕ) : Type 0 where
 pub record DemandsOf (p : Plan) (c : Cluster) (demands : List ℕ) : Type 0 where
   pub cluster : ClusterOf p c
   pub are : (i : ℕ) → i < c .blocks → getD demands i 0 ≡ demandOf p i
+
+-- The copies that a word names.
+abbrev pub copiesIn : ℕ → ℕ
+copiesIn word = sum maxMachines (bit word)
+
+-- These words have room, name machines of the cluster alone, and hold copies from the least to the most that the demands allow.
+pub record CountsFit (c : Cluster) (words demands : List ℕ) : Type 0 where
+  pub demands-fit : DemandsFit c demands
+  pub word-room : c .blocks ≤ length words
+  pub within : (i : ℕ) → i < c .blocks → wordOf words i < 2 ^ machinesIn c
+  pub at-least : (i : ℕ) → i < c .blocks → leastIn (getD demands i 0) ≤ copiesIn (wordOf words i)
+  pub at-most : (i : ℕ) → i < c .blocks → copiesIn (wordOf words i) ≤ mostIn (getD demands i 0)
 
 -- These profiles have room and range.
 pub record ProfilesFit (c : Cluster) (profiles : List ℕ) : Type 0 where

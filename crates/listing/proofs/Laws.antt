@@ -71,7 +71,7 @@ module _ (p : Plan) (c : Cluster) (limit : ℕ) (profiles words : List ℕ) (r :
       let m = rw all at l in
       let few = made .profiles-of .cluster .valid .shaped .machines-max in
       let count : countIn (getD profiles i 0) ≡ countOf p words i =
-      profiles-count p (chosen p) c profiles (made .profiles-of) (feasible .counts) i l ∙ sym (feasible .counted i m)
+      profiles-count p (chosen p) c profiles (made .profiles-of) (feasible .counts .at-most) i l ∙ sym (feasible .counted i m)
       in
       let past = holders-past (wordOf words i) (machines p) (maxMachines - machines p) (feasible .within i m) in
       let held : holders (wordOf words i) maxMachines ≡ holders (wordOf words i) (machines p) =
@@ -106,7 +106,7 @@ module _ (p : Plan) (c : Cluster) (limit : ℕ) (profiles words : List ℕ) (r :
       let narrow : (i : ℕ) → i < blockCount p → share (blockOf p i .popularity) (chosen p i) < shareBound =
       λ i m.
       let k = rw (← all) at m in
-      omega (arith, fit .narrow i k, profiles-share p (chosen p) c profiles (made .profiles-of) (placement .feasible .counts) i k)
+      omega (arith, fit .narrow i k, profiles-share p (chosen p) c profiles (made .profiles-of) (placement .feasible .counts .at-most) i k)
       in
       rw listing-is (record { fits = omega (arith, listingOf-fits p (made .profiles-of .cluster .valid) narrow limit l) })
 

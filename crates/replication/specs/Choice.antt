@@ -6,11 +6,11 @@ use Prim.Native.Nat.{ℕ, _*_, _-_, _<_, _≤_}
 use Rattle.order.specs.Table.{filled}
 use Rattle.model.specs.Plan.{Plan, blockCount, upper}
 use Rattle.model.specs.Refusal.{maxMachines, maxCapacity, maxBlocks}
-use Rattle.model.specs.Replication.{copyLimit as limitOf, largestShare, need, reachable, chosen}
+use Rattle.model.specs.Replication.{copyLimit as limitOf, share, largestShare, need, reachable, chosen}
 use Rattle.theory.specs.Refusal.{Valid}
 use Rattle.theory.specs.Widths.{mostReplicas, popularityBound, shareBound}
 use Rattle.cluster.specs.declared.Cluster.{Cluster}
-use Rattle.cluster.specs.Blocks.{DemandsFit, DemandsOf, profileOf, ProfilesFit}
+use Rattle.cluster.specs.Blocks.{popularityIn, spreadAsked, mostIn, linkIn, profileWord, DemandInRange, DemandsFit, DemandsOf, profileOf, ProfilesFit}
 use Rattle.needs.specs.declared.Extent.{Extent}
 use Rattle.needs.specs.declared.Tally.{Tally}
 use Rattle.needs.specs.Needs.{TallyOf}
@@ -68,12 +68,18 @@ pub record FigureOf (p : Plan) (f : ℕ) : Type 0 where
   pub reached : reachable p f ≡ true
   pub counts-are : (i : ℕ) → i < blockCount p → need p f i ≡ chosen p i
 
--- The profiles of plan p's blocks at the chosen counts, in their ranges, in the place of the demands; the later items stay.
-pub record ChosenProfiles (p : Plan) (c : Cluster) (demands profiles : List ℕ) : Type 0 where
-  pub are : profiles ≡ filled (blockCount p) (profileOf p (chosen p)) demands
-  pub fit : ProfilesFit c profiles
+-- A demand and a count that it allows; and the profile at that count.
+pub record ProfileAsked (demand count : ℕ) : Type 0 where
+  pub in-range : DemandInRange demand
+  pub count-pos : 1 ≤ count
+  pub count-max : count ≤ mostIn demand
 
--- With the largest share.
-pub record ChosenAs (p : Plan) (c : Cluster) (demands profiles : List ℕ) (top : ℕ) : Type 0 where
-  pub profiles-are : ChosenProfiles p c demands profiles
-  pub top-is : top ≡ largestShare p (chosen p)
+abbrev pub profileAt : ℕ → ℕ → ℕ
+profileAt demand count = profileWord (share (popularityIn demand) count) count (spreadAsked demand) (linkIn demand)
+
+-- The profiles of plan p's blocks at these counts, in their ranges, in the place of the demands; the later items stay. With the largest
+-- share.
+pub record FilledAs (p : Plan) (count : ℕ → ℕ) (c : Cluster) (demands profiles : List ℕ) (top : ℕ) : Type 0 where
+  pub are : profiles ≡ filled (blockCount p) (profileOf p count) demands
+  pub fit : ProfilesFit c profiles
+  pub top-is : top ≡ largestShare p count

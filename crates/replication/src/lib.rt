@@ -7,10 +7,12 @@ use needs::UNIT;
 ghost use mathlib.Core.Path.{_≡_};
 ghost use Prim.Native.Nat.{_<_, _≤_, min};
 ghost use Rattle.model.specs.Plan.{Plan};
+ghost use Rattle.model.specs.Replication.{chosen};
+ghost use Rattle.model.specs.Placement.{countOf};
 ghost use Rattle.theory.specs.Widths.{shareBound};
-ghost use Rattle.cluster.specs.Blocks.{DemandsOf};
+ghost use Rattle.cluster.specs.Blocks.{DemandsOf, CountsFit};
 ghost use Rattle.needs.specs.Needs.{FigureAsked};
-ghost use Rattle.replication.specs.Choice.{BracketAsked, BracketFits, NarrowAsked, NarrowedTo, LimitedDemands, ChooseAsked, FigureOf, ChosenAs};
+ghost use Rattle.replication.specs.Choice.{BracketAsked, BracketFits, NarrowAsked, NarrowedTo, LimitedDemands, ChooseAsked, FigureOf, ProfileAsked, profileAt, FilledAs};
 
 // The most copies over the limit that a probe reckons with.
 const MOST_OVER: u64 = 65536;
@@ -25,15 +27,6 @@ struct Bracket {
     turn: u64,
 }
 
-fn smaller(a: u64, b: u64) -> u64
-    ensures { λ r. ⌜ r ≡ min a b ⌝ }
-{
-    if a < b {
-        return a;
-    }
-    b
-}
-
 // The bracket before the first probe. At its lower end each block is reckoned to use half of its last copy.
 fn bracket_of(extent: Extent, allowed: usize, blocks: usize) -> Bracket
     requires { ⌜ BracketAsked extent allowed blocks ⌝ }
@@ -42,7 +35,7 @@ fn bracket_of(extent: Extent, allowed: usize, blocks: usize) -> Bracket
     let copies = extent.popularity * UNIT / (extent.low + 1) + blocks as u64 / 2;
     let mut over: u64 = 0;
     if copies > allowed as u64 {
-        over = smaller(copies - allowed as u64, MOST_OVER);
+        over = cluster::smaller(copies - allowed as u64, MOST_OVER);
     }
     let spare = allowed - extent.copies;
     Bracket {
@@ -101,7 +94,7 @@ fn narrowed(bracket: Bracket, wanted: u64, tally: Tally, allowed: usize) -> Brac
     if tally.fewer <= allowed {
         return Bracket {
             low: tally.next,
-            high: smaller(tally.next, bracket.high),
+            high: cluster::smaller(tally.next, bracket.high),
             over: 0,
             spare: bracket.spare,
             turn,
@@ -119,7 +112,7 @@ fn narrowed(bracket: Bracket, wanted: u64, tally: Tally, allowed: usize) -> Brac
 
 // A figure whose needs are the chosen counts, by bisection: the least that is reachable, or one whose needs use the whole limit. Where the
 // least copies do, no other figure is tried.
-fn best_figure(demands: &[u64], allowed: usize, cluster: Cluster) -> u64
+pub fn best_figure(demands: &[u64], allowed: usize, cluster: Cluster) -> u64
     requires { ⌜ ChooseAsked cluster (now demands) allowed ⌝ }
     ensures { λ r. ⌜ ((p : Plan) → LimitedDemands p cluster (now (demands .entry)) allowed → FigureOf p r) × (r < shareBound) ⌝ }
 {
@@ -139,23 +132,49 @@ fn best_figure(demands: &[u64], allowed: usize, cluster: Cluster) -> u64
     bracket.high
 }
 
+// A block's profile at a count.
+fn profile_at(demand: u64, count: usize) -> u64
+    requires { ⌜ ProfileAsked demand count ⌝ }
+    ensures { λ r. ⌜ r ≡ profileAt demand count ⌝ }
+{
+    let popularity = cluster::popularity_of(demand);
+    let share = needs::share_at(Fraction { popularity, count });
+    let spread = cluster::spread_asked(demand);
+    cluster::profile(share, count, spread, cluster::link_of(demand))
+}
+
 // Puts the blocks' profiles, at the needs within a figure, in the place of their demands, and answers the largest share.
-fn fill(items: &mut [u64], cluster: Cluster, wanted: u64) -> u64
+fn fill_needed(items: &mut [u64], cluster: Cluster, wanted: u64) -> u64
     requires { ⌜ FigureAsked cluster (now items) wanted ⌝ }
     ensures { λ r. ⌜ ((p : Plan) → DemandsOf p cluster (now (items .entry)) → FigureOf p wanted
-        → ChosenAs p cluster (now (items .entry)) (now (items .exit)) r) ⌝ }
+        → FilledAs p (chosen p) cluster (now (items .entry)) (now (items .exit)) r) ⌝ }
 {
     let scale = needs::scale_of(wanted);
     let mut top: u64 = 0;
     let mut i: usize = 0;
     while i < cluster.blocks {
         let demand = items[i];
-        let popularity = cluster::popularity_of(demand);
-        let count = needs::needed(demand, wanted, scale);
-        let share = needs::share_at(Fraction { popularity, count });
+        let profile = profile_at(demand, needs::needed(demand, wanted, scale));
+        let share = cluster::share_of(profile);
         top = needs::larger(top, share);
-        let spread = cluster::spread_asked(demand);
-        items[i] = cluster::profile(share, count, spread, cluster::link_of(demand));
+        items[i] = profile;
+        i += 1;
+    }
+    top
+}
+
+// Puts the blocks' profiles, at the counts that the words hold, in the place of their demands, and answers the largest share.
+pub fn fill_held(items: &mut [u64], words: &[u64], cluster: Cluster) -> u64
+    requires { ⌜ CountsFit cluster (now words) (now items) ⌝ }
+    ensures { λ r. ⌜ ((p : Plan) → DemandsOf p cluster (now (items .entry))
+        → FilledAs p (countOf p (now (words .entry))) cluster (now (items .entry)) (now (items .exit)) r) ⌝ }
+{
+    let mut top: u64 = 0;
+    let mut i: usize = 0;
+    while i < cluster.blocks {
+        let held = profile_at(items[i], bits::count_set(words[i]));
+        top = needs::larger(top, cluster::share_of(held));
+        items[i] = held;
         i += 1;
     }
     top
@@ -165,8 +184,8 @@ fn fill(items: &mut [u64], cluster: Cluster, wanted: u64) -> u64
 pub fn choose(items: &mut [u64], allowed: usize, cluster: Cluster) -> u64
     requires { ⌜ ChooseAsked cluster (now items) allowed ⌝ }
     ensures { λ r. ⌜ ((p : Plan) → LimitedDemands p cluster (now (items .entry)) allowed
-        → ChosenAs p cluster (now (items .entry)) (now (items .exit)) r) ⌝ }
+        → FilledAs p (chosen p) cluster (now (items .entry)) (now (items .exit)) r) ⌝ }
 {
     let figure = best_figure(items, allowed, cluster);
-    fill(items, cluster, figure)
+    fill_needed(items, cluster, figure)
 }

@@ -12,6 +12,7 @@ use Rattle.model.specs.Plan.{Plan, blockCount}
 use Rattle.model.specs.Refusal.{judge}
 use Rattle.model.specs.Replication.{chosen}
 use Rattle.model.specs.Steps.{Run}
+use Rattle.model.specs.Placement.{countOf}
 use Rattle.model.specs.Calls.{Outcome, answered, refuse, onPlan, bufferRefusal, placementRefusal, onPlacement, reportOf, RunReply}
 use Rattle.theory.proofs.Calls.{onPlan-refused, onPlan-made}
 use Rattle.theory.proofs.Refusal.{check12-enough}
@@ -60,7 +61,7 @@ counts-are bytes items profiles lent r ready =
     let p = ready .plan in
     let of = ready .prepared .profiles-of in
     filled-cong (r .cluster .blocks) _ _ items
-    (profiles-count p (chosen p) (r .cluster) profiles of (chosen-laws p (of .cluster .valid) .feasible))
+    (profiles-count p (chosen p) (r .cluster) profiles of (chosen-laws p (of .cluster .valid) .feasible .at-most))
     ∙ ap (λ (n : ℕ). filled n (chosen p) items) (cluster-blocks p (r .cluster) (of .cluster))
 
 -- the loads that were summed make the report
@@ -70,10 +71,10 @@ unfolding reportOf
 report-is bytes words profiles r ready report of =
     let p = ready .plan in
     let c = r .cluster in
-    let e1 = report-max p (chosen p) c words profiles (r .loads) report (ready .placement) (ready .loads-of) of in
-    let e2 = report-min p (chosen p) c words profiles (r .loads) report (ready .placement) (ready .loads-of) of in
-    let e3 = report-total p (chosen p) c words profiles (r .loads) report (ready .placement) (ready .loads-of) of in
-    let e4 = ready .prepared .top-is ∙ maxShare-feasible p (chosen p) words (ready .placement .feasible) in
+    let e1 = report-max p (countOf p words) c words profiles (r .loads) report (ready .placement) (ready .loads-of) of in
+    let e2 = report-min p (countOf p words) c words profiles (r .loads) report (ready .placement) (ready .loads-of) of in
+    let e3 = report-total p (countOf p words) c words profiles (r .loads) report (ready .placement) (ready .loads-of) of in
+    let e4 = ready .prepared .top-is ∙ maxShare-feasible p (countOf p words) words (ready .placement .feasible) in
     λ i. record { maximum = e1 i; minimum = e2 i; total = e3 i; top = e4 i }
 
 -- a run's answer, from how it ended and from the model's run

@@ -9,26 +9,22 @@ use native.Mathlib.Decide.{decLt}
 use native.Mathlib.Omega.{arith}
 use lib.Dec.{leb, ltb, eqb}
 use lib.ListN.{getD}
-use Rattle.order.specs.Sum.{sum}
 use Rattle.order.specs.Search.{allb}
-use Rattle.order.proofs.Sums.{sum-cong, sum-none}
 use Rattle.order.proofs.Booleans.{bool-cases, not-so}
-use Rattle.order.proofs.Ranges.{sum-append}
 use Rattle.order.proofs.Extremes.{allb-cong, allb-step}
 use Rattle.model.specs.Plan.{Plan, machines, blockCount, isPaired, partner}
-use Rattle.model.specs.Refusal.{maxMachines}
-use Rattle.model.specs.Replication.{FeasibleCounts, chosen}
-use Rattle.model.specs.Placement.{bit, wordOf, replicas, domainsUsed, allWithin, allSpread, allFit, allApart}
-use Rattle.model.specs.Calls.{allCounted}
+use Rattle.model.specs.Replication.{need}
+use Rattle.model.specs.Placement.{bit, wordOf, countOf, domainsUsed, allWithin, allSpread, allFit, allApart}
 use Rattle.theory.proofs.Placement.{bit-above-from, allWithin-iff, allApart-iff}
 use Rattle.theory.proofs.Plan.{partner-below, partner-other}
-use Rattle.theory.proofs.Replication.{chosen-laws}
 use Rattle.cluster.specs.declared.Cluster.{Cluster}
 use Rattle.cluster.specs.Cluster.{machinesIn, ClusterOf}
-use Rattle.cluster.specs.Blocks.{linkedTo, mate, countIn, spreadIn, ProfilesOf}
-use Rattle.cluster.proofs.Laws.{cluster-capacity, cluster-blocks, cluster-machines, mate-paired, mate-single, profiles-count, profiles-spread, profiles-mate}
+use Rattle.cluster.specs.Blocks.{linkedTo, mate, spreadIn, copiesIn, DemandsOf, ProfilesOf}
+use Rattle.cluster.proofs.Laws.{cluster-capacity, cluster-blocks, cluster-machines, mate-paired, mate-single, copiesIn-within, profiles-spread, profiles-mate}
+use Rattle.needs.specs.Needs.{NeedOf}
+use Rattle.needs.proofs.Laws.{need-of}
 use Rattle.loads.specs.declared.Loads.{Loads}
-use Rattle.validation.specs.Validation.{CopiesOf, Apart}
+use Rattle.validation.specs.Validation.{allCountedAt, HeldAt, CopiesOf, Apart}
 
 -- a loop that tests: none yet, and one more that passes
 pub allb-none : (test : ℕ → Bool) → allb 0 test ≡ true
@@ -38,22 +34,13 @@ allb-none test = refl
 pub allb-more : (n : ℕ) (test : ℕ → Bool) → allb n test ≡ true → test n ≡ true → allb (n + 1) test ≡ true
 allb-more n test before here = rw (allb-step n test, here) before
 
--- below 2 ^ M, the sum of the first n bits is that of the first M
-bits-within : (n M w : ℕ) → M ≤ n → w < 2 ^ M → sum n (bit w) ≡ sum M (bit w)
-bits-within n M w l h =
-    let cut : M + (n - M) ≡ n = omega arith in
-    let above : sum (n - M) (λ j. bit w (M + j)) ≡ 0 =
-    sum-cong (n - M) _ (λ j. 0) (λ j b. bit-above-from w M h (M + j) (omega arith)) ∙ sum-none (n - M)
-    in
-    ap (λ (k : ℕ). sum k (bit w)) (sym cut) ∙ sum-append M (n - M) (bit w) ∙ (omega arith)
-
 -- row 13
 abbrev pub isWithin : List ℕ → ℕ → ℕ → Bool
 isWithin words M i = ltb (wordOf words i) (2 ^ M)
 
 -- row 14
-abbrev pub isCounted : List ℕ → List ℕ → ℕ → Bool
-isCounted words profiles i = eqb (sum maxMachines (bit (wordOf words i))) (countIn (getD profiles i 0))
+abbrev pub isCounted : Plan → List ℕ → ℕ → ℕ → Bool
+isCounted p words figure i = eqb (countOf p words i) (need p figure i)
 
 -- row 15
 abbrev pub isSpread : Plan → List ℕ → List ℕ → ℕ → Bool
@@ -68,22 +55,28 @@ module _ (p : Plan) (words : List ℕ) (c : Cluster) where
   unfolding allWithin
   within-row of = rw (cluster-blocks p c of, cluster-machines p c of)
 
-  module _ (profiles : List ℕ) (of : ProfilesOf p (chosen p) c profiles) where
-    counts : FeasibleCounts p (chosen p)
-    counts = chosen-laws p (of .cluster .valid) .feasible
+  -- the copies that a word names and those that its block needs are the model's
+  pub counted-at : (demands : List ℕ) (figure : ℕ) → DemandsOf p c demands → allWithin p words ≡ true
+      → (i k : ℕ) → i < c .blocks → NeedOf (getD demands i 0) figure k
+      → isCounted p words figure i ≡ eqb (copiesIn (wordOf words i)) k
+  counted-at demands figure of within i k l found =
+      let i-in : i < blockCount p = rw (cluster-blocks p c (of .cluster)) at l in
+      let held =
+      copiesIn-within p (of .cluster .valid .shaped .machines-max) (wordOf words i) (allWithin-iff p words .0 within i i-in)
+      in
+      ap₂ eqb (sym held) (sym (need-of p c demands of i figure k l found .0))
+
+  pub counted-row : (figure : ℕ) → ClusterOf p c
+      → allb (c .blocks) (isCounted p words figure) ≡ allCountedAt p (need p figure) words
+  unfolding allCountedAt
+  counted-row figure of = rw (cluster-blocks p c of)
+
+  module _ (count : ℕ → ℕ) (profiles : List ℕ) (held : HeldAt p count c profiles) where
+    of : ProfilesOf p count c profiles
+    of = held .profiles-of
 
     in-cluster : (i : ℕ) → i < blockCount p → i < c .blocks
     in-cluster i l = rw (cluster-blocks p c (of .cluster)) l
-
-    pub counted-row : allWithin p words ≡ true → allb (c .blocks) (isCounted words profiles) ≡ allCounted p words
-    unfolding allCounted replicas
-    counted-row within =
-        rw (cluster-blocks p c (of .cluster))
-        (allb-cong (blockCount p) _ _
-        (λ i l.
-        ap₂ eqb
-        (bits-within maxMachines (machines p) (wordOf words i) (of .cluster .valid .shaped .machines-max) (allWithin-iff p words .0 within i l))
-        (profiles-count p (chosen p) c profiles of counts i (in-cluster i l))))
 
     pub spread-row : allb (c .blocks) (isSpread p words profiles) ≡ allSpread p words
     unfolding allSpread
@@ -91,12 +84,12 @@ module _ (p : Plan) (words : List ℕ) (c : Cluster) where
         rw (cluster-blocks p c (of .cluster))
         (allb-cong (blockCount p) _ _
         (λ i l.
-        ap (λ (n : ℕ). leb n (domainsUsed p (wordOf words i))) (profiles-spread p (chosen p) c profiles of counts i (in-cluster i l))))
+        ap (λ (n : ℕ). leb n (domainsUsed p (wordOf words i))) (profiles-spread p count c profiles of (held .at-most) i (in-cluster i l))))
 
     -- row 18
     module _ (within : allWithin p words ≡ true) where
       mate-is : (i : ℕ) → i < c .blocks → linkedTo (getD profiles i 0) i ≡ mate p i
-      mate-is = profiles-mate p (chosen p) c profiles of
+      mate-is = profiles-mate p count c profiles of
 
       in-plan : (i : ℕ) → i < c .blocks → i < blockCount p
       in-plan i l = rw (cluster-blocks p c (of .cluster)) at l

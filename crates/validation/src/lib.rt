@@ -1,4 +1,5 @@
-// A placement handed in: rows 13 to 16 and 18 of the table, each over all blocks or machines before the next.
+// A placement handed in: rows 13 to 16 and 18 of the table, each over all blocks or machines before the next. 13 and 14 are judged on words
+// and demands, before any share or load is made; the others hold at any counts that pass 14.
 use cluster::Cluster;
 use loads::Loads;
 ghost use mathlib.Core.Path.{_≡_};
@@ -8,12 +9,10 @@ ghost use mathlib.Core.Logic.{_↔_};
 ghost use Prim.Native.Nat.{ℕ, _<_, _≤_};
 ghost use Rattle.model.specs.Plan.{Plan};
 ghost use Rattle.model.specs.Refusal.{maxMachines};
-ghost use Rattle.model.specs.Replication.{chosen};
 ghost use Rattle.model.specs.Placement.{allWithin, allSpread, allFit, allApart};
-ghost use Rattle.model.specs.Calls.{allCounted, placementRefusal};
 ghost use Rattle.cluster.specs.Cluster.{machinesIn, ClusterOf};
-ghost use Rattle.cluster.specs.Blocks.{ProfilesOf, PlacementFits};
-ghost use Rattle.validation.specs.Validation.{WordsAsked, CopiesOf, Apart, ValidateAsked};
+ghost use Rattle.cluster.specs.Blocks.{PlacementFits};
+ghost use Rattle.validation.specs.Validation.{WordsAsked, CountsAsked, CountedAs, CountsJudged, HeldAt, CopiesOf, Apart, LayoutAsked, layoutRefusal};
 
 // Row 13: whether every word names only machines below M.
 fn all_within(words: &[u64], cluster: Cluster) -> bool
@@ -31,15 +30,15 @@ fn all_within(words: &[u64], cluster: Cluster) -> bool
     true
 }
 
-// Row 14: whether every block has its chosen count of copies. The words name only machines below M.
-fn all_counted(words: &[u64], profiles: &[u64], cluster: Cluster) -> bool
-    requires { ⌜ PlacementFits cluster (now words) (now profiles) ⌝ }
-    ensures { λ r. ⌜ ((p : Plan) → ProfilesOf p (chosen p) cluster (now (profiles .entry))
-        → allWithin p (now (words .entry)) ≡ Bool.true → r ≡ allCounted p (now (words .entry))) ⌝ }
+// Row 14: whether every block has the copies that it needs within a figure. The words name only machines below M.
+fn all_counted(words: &[u64], demands: &[u64], cluster: Cluster, figure: u64) -> bool
+    requires { ⌜ CountsAsked cluster (now words) (now demands) figure ⌝ }
+    ensures { λ r. ⌜ CountedAs cluster (now (words .entry)) (now (demands .entry)) figure r ⌝ }
 {
+    let scale = needs::scale_of(figure);
     let mut i: usize = 0;
     while i < cluster.blocks {
-        if bits::count_set(words[i]) != cluster::count_of(profiles[i]) {
+        if bits::count_set(words[i]) != needs::needed(demands[i], figure, scale) {
             return false;
         }
         i += 1;
@@ -47,10 +46,24 @@ fn all_counted(words: &[u64], profiles: &[u64], cluster: Cluster) -> bool
     true
 }
 
+// Rows 13 and 14 of a placement of enough words, before any share or load is made; 0 where both pass.
+pub fn counts_refusal(words: &[u64], demands: &[u64], cluster: Cluster, figure: u64) -> u8
+    requires { ⌜ CountsAsked cluster (now words) (now demands) figure ⌝ }
+    ensures { λ r. ⌜ CountsJudged cluster (now (words .entry)) (now (demands .entry)) figure r ⌝ }
+{
+    if !all_within(words, cluster) {
+        return 13;
+    }
+    if !all_counted(words, demands, cluster, figure) {
+        return 14;
+    }
+    0
+}
+
 // Row 15: whether every block lies in as many failure domains as its spread says.
 fn all_spread(words: &[u64], profiles: &[u64], cluster: Cluster) -> bool
     requires { ⌜ PlacementFits cluster (now words) (now profiles) ⌝ }
-    ensures { λ r. ⌜ ((p : Plan) → ProfilesOf p (chosen p) cluster (now (profiles .entry)) → r ≡ allSpread p (now (words .entry))) ⌝ }
+    ensures { λ r. ⌜ ((p : Plan) (count : ℕ → ℕ) → HeldAt p count cluster (now (profiles .entry)) → r ≡ allSpread p (now (words .entry))) ⌝ }
 {
     let mut i: usize = 0;
     while i < cluster.blocks {
@@ -94,7 +107,7 @@ fn is_apart(words: &[u64], profiles: &[u64], cluster: Cluster, i: usize) -> bool
 // Row 18: whether no machine holds both blocks of a pair. The words name only machines below M.
 fn all_apart(words: &[u64], profiles: &[u64], cluster: Cluster) -> bool
     requires { ⌜ PlacementFits cluster (now words) (now profiles) ⌝ }
-    ensures { λ r. ⌜ ((p : Plan) → ProfilesOf p (chosen p) cluster (now (profiles .entry))
+    ensures { λ r. ⌜ ((p : Plan) (count : ℕ → ℕ) → HeldAt p count cluster (now (profiles .entry))
         → allWithin p (now (words .entry)) ≡ Bool.true → r ≡ allApart p (now (words .entry))) ⌝ }
 {
     let mut i: usize = 0;
@@ -107,17 +120,12 @@ fn all_apart(words: &[u64], profiles: &[u64], cluster: Cluster) -> bool
     true
 }
 
-// Rows 13 to 16 and 18 of a placement of enough words; 0 where all pass.
-pub fn validate(words: &[u64], profiles: &[u64], loads: Loads, cluster: Cluster) -> u8
-    requires { ⌜ ValidateAsked cluster (now words) (now profiles) loads ⌝ }
-    ensures { λ r. ⌜ ((p : Plan) → ProfilesOf p (chosen p) cluster (now (profiles .entry)) → r ≡ placementRefusal (now (words .entry)) p) ⌝ }
+// Rows 15, 16 and 18 of a placement whose words have passed 13 and 14, with its loads, at whatever counts it holds; 0 where all pass.
+pub fn layout_refusal(words: &[u64], profiles: &[u64], loads: Loads, cluster: Cluster) -> u8
+    requires { ⌜ LayoutAsked cluster (now words) (now profiles) loads ⌝ }
+    ensures { λ r. ⌜ ((p : Plan) (count : ℕ → ℕ) → HeldAt p count cluster (now (profiles .entry))
+        → allWithin p (now (words .entry)) ≡ Bool.true → r ≡ layoutRefusal p (now (words .entry))) ⌝ }
 {
-    if !all_within(words, cluster) {
-        return 13;
-    }
-    if !all_counted(words, profiles, cluster) {
-        return 14;
-    }
     if !all_spread(words, profiles, cluster) {
         return 15;
     }

@@ -35,7 +35,7 @@ chosen-here : (c : tie.After-count-of Inv-loop μ-loop) (p : Plan)
     → c .count-of .result ≡ chosen p (at .loop .i)
 chosen-here c p of =
     c .count-of .ensures
-    ∙ profiles-count p (chosen p) _ _ of (chosen-laws p (of .cluster .valid) .feasible) _ (omega arith)
+    ∙ profiles-count p (chosen p) _ _ of (chosen-laws p (of .cluster .valid) .feasible .at-most) _ (omega arith)
 
 loop-holds : tie.Need-loop-holds Inv-loop μ-loop
 loop-holds c = (omega arith, refl, λ p of. (filled-none _ _, c .start .ensures ∙ cursorFor-first p _))

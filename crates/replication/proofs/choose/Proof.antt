@@ -9,8 +9,8 @@ use Rattle.replication.proofs.choose.Tie as tie
 best-figure-requires : tie.Need-best-figure-requires
 best-figure-requires c κs = c .before .before .pre
 
-fill-requires : tie.Need-fill-requires
-fill-requires c κs =
+fill-needed-requires : tie.Need-fill-needed-requires
+fill-needed-requires c κs =
     let asked = c .before .before .before .before .pre in
     let of = asked .limited .demands-of in
     let figure = c .before .best-figure .ensures in
@@ -25,7 +25,7 @@ same-length : tie.Need-same-length
 same-length c = search needs
 
 returns : tie.Need-returns
-returns c p of = c .before .before .fill .ensures p (of .demands-of) (c .before .before .before .before .best-figure .ensures .0 p of)
+returns c p of = c .before .before .fill-needed .ensures p (of .demands-of) (c .before .before .before .before .best-figure .ensures .0 p of)
 
 pub choose-spec : {M : Type 1} → statement M
-choose-spec = tie.close (tie.spec best-figure-requires fill-requires same-length returns)
+choose-spec = tie.close (tie.spec best-figure-requires fill-needed-requires same-length returns)

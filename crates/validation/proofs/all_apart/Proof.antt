@@ -23,14 +23,14 @@ loop-holds : tie.Need-loop-holds Inv-loop μ-loop
 loop-holds c = (omega arith, λ k l. absurd (omega arith))
 
 is-apart-requires : tie.Need-is-apart-requires Inv-loop μ-loop
-is-apart-requires c κs = (c .before .before .before .before .before .pre, c .if1 .taken)
+is-apart-requires c κs = let at = c .before .before in (at .before .before .before .pre, c .if1 .taken)
 
 returns : tie.Need-returns Inv-loop μ-loop
-returns c p of within =
+returns c p count of within =
     let tested = c .before in
     let at = tested .before .before .before in
     let a = at .before .before .before .args in
-    sym (apart-fails p (now (a .words)) (a .cluster) (now (a .profiles)) of within (at .loop .i) (tested .before .if1 .taken)
+    sym (apart-fails p (now (a .words)) (a .cluster) count (now (a .profiles)) of within (at .loop .i) (tested .before .if1 .taken)
     (λ apart. no-contradiction (sym (tested .is-apart .ensures .1 apart) ∙ not-true _ (c .if2 .taken))))
 
 add-i : tie.Need-add-i Inv-loop μ-loop
@@ -46,11 +46,11 @@ loop-again c =
     (omega arith, rw add-one (below-suc (at .loop .i) _ (tested .is-apart .ensures .0 (not-false _ (c .if2 .left))) (at .loop .inv .1)))
 
 returns-2 : tie.Need-returns-2 Inv-loop μ-loop
-returns-2 c p of within =
+returns-2 c p count of within =
     let at = c .before .before in
     let a = at .before .before .before .args in
     let done : at .loop .i ≡ a .cluster .blocks = omega arith in
-    sym (apart-passes p (now (a .words)) (a .cluster) (now (a .profiles)) of within (λ k l. at .loop .inv .1 k (omega arith)))
+    sym (apart-passes p (now (a .words)) (a .cluster) count (now (a .profiles)) of within (λ k l. at .loop .inv .1 k (omega arith)))
 
 pub all-apart-spec : {M : Type 1} → statement M
 all-apart-spec =

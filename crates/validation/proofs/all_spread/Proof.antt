@@ -32,7 +32,7 @@ shared-slice-read-domains-used : tie.Need-shared-slice-read-domains-used Inv-loo
 shared-slice-read-domains-used c = omega arith
 
 domains-used-requires : tie.Need-domains-used-requires Inv-loop μ-loop
-domains-used-requires c κs = c .before .before .before .before .before .before .pre .profiles-fit .in-range
+domains-used-requires c κs = let at = c .before .before .before in at .before .before .before .pre .profiles-fit .in-range
 
 mul-spread-of : tie.Need-mul-spread-of Inv-loop μ-loop
 mul-spread-of c = search needs
@@ -44,16 +44,16 @@ spread-of-requires : tie.Need-spread-of-requires Inv-loop μ-loop
 spread-of-requires c κs = search needs
 
 returns : tie.Need-returns Inv-loop μ-loop
-returns c p of =
+returns c p count of =
     let called = c .before in
     let at = called .before .before .before .before .before .before in
     let a = at .before .before .before .args in
     let words = now (a .words) in
     let profiles = now (a .profiles) in
-    let used = called .before .before .domains-used .ensures p (of .cluster) in
+    let used = called .before .before .domains-used .ensures p (of .profiles-of .cluster) in
     let here = lt-leb _ _ (rw (used, called .spread-of .ensures) at (c .if2 .taken)) in
     sym (allb-false (a .cluster .blocks) (isSpread p words profiles) (at .loop .i) (omega arith) here)
-    ∙ spread-row p words (a .cluster) profiles of
+    ∙ spread-row p words (a .cluster) count profiles of
 
 add-i : tie.Need-add-i Inv-loop μ-loop
 add-i c = omega arith
@@ -73,11 +73,11 @@ loop-again c =
     )
 
 returns-2 : tie.Need-returns-2 Inv-loop μ-loop
-returns-2 c p of =
+returns-2 c p count of =
     let at = c .before .before in
     let a = at .before .before .before .args in
     let done : at .loop .i ≡ a .cluster .blocks = omega arith in
-    sym (rw done at (at .loop .inv .1 p (of .cluster))) ∙ spread-row p (now (a .words)) (a .cluster) (now (a .profiles)) of
+    sym (rw done at (at .loop .inv .1 p (of .profiles-of .cluster))) ∙ spread-row p (now (a .words)) (a .cluster) count (now (a .profiles)) of
 
 pub all-spread-spec : {M : Type 1} → statement M
 all-spread-spec =
