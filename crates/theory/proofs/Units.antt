@@ -23,7 +23,7 @@ use Rattle.model.specs.Steps.{improves}
 use Rattle.theory.specs.Refusal.{Valid}
 use Rattle.theory.specs.Units.{earlierUnit, shareBy, largestBy, loadBy, improvesBy, Tripled, ChosenBy, UnitFree, DividedBy, Units}
 use Rattle.theory.proofs.Plan.{maxReplicas-early, upper-version, upper-max}
-use Rattle.theory.proofs.Replication.{allDivide, allDivide-at, unit-divides, shareBy-exact, shareBy-compares, share-exact, share-compares, largestShare-term, chosen-laws}
+use Rattle.theory.proofs.Replication.{allDivide, allDivide-at, unit-divides, shareBy-exact, shareBy-compares, share-exact, share-compares, largestShare-term, chosen-counts}
 use Rattle.theory.proofs.Placement.{isFeasible-iff}
 
 earlier-divides : DividedBy 8 earlierUnit
@@ -74,7 +74,7 @@ module _ (units : ℕ) (pos : 1 ≤ units) (p : Plan) (v : Valid p) (divided : D
   chosen-by-units : ChosenBy units p (chosen p)
   unfolding largestBy
   chosen-by-units =
-      let laws = chosen-laws p v in
+      let laws = chosen-counts p v in
       record {
         feasible = laws .feasible;
         optimal = λ other c.
@@ -152,7 +152,7 @@ module _ (units : ℕ) (pos : 1 ≤ units) (p : Plan) (v : Valid p) (divided : D
         steps = steps-alike;
       }
 
-pub units : (p : Plan) → Valid p → Units p
+pub units : Units
 units p v =
     record {
       any = λ units pos divided. unit-free units pos p v divided;

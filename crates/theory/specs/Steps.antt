@@ -6,7 +6,7 @@ use mathlib.Core.Logic.{_⊎_, _↔_}
 use Prim.Native.Nat.{ℕ, suc, _+_, _<_, _≤_}
 use Rattle.model.specs.Plan.{Plan, machines, blockCount, blockOf, isPaired, partner}
 use Rattle.model.specs.Placement.{wordOf, held, domainsUsed, used, shareOf, load}
-use Rattle.model.specs.Steps.{Step, none, relocate, exchange, shifted, after, acrossRacks, canMove, canSwap, isStep, nextStep, AtRest, Run}
+use Rattle.model.specs.Steps.{Step, none, relocate, exchange, shifted, after, acrossRacks, canMove, canSwap, isStep, nextStep, AtRest, Run, run}
 
 -- What the loads must satisfy for m to give the share `given` and get `back`: both loads end below that of m.
 abbrev pub Lowers : Plan → List ℕ → ℕ → ℕ → ℕ → ℕ → Type 0
@@ -68,6 +68,9 @@ pub record NextStepLaws (p : Plan) (words : List ℕ) : Type 0 where
   -- it is at rest exactly if there is none
   pub rest : AtRest p words ↔ ((s : Step) → Admissible p words s → ⊥)
 
+abbrev pub NextSteps : Type 0
+NextSteps = (p : Plan) (words : List ℕ) → NextStepLaws p words
+
 -- `Taken p first n last`: n next steps of the definition lead from `first` to `last`.
 pub data Taken (p : Plan) : List ℕ → ℕ → List ℕ → Type 0 where
   none-taken : {words : List ℕ} → Taken p words 0 words
@@ -80,3 +83,6 @@ pub record RunLaws (p : Plan) (limit : ℕ) (words : List ℕ) (r : Run) : Type 
   pub taken : Taken p words (r .steps) (r .words)
   pub rest : r .rested ≡ true → AtRest p (r .words)
   pub spent : r .rested ≡ false → (r .steps ≡ limit) × (isStep (nextStep p (r .words)) ≡ true)
+
+abbrev pub Runs : Type 0
+Runs = (p : Plan) (limit : ℕ) (words : List ℕ) → RunLaws p limit words (run p limit words)

@@ -10,6 +10,7 @@ use Rattle.model.specs.Plan.{Plan, maxReplicas, blockCount, blockOf, upper}
 use Rattle.model.specs.Replication.{FeasibleCounts, share, chosen}
 use Rattle.model.specs.Placement.{held, countOf, Feasible, isFeasible, load}
 use Rattle.model.specs.Steps.{improves}
+use Rattle.theory.specs.Refusal.{Valid}
 
 -- The units in a read before.
 abbrev pub earlierUnit : ℕ
@@ -57,8 +58,11 @@ pub record UnitFree (units : ℕ) (p : Plan) : Type 0 where
 abbrev pub DividedBy : ℕ → ℕ → Type 0
 DividedBy most units = (k : ℕ) → 1 ≤ k → k ≤ most → k ∣ units
 
-pub record Units (p : Plan) : Type 0 where
+pub record UnitLaws (p : Plan) : Type 0 where
   pub any : (units : ℕ) → 1 ≤ units → DividedBy (maxReplicas (p .version)) units → UnitFree units p
   pub earlier : p .version ≤ 2 → UnitFree earlierUnit p
   pub loads : p .version ≤ 2 → (count : ℕ → ℕ) (words : List ℕ) → Feasible p count words
       → (m : ℕ) → load p words m ≡ 3 * loadBy earlierUnit p words m
+
+abbrev pub Units : Type 0
+Units = (p : Plan) → Valid p → UnitLaws p

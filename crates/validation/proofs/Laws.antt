@@ -22,7 +22,7 @@ use Rattle.model.specs.Placement.{bit, wordOf, replicas, domainsUsed, allWithin
 use Rattle.model.specs.Calls.{allCounted}
 use Rattle.theory.proofs.Placement.{bit-above-from, allWithin-iff, allApart-iff}
 use Rattle.theory.proofs.Plan.{partner-below, partner-other}
-use Rattle.theory.proofs.Replication.{chosen-laws}
+use Rattle.theory.proofs.Replication.{chosen-counts}
 use Rattle.cluster.specs.declared.Cluster.{Cluster}
 use Rattle.cluster.specs.Cluster.{machinesIn, ClusterOf}
 use Rattle.cluster.specs.Blocks.{linkedTo, mate, countIn, spreadIn, ProfilesOf}
@@ -70,7 +70,7 @@ module _ (p : Plan) (words : List ℕ) (c : Cluster) where
 
   module _ (profiles : List ℕ) (of : ProfilesOf p (chosen p) c profiles) where
     counts : FeasibleCounts p (chosen p)
-    counts = chosen-laws p (of .cluster .valid) .feasible
+    counts = chosen-counts p (of .cluster .valid) .feasible
 
     in-cluster : (i : ℕ) → i < blockCount p → i < c .blocks
     in-cluster i l = rw (cluster-blocks p c (of .cluster)) l

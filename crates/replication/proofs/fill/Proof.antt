@@ -14,7 +14,7 @@ use Rattle.order.proofs.Tables.{filled-none, filled-more, getD-filled}
 use Rattle.model.specs.Plan.{Plan, blockCount, blockOf}
 use Rattle.model.specs.Replication.{share, largestShare, chosen}
 use Rattle.theory.specs.Widths.{mostReplicas, popularityBound}
-use Rattle.theory.proofs.Replication.{share-bound, share-whole, feasibleCounts-range, chosen-laws}
+use Rattle.theory.proofs.Replication.{share-bound, share-whole, feasibleCounts-range, chosen-counts}
 use Rattle.cluster.specs.declared.Cluster.{Cluster}
 use Rattle.cluster.specs.Blocks.{popularityIn, spreadAsked, linkIn, profileOf, DemandsFit, DemandsOf, ProfilesFit}
 use Rattle.cluster.proofs.Laws.{cluster-blocks, cluster-block, demands-popularity, demands-spread, demands-link, profileOf-share, profileOf-link, linked-mate}
@@ -44,7 +44,7 @@ chosen-range : (p : Plan) (c : Cluster) (demands : List ℕ) → DemandsOf p c d
     → (1 ≤ chosen p i) × (chosen p i ≤ mostReplicas)
 chosen-range p c demands of i l =
     let valid = of .cluster .valid in
-    feasibleCounts-range p (chosen p) (valid .shaped) (chosen-laws p valid .feasible) i (rw (cluster-blocks p c (of .cluster)) at l)
+    feasibleCounts-range p (chosen p) (valid .shaped) (chosen-counts p valid .feasible) i (rw (cluster-blocks p c (of .cluster)) at l)
 
 -- the demand is still in its place, in its ranges, and within the figure at its upper count
 module _ (c : tie.After-slice-known2 Inv-loop μ-loop) where
