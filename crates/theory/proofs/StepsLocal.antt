@@ -18,7 +18,7 @@ use Rattle.model.specs.Placement.{bit, wordOf, held, domainsUsed, countOf, used
 use Rattle.model.specs.Steps.{Step, none, relocate, exchange, afterMove, afterSwap, after, improves, canMove, canSwap}
 use Rattle.theory.specs.Refusal.{Shaped}
 use Rattle.theory.specs.Steps.{Lowers, LocalMove, LocalSwap, Admissible}
-use Rattle.theory.proofs.Placement.{bit-le, bit-cases, feasible-same, feasible-own, isFeasible-iff}
+use Rattle.theory.proofs.Placement.{bit-le, bit-cases, feasible-same, feasible-own, isFeasible-exact}
 use Rattle.theory.proofs.Plan.{partner-other, partner-paired, partner-partner}
 use Rattle.theory.proofs.Steps.{shifted-below, afterMove-word, afterMove-each, afterMove-held, afterMove-held-target, afterMove-count, afterMove-used, afterMove-load-source, afterMove-load-target, afterSwap-word-i, afterSwap-word-j, afterSwap-each, afterSwap-held, afterSwap-held-source, afterSwap-held-target, afterSwap-count, afterSwap-used, afterSwap-load-source, afterSwap-load-target}
 
@@ -27,7 +27,7 @@ improves-iff : (p : Plan) (words later : List ℕ) (m n : ℕ)
     → (improves p words later m n ≡ true)
     ↔ ((Feasible p (countOf p later) later × (load p later m < load p words m)) × (load p later n < load p words m))
 unfolding improves
-improves-iff p words later m n = and-iff _ _ (and-iff _ _ (isFeasible-iff p later) (ltb-iff _ _)) (ltb-iff _ _)
+improves-iff p words later m n = and-iff _ _ (and-iff _ _ (isFeasible-exact p later) (ltb-iff _ _)) (ltb-iff _ _)
 
 -- ── holds ────────────────────────────────────────────────────────────────────────────────────────
 set-iff : (w k : ℕ) → (eqb (bit w k) 1 ≡ true) ↔ (bit w k ≡ 1)

@@ -24,7 +24,7 @@ use Rattle.theory.specs.Refusal.{Valid}
 use Rattle.theory.specs.Units.{earlierUnit, shareBy, largestBy, loadBy, improvesBy, Tripled, ChosenBy, UnitFree, DividedBy, Units}
 use Rattle.theory.proofs.Plan.{maxReplicas-early, upper-version, upper-max}
 use Rattle.theory.proofs.Replication.{allDivide, allDivide-at, unit-divides, shareBy-exact, shareBy-compares, share-exact, share-compares, largestShare-term, chosen-counts}
-use Rattle.theory.proofs.Placement.{isFeasible-iff}
+use Rattle.theory.proofs.Placement.{isFeasible-exact}
 
 earlier-divides : DividedBy 8 earlierUnit
 unfolding allDivide allb
@@ -127,7 +127,7 @@ module _ (units : ℕ) (pos : 1 ≤ units) (p : Plan) (v : Valid p) (divided : D
   unfolding improvesBy improves
   steps-alike count words feasible later m n = elim (bool-cases (isFeasible p later)) [
     | inl e ↦
-        let ratio = load-ratio (countOf p later) later (isFeasible-iff p later .0 e) in
+        let ratio = load-ratio (countOf p later) later (isFeasible-exact p later .0 e) in
         let source = load-ratio count words feasible m in
         rw e (ap₂ _&&_ (less-alike _ _ _ _ (ratio m) source) (less-alike _ _ _ _ (ratio n) source))
     | inr e ↦ rw e
