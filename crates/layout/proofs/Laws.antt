@@ -15,7 +15,7 @@ use Rattle.model.specs.Replication.{chosen}
 use Rattle.model.specs.Placement.{bit, position, laidWord, firstWord}
 use Rattle.theory.specs.Refusal.{Shaped}
 use Rattle.theory.proofs.Plan.{upper-machines}
-use Rattle.theory.proofs.Replication.{chosen-laws}
+use Rattle.theory.proofs.Replication.{chosen-counts}
 use Rattle.theory.proofs.PlacementFirst.{machineOf, machineOf-below, laidWord-step, laidWord-fresh}
 use Rattle.cluster.specs.declared.Cluster.{Cluster}
 use Rattle.cluster.specs.Cluster.{machinesIn, InRange, ClusterOf}
@@ -210,7 +210,7 @@ module _ (p : Plan) (c : Cluster) (of : ClusterOf p c) (i : ℕ) where
         circle = cursorAt-circle c (sum i (chosen p) % machinesIn c) (cluster-range p c of) begin-below;
         count-max =
             rw (cluster-machines p c of)
-            (le-trans (chosen-laws p (of .valid) .feasible .at-most i (rw (cluster-blocks p c of) at l)) (upper-machines p i));
+            (le-trans (chosen-counts p (of .valid) .feasible .at-most i (rw (cluster-blocks p c of) at l)) (upper-machines p i));
       }
 
   cursorFor-laid : (laid : LaidBlock) → LaidAs (cursorFor p c i) (chosen p i) laid

@@ -16,7 +16,7 @@ use Rattle.model.specs.Placement.{countOf}
 use Rattle.model.specs.Calls.{Outcome, answered, refuse, onPlan, bufferRefusal, placementRefusal, onPlacement, reportOf, RunReply}
 use Rattle.theory.proofs.Calls.{onPlan-refused, onPlan-made}
 use Rattle.theory.proofs.Refusal.{check12-enough}
-use Rattle.theory.proofs.Replication.{chosen-laws}
+use Rattle.theory.proofs.Replication.{chosen-counts}
 use Rattle.theory.proofs.Placement.{maxShare-feasible}
 use Rattle.cluster.specs.Blocks.{countIn}
 use Rattle.cluster.proofs.Laws.{cluster-blocks, profiles-count}
@@ -61,7 +61,7 @@ counts-are bytes items profiles lent r ready =
     let p = ready .plan in
     let of = ready .prepared .profiles-of in
     filled-cong (r .cluster .blocks) _ _ items
-    (profiles-count p (chosen p) (r .cluster) profiles of (chosen-laws p (of .cluster .valid) .feasible .at-most))
+    (profiles-count p (chosen p) (r .cluster) profiles of (chosen-counts p (of .cluster .valid) .feasible .at-most))
     ∙ ap (λ (n : ℕ). filled n (chosen p) items) (cluster-blocks p (r .cluster) (of .cluster))
 
 -- the loads that were summed make the report

@@ -19,8 +19,8 @@ use Rattle.model.specs.Claims.{Request, askCheck, askStep, askRun, Call, Reply,
 use Rattle.theory.specs.Refusal.{Valid}
 use Rattle.theory.specs.Steps.{Taken, none-taken}
 use Rattle.theory.proofs.Refusal.{accepted-laws}
-use Rattle.theory.proofs.Replication.{chosen-laws}
-use Rattle.theory.proofs.StepsNext.{taken-past, taken-feasible, nextStep-taken, run-laws}
+use Rattle.theory.proofs.Replication.{chosen-counts}
+use Rattle.theory.proofs.StepsNext.{taken-past, taken-feasible, nextStep-taken, runs}
 use Rattle.theory.proofs.Placement.{feasible-length}
 use Rattle.theory.proofs.Calls.{placementRefusal-passes, onPlan-made}
 use Rattle.theorems.proofs.Settled.{rest-settled}
@@ -31,7 +31,7 @@ use Rattle.theorems.proofs.Agreement.{Agree, agree-feasible, agree-rest
 rest-bounded : (p : Plan) → Valid p → (words : List ℕ) → Feasible p (chosen p) words → AtRest p words → Bounded p words
 rest-bounded p valid words f rest =
     let count = chosen p in
-    let even = chosen-laws p valid .even in
+    let even = chosen-counts p valid .even in
     let settled = rest-settled p (valid .shaped) count words f rest in
     record {
       one-spread = λ count' other f' one.
@@ -95,7 +95,7 @@ run-says : (p : Plan) (limit : ℕ) (words : List ℕ)
 run-says p limit words (inl says) = absurd (clash (cc))
 run-says p limit words (inr (n, says)) =
     let e : _≡_ {A = RunReply} (record { rested = run p limit words .rested; steps = run p limit words .steps }) (record { rested = true; steps = n }) = cc in
-    run-laws p limit words .rest (ap (λ (r : RunReply). r .rested) e)
+    runs p limit words .rest (ap (λ (r : RunReply). r .rested) e)
 
 module _ (bytes : List ℕ) (p : Plan) (reads : judge bytes ≡ accepted p) (before : List ℕ) where
   valid : Valid p
@@ -169,7 +169,7 @@ module _ (bytes : List ℕ) (p : Plan) (reads : judge bytes ≡ accepted p) (bef
           (after-steps (nextStep-taken p (take lent words) .1) _ (step-says p (take lent words)))
       after-request (askRun limit) =
           rw (onPlan-made (take lent words) (placementRefusal (take lent words)) _ (judge bytes) p reads lent-passes)
-          (after-steps (run-laws p limit (take lent words) .taken) _ (run-says p limit (take lent words)))
+          (after-steps (runs p limit (take lent words) .taken) _ (run-says p limit (take lent words)))
 
     after-gets : (call : Call) → Gets bytes (blockCount p) call → After p before (does call words)
     unfolding does

@@ -15,7 +15,7 @@ use Rattle.theory.specs.Steps.{Taken, none-taken, one-more}
 use Rattle.theory.proofs.Placement.{bit-apart}
 use Rattle.theory.proofs.Steps.{afterMove-load-source, afterMove-load-target, afterMove-load-else, afterSwap-load-source, afterSwap-load-target, afterSwap-load-else}
 use Rattle.theory.proofs.StepsLocal.{canMove-lowers, canSwap-lowers}
-use Rattle.theory.proofs.StepsNext.{nextStep-admissible, nextStep-feasible, run-laws, run-feasible}
+use Rattle.theory.proofs.StepsNext.{nextStep-admissible, nextStep-feasible, runs, run-feasible}
 use Rattle.theorems.specs.Potential.{StepLowers, RunRests}
 
 module _ (p : Plan) (words : List ℕ) (m n i : ℕ) (ml : m < machines p) (nl : n < machines p) (il : i < blockCount p) where
@@ -78,14 +78,14 @@ pub run-rests : RunRests
 run-rests p count words feasible = record { few = few; rests = λ limit enough. rests limit enough (bool-cases (run p limit words .rested)) }
   where
     few : (limit : ℕ) → 2 * run p limit words .steps ≤ potential p words
-    few limit = omega (arith, taken-lowers p count (run-laws p limit words .taken) feasible)
+    few limit = omega (arith, taken-lowers p count (runs p limit words .taken) feasible)
 
     rests : (limit : ℕ) → potential p words / 2 ≤ limit
         → (run p limit words .rested ≡ true) ⊎ (run p limit words .rested ≡ false) → run p limit words .rested ≡ true
     rests limit enough (inl e) = e
     rests limit enough (inr e) =
-        let spent = run-laws p limit words .spent e in
-        let fallen = taken-lowers p count (run-laws p limit words .taken) feasible in
+        let spent = runs p limit words .spent e in
+        let fallen = taken-lowers p count (runs p limit words .taken) feasible in
         let all = spent .0 in
         let more = next-lowers p count (run p limit words .words) (run-feasible p count words feasible limit) (spent .1) in
         absurd (omega arith)

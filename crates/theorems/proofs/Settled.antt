@@ -11,7 +11,7 @@ use Rattle.model.specs.Steps.{Step, none, relocate, exchange, acrossRacks, AtRe
 use Rattle.theory.specs.Refusal.{Shaped}
 use Rattle.theory.specs.Steps.{Admissible}
 use Rattle.theory.proofs.StepsLocal.{canMove-local, canSwap-local}
-use Rattle.theory.proofs.StepsNext.{nextStep-laws}
+use Rattle.theory.proofs.StepsNext.{next-steps}
 use Rattle.theorems.specs.Bounds.{Settled}
 
 module _ (p : Plan) (shaped : Shaped p) (count : ℕ → ℕ) (words : List ℕ) (feasible : Feasible p count words) where
@@ -52,13 +52,13 @@ module _ (p : Plan) (shaped : Shaped p) (count : ℕ → ℕ) (words : List ℕ)
       }
     where
       none-left : (s : Step) → Admissible p words s → ⊥
-      none-left = nextStep-laws p words .rest .0 rest
+      none-left = next-steps p words .rest .0 rest
 
       no-gap : (a b : ℕ) → (b < a → ⊥) → a ≤ b + 0
       no-gap a b h = elim (decLt b a) [ yes l ↦ absurd (h l) | no l ↦ omega arith ]
 
   pub settled-rest : Settled p words 0 → AtRest p words
-  settled-rest settled = nextStep-laws p words .rest .1 none-left
+  settled-rest settled = next-steps p words .rest .1 none-left
     where
       none-left : (s : Step) → Admissible p words s → ⊥
       none-left none h = h

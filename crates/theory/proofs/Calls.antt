@@ -21,7 +21,7 @@ use Rattle.model.specs.Calls.{OutcomeOver, refuse, unless, onPlan, allCounted, 
 use Rattle.theory.specs.Calls.{callRefusal}
 use Rattle.theory.specs.Refusal.{Valid}
 use Rattle.theory.proofs.Refusal.{refuseIf-zero, refuseIf-all, check12-zero, check12-short, check12-enough}
-use Rattle.theory.proofs.Replication.{chosen-laws}
+use Rattle.theory.proofs.Replication.{chosen-counts}
 use Rattle.theory.proofs.Placement.{feasible-length, allWithin-iff, allSpread-iff, allFit-iff, allApart-iff}
 
 -- ── unless ───────────────────────────────────────────────────────────────────────────────────────
@@ -132,7 +132,7 @@ module _ (p : Plan) (valid : Valid p) (words : List ℕ) where
       let z16 = refuseIf-zero (not (allFit p words)) 15 _ (z15 .1) in
       let z18 = refuseIf-zero (not (allApart p words)) 17 _ (z16 .1) in
       record {
-        counts = chosen-laws p valid .feasible;
+        counts = chosen-counts p valid .feasible;
         within = allWithin-iff p words .0 (not-false _ (z13 .0));
         counted = allCounted-iff p words .0 (not-false _ (z14 .0));
         spread = allSpread-iff p words .0 (not-false _ (z15 .0));

@@ -62,7 +62,7 @@ row22-early bytes early e =
     let z7 = other-row (not (eqb (length bytes) (recordAt (formatIn bytes) b))) 6 _ (omega arith) (z6 .1) in
     ⊎-elim (λ l. omega (arith, z7 .1, l)) (λ e. omega (arith, z7 .1, e)) (planRefusal-cases (planIn bytes))
 
-pub early-feeds : (bytes : List ℕ) → EarlyFeeds bytes
+pub early-feeds : EarlyFeeds
 early-feeds bytes = record { are-racks = feedsIn-early bytes; row22-later = later }
   where
     later : refusal bytes ≡ 22 → 4 ≤ versionIn bytes

@@ -31,7 +31,7 @@ use Rattle.theory.proofs.Plan.{machines-pos}
 use Rattle.theory.proofs.Replication.{feasibleCounts-range}
 use Rattle.theory.proofs.Placement.{bit-le, bit-cases, bit-zero, bit-above-from, bit-take, shareOf-feasible}
 use Rattle.theory.proofs.PlacementFirst.{firstPlacement-feasible}
-use Rattle.theory.proofs.StepsNext.{run-laws, run-feasible}
+use Rattle.theory.proofs.StepsNext.{runs, run-feasible}
 use Rattle.theory.proofs.Calls.{unless-none, unless-some, onPlan-verdict, onPlan-made}
 
 -- ── digits ───────────────────────────────────────────────────────────────────────────────────────
@@ -254,7 +254,7 @@ listingOf-fits p valid narrow limit h =
     let r = run p limit (firstPlacement p) in
     let feasible = listingOf-feasible p valid limit in
     let few = valid .shaped .blocks-max in
-    let within = run-laws p limit (firstPlacement p) .within in
+    let within = runs p limit (firstPlacement p) .within in
     let first = planLine-length p valid in
     let blocks = joined-length-le (blockCount p) 59 (blockLine p (r .words)) (blockLine-length p valid (r .words) feasible narrow) in
     let last = lastLine-length p valid (r .words) feasible narrow (r .rested) (r .steps) (omega arith) in

@@ -22,6 +22,7 @@ use Rattle.model.specs.Plan.{Plan, machines, domain, domains, domainSize, block
 use Rattle.model.specs.Replication.{copyLimit, FeasibleCounts, share, largestShare}
 use Rattle.model.specs.Placement.{bit, wordOf, held, replicas, replicasIn, domainsUsed, countOf, used, Feasible, allWithin, allSpread, allFit, keptApart, allApart, countsFeasible, isFeasible, shareOf, load, maxShare}
 use Rattle.theory.specs.Refusal.{Shaped, Valid}
+use Rattle.theory.specs.Placement.{IsFeasibleExact}
 use Rattle.theory.proofs.Plan.{turns, domain-lt, member, member-turn, member-sum}
 use Rattle.theory.proofs.Replication.{feasibleCounts-range, feasibleCounts-same}
 
@@ -246,10 +247,9 @@ countsFeasible-iff p count =
     )
 
 -- ── isFeasible ───────────────────────────────────────────────────────────────────────────────────
--- the test says that the placement is lawful at its own counts
-pub isFeasible-iff : (p : Plan) (words : List ℕ) → (isFeasible p words ≡ true) ↔ Feasible p (countOf p words) words
+pub isFeasible-exact : IsFeasibleExact
 unfolding isFeasible
-isFeasible-iff p words =
+isFeasible-exact p words =
     let parts =
     and-iff _ _
     (and-iff _ _ (and-iff _ _ (and-iff _ _ (countsFeasible-iff p (countOf p words)) (allWithin-iff p words)) (allSpread-iff p words))

@@ -23,7 +23,7 @@ use Rattle.model.specs.Placement.{bit, wordOf, held, replicas, replicasIn, doma
 use Rattle.theory.specs.Refusal.{Shaped}
 use Rattle.theory.specs.Placement.{FirstFeasible}
 use Rattle.theory.proofs.Plan.{machines-pos, domains-pos, domains-mod-racks, domains-mod, isPaired-first, isPaired-second, partner-pair, upper-machines, upper-pair}
-use Rattle.theory.proofs.Replication.{chosen-laws}
+use Rattle.theory.proofs.Replication.{chosen-counts}
 use Rattle.theory.proofs.Placement.{bit-zero, bit-add, bit-add-below, replicasIn-delta}
 
 -- ── position ─────────────────────────────────────────────────────────────────────────────────────
@@ -284,4 +284,4 @@ laidPlacement-feasible p shaped count counts =
 
 pub firstPlacement-feasible : FirstFeasible
 unfolding firstPlacement firstWord
-firstPlacement-feasible p valid = laidPlacement-feasible p (valid .shaped) (chosen p) (chosen-laws p valid .feasible)
+firstPlacement-feasible p valid = laidPlacement-feasible p (valid .shaped) (chosen p) (chosen-counts p valid .feasible)

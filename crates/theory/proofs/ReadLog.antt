@@ -14,6 +14,7 @@ use Rattle.order.proofs.Booleans.{no-contradiction}
 use Rattle.model.specs.declared.Entry.{Entry}
 use Rattle.model.specs.Plan.{Plan, blockCount}
 use Rattle.model.specs.ReadLog.{noEntry, tickBound, age, usable, entriesIn, current, lastTick, gapBound, check19, check20, check21, readRefusal, relisted}
+use Rattle.theory.specs.ReadLog.{AgeLaws}
 use Rattle.theory.proofs.Refusal.{refuseIf-zero, refuseIf-all}
 
 -- ── age ────────────────────────────────────────────────────────────────────────────────────────────────────────────────
@@ -40,6 +41,22 @@ pub age-adds : (first second third : ℕ) → first < tickBound → second < tic
     → age second first + age third second < tickBound → age third first ≡ age second first + age third second
 unfolding age
 age-adds first second third h1 h2 h3 l = omega (arith, l)
+
+-- true times are their ticks and a multiple of 2 to the power 32
+age-modular : (since now : ℕ) → since ≤ now → age (now % tickBound) (since % tickBound) ≡ (now - since) % tickBound
+unfolding age
+age-modular since now l = omega arith
+
+pub age-laws : AgeLaws
+age-laws =
+    record {
+      modular = age-modular;
+      bound = age-bound;
+      leads = age-leads;
+      unique = age-unique;
+      adds = age-adds;
+      successive = λ first second third h1 h2 h3 near next. age-adds first second third h1 h2 h3 (omega arith);
+    }
 
 -- ── readRefusal ────────────────────────────────────────────────────────────────────────────────────────────────────────
 

@@ -22,7 +22,7 @@ use Rattle.model.specs.Replication.{copyLimit, FeasibleCounts, unit, share, lar
 use Rattle.theory.specs.Widths.{mostReplicas, popularityBound, shareBound}
 use Rattle.theory.specs.Units.{DividedBy, shareBy}
 use Rattle.theory.specs.Refusal.{ValidBlock, Shaped, Valid}
-use Rattle.theory.specs.Replication.{UnitDivides, ShareLaws, EvenPairs, ChosenLaws, ChosenUnique}
+use Rattle.theory.specs.Replication.{UnitDivides, ShareLaws, EvenPairs, ChosenCounts, ChosenUnique}
 use Rattle.theory.proofs.Plan.{partner-paired, partner-popularity, partner-minReplicas, upper-max, upper-same}
 
 -- ── limit ────────────────────────────────────────────────────────────────────────────────────────
@@ -376,44 +376,43 @@ module _ (p : Plan) (v : Valid p) where
           need-falls p i (v .shaped .block i l) (figure p) f (figure-least f e) (reachable-parts p (figure p) .0 figure-reachable .0 i l)
 
 -- ── chosen ───────────────────────────────────────────────────────────────────────────────────────
-module _ (p : Plan) (v : Valid p) where
-  -- the two blocks of a pair have the same count
-  chosen-even : EvenPairs p (chosen p)
-  unfolding chosen
-  chosen-even i l paired =
-      need-alike p (figure p) (partner p i) i (partner-popularity p (v .shaped) i l paired)
-      (partner-minReplicas p (v .shaped) i l paired)
-      (upper-same p (partner p i) i (partner-paired p (v .shaped) i l paired ∙ sym paired))
+-- the two blocks of a pair have the same count
+chosen-even : (p : Plan) → Valid p → EvenPairs p (chosen p)
+unfolding chosen
+chosen-even p v i l paired =
+    need-alike p (figure p) (partner p i) i (partner-popularity p (v .shaped) i l paired)
+    (partner-minReplicas p (v .shaped) i l paired)
+    (upper-same p (partner p i) i (partner-paired p (v .shaped) i l paired ∙ sym paired))
 
-  -- The chosen counts are optimal. Let lawful counts keep every share within some figure f. The need of a block at f is the first
-  -- lawful count whose share is within f, so it is at most the block's count. Then every need is at most the upper count, and the
-  -- needs sum to no more than the counts do, which is within the limit: f is reachable. So no lawful counts have a largest share
-  -- below the least reachable figure. That figure is reachable itself, as the least copies of an accepted plan are lawful and the
-  -- search for it ends at their largest share. So the needs at it are lawful, their largest share is the figure, and each is the
-  -- smallest count within it.
-  pub chosen-laws : ChosenLaws p
-  unfolding chosen
-  chosen-laws =
-      let feasible = reachable-feasible p v (figure p) (figure-reachable p v) in
-      let most = reachable-within p v (figure p) (figure-reachable p v) in
-      record {
-        feasible = feasible;
-        optimal = λ other c. le-trans most (figure-optimal p v other c);
-        figure-is = le-antisymm most (figure-optimal p v _ feasible);
-        within = λ i l. le-trans (largestShare-term p (chosen p) i l) most;
-        smallest-count = λ i k l. need-first p i (v .shaped .block i l) (figure p) k;
-        unpopular = λ i l none. need-enough p i (v .shaped .block i l) (figure p) (rw (none, share-none) (omega arith));
-        even = chosen-even;
-      }
+-- The chosen counts are optimal. Let lawful counts keep every share within some figure f. The need of a block at f is the first
+-- lawful count whose share is within f, so it is at most the block's count. Then every need is at most the upper count, and the
+-- needs sum to no more than the counts do, which is within the limit: f is reachable. So no lawful counts have a largest share
+-- below the least reachable figure. That figure is reachable itself, as the least copies of an accepted plan are lawful and the
+-- search for it ends at their largest share. So the needs at it are lawful, their largest share is the figure, and each is the
+-- smallest count within it.
+pub chosen-counts : ChosenCounts
+unfolding chosen
+chosen-counts p v =
+    let feasible = reachable-feasible p v (figure p) (figure-reachable p v) in
+    let most = reachable-within p v (figure p) (figure-reachable p v) in
+    record {
+      feasible = feasible;
+      optimal = λ other c. le-trans most (figure-optimal p v other c);
+      figure-is = le-antisymm most (figure-optimal p v _ feasible);
+      within = λ i l. le-trans (largestShare-term p (chosen p) i l) most;
+      smallest-count = λ i k l. need-first p i (v .shaped .block i l) (figure p) k;
+      unpopular = λ i l none. need-enough p i (v .shaped .block i l) (figure p) (rw (none, share-none) (omega arith));
+      even = chosen-even p v;
+    }
 
-  -- Other counts with these laws have the same largest share, the figure, and each count is at most the other.
-  pub chosen-unique : ChosenUnique p
-  chosen-unique count c optimal smallest i l =
-      let laws = chosen-laws in
-      let same : largestShare p count ≡ figure p =
-      le-antisymm (le-trans (optimal (chosen p) (laws .feasible)) (le-of-eq (laws .figure-is))) (figure-optimal p v count c)
-      in
-      le-antisymm
-      (smallest i (chosen p i) l (laws .feasible .at-least i l) (laws .feasible .at-most i l) (rw same (laws .within i l)))
-      (laws .smallest-count i (count i) l (c .at-least i l) (c .at-most i l)
-      (rw same at (largestShare-term p count i l)))
+-- Other counts with these laws have the same largest share, the figure, and each count is at most the other.
+pub chosen-unique : ChosenUnique
+chosen-unique p v count c optimal smallest i l =
+    let laws = chosen-counts p v in
+    let same : largestShare p count ≡ figure p =
+    le-antisymm (le-trans (optimal (chosen p) (laws .feasible)) (le-of-eq (laws .figure-is))) (figure-optimal p v count c)
+    in
+    le-antisymm
+    (smallest i (chosen p i) l (laws .feasible .at-least i l) (laws .feasible .at-most i l) (rw same (laws .within i l)))
+    (laws .smallest-count i (count i) l (c .at-least i l) (c .at-most i l)
+    (rw same at (largestShare-term p count i l)))

@@ -17,8 +17,8 @@ use Rattle.model.specs.Plan.{Plan, machines, blockCount, blockOf, isPaired, par
 use Rattle.model.specs.Placement.{bit, wordOf, held, domainsUsed, countOf, used, Feasible, shareOf, load}
 use Rattle.model.specs.Steps.{Step, none, relocate, exchange, afterMove, afterSwap, after, improves, canMove, canSwap}
 use Rattle.theory.specs.Refusal.{Shaped}
-use Rattle.theory.specs.Steps.{Lowers, LocalMove, LocalSwap, Admissible}
-use Rattle.theory.proofs.Placement.{bit-le, bit-cases, feasible-same, feasible-own, isFeasible-iff}
+use Rattle.theory.specs.Steps.{Lowers, LocalMove, LocalSwap, CanMoveLocal, CanSwapLocal, Admissible}
+use Rattle.theory.proofs.Placement.{bit-le, bit-cases, feasible-same, feasible-own, isFeasible-exact}
 use Rattle.theory.proofs.Plan.{partner-other, partner-paired, partner-partner}
 use Rattle.theory.proofs.Steps.{shifted-below, afterMove-word, afterMove-each, afterMove-held, afterMove-held-target, afterMove-count, afterMove-used, afterMove-load-source, afterMove-load-target, afterSwap-word-i, afterSwap-word-j, afterSwap-each, afterSwap-held, afterSwap-held-source, afterSwap-held-target, afterSwap-count, afterSwap-used, afterSwap-load-source, afterSwap-load-target}
 
@@ -27,7 +27,7 @@ improves-iff : (p : Plan) (words later : List ℕ) (m n : ℕ)
     → (improves p words later m n ≡ true)
     ↔ ((Feasible p (countOf p later) later × (load p later m < load p words m)) × (load p later n < load p words m))
 unfolding improves
-improves-iff p words later m n = and-iff _ _ (and-iff _ _ (isFeasible-iff p later) (ltb-iff _ _)) (ltb-iff _ _)
+improves-iff p words later m n = and-iff _ _ (and-iff _ _ (isFeasible-exact p later) (ltb-iff _ _)) (ltb-iff _ _)
 
 -- ── holds ────────────────────────────────────────────────────────────────────────────────────────
 set-iff : (w k : ℕ) → (eqb (bit w k) 1 ≡ true) ↔ (bit w k ≡ 1)
@@ -163,37 +163,37 @@ module _ (p : Plan) (shaped : Shaped p) (count : ℕ → ℕ) (words : List ℕ)
           omega arith
       fits k e l (no apart) = let d = delta-other k n apart in omega arith
 
-  pub canMove-local : (canMove p words m n i ≡ true) ↔ LocalMove p words m n i
-  canMove-local = (there, back)
-    where
-      there : canMove p words m n i ≡ true → LocalMove p words m n i
-      there e =
-          let z = canMove-iff p words m n i .0 e in
-          let told = canMove-lowers p words m n i ml nl il e in
-          let on = told .0 in
-          let off = told .1 in
-          let later = improves-iff p words (afterMove words m n i) m n .0 (z .1) in
-          record {
-            on = on;
-            off = off;
-            room = z .0 .1;
-            lowers = told .2;
-            spread = rw (afterMove-word words m n i on) at (later .0 .0 .spread i il);
-            apart = λ own.
-                arrived p shaped i il (held words n) (held (afterMove words m n i) n) (afterMove-held-target words m n i on off) own
-                (later .0 .0 .apart i il own n nl);
-          }
+pub canMove-local : CanMoveLocal
+canMove-local p shaped count words feasible m n i ml nl il = (there, back)
+  where
+    there : canMove p words m n i ≡ true → LocalMove p words m n i
+    there e =
+        let z = canMove-iff p words m n i .0 e in
+        let told = canMove-lowers p words m n i ml nl il e in
+        let on = told .0 in
+        let off = told .1 in
+        let later = improves-iff p words (afterMove words m n i) m n .0 (z .1) in
+        record {
+          on = on;
+          off = off;
+          room = z .0 .1;
+          lowers = told .2;
+          spread = rw (afterMove-word words m n i on) at (later .0 .0 .spread i il);
+          apart = λ own.
+              arrived p shaped i il (held words n) (held (afterMove words m n i) n) (afterMove-held-target words m n i on off) own
+              (later .0 .0 .apart i il own n nl);
+        }
 
-      back : LocalMove p words m n i → canMove p words m n i ≡ true
-      back s =
-          let source = afterMove-load-source p words m n i (s .on) (s .off) ml nl il in
-          let target = afterMove-load-target p words m n i (s .on) (s .off) ml nl il in
-          let lowers = s .lowers in
-          let later = feasible-own p count (afterMove words m n i) (afterMove-feasible s) in
-          canMove-iff p words m n i .1 (
-            ((s .on, s .off), s .room),
-            improves-iff p words (afterMove words m n i) m n .1 ((later, omega arith), omega arith),
-          )
+    back : LocalMove p words m n i → canMove p words m n i ≡ true
+    back s =
+        let source = afterMove-load-source p words m n i (s .on) (s .off) ml nl il in
+        let target = afterMove-load-target p words m n i (s .on) (s .off) ml nl il in
+        let lowers = s .lowers in
+        let later = feasible-own p count (afterMove words m n i) (afterMove-feasible p shaped count words feasible m n i ml nl il s) in
+        canMove-iff p words m n i .1 (
+          ((s .on, s .off), s .room),
+          improves-iff p words (afterMove words m n i) m n .1 ((later, omega arith), omega arith),
+        )
 
 -- ── canSwap ──────────────────────────────────────────────────────────────────────────────────────
 canSwap-iff : (p : Plan) (words : List ℕ) (m n i j : ℕ)
@@ -262,43 +262,43 @@ module _ (p : Plan) (shaped : Shaped p) (count : ℕ → ℕ) (words : List ℕ)
           omega arith)
           b (partner p b) before
 
-  pub canSwap-local : (canSwap p words m n i j ≡ true) ↔ LocalSwap p words m n i j
-  canSwap-local = (there, back)
-    where
-      there : canSwap p words m n i j ≡ true → LocalSwap p words m n i j
-      there e =
-          let told = canSwap-lowers p words m n i j ml nl il jl e in
-          let i-on = told .0 in
-          let i-off = told .1 in
-          let j-on = told .2 in
-          let j-off = told .3 in
-          let later = improves-iff p words (afterSwap words m n i j) m n .0 (canSwap-iff p words m n i j .0 e .1) in
-          record {
-            i-on = i-on;
-            i-off = i-off;
-            j-on = j-on;
-            j-off = j-off;
-            lowers = told .4;
-            i-spread = rw (afterSwap-word-i p words m n i j i-on i-off j-on j-off) at (later .0 .0 .spread i il);
-            j-spread = rw (afterSwap-word-j p words m n i j i-on i-off j-on j-off) at (later .0 .0 .spread j jl);
-            i-apart = λ own.
-                replaced p shaped i il (held words n) (held (afterSwap words m n i j) n) j i-off j-on
-                (afterSwap-held-target p words m n i j i-on i-off j-on j-off) own (later .0 .0 .apart i il own n nl);
-            j-apart = λ own.
-                replaced p shaped j jl (held words m) (held (afterSwap words m n i j) m) i j-off i-on
-                (afterSwap-held-source p words m n i j i-on i-off j-on j-off) own (later .0 .0 .apart j jl own m ml);
-          }
+pub canSwap-local : CanSwapLocal
+canSwap-local p shaped count words feasible m n i j ml nl il jl = (there, back)
+  where
+    there : canSwap p words m n i j ≡ true → LocalSwap p words m n i j
+    there e =
+        let told = canSwap-lowers p words m n i j ml nl il jl e in
+        let i-on = told .0 in
+        let i-off = told .1 in
+        let j-on = told .2 in
+        let j-off = told .3 in
+        let later = improves-iff p words (afterSwap words m n i j) m n .0 (canSwap-iff p words m n i j .0 e .1) in
+        record {
+          i-on = i-on;
+          i-off = i-off;
+          j-on = j-on;
+          j-off = j-off;
+          lowers = told .4;
+          i-spread = rw (afterSwap-word-i p words m n i j i-on i-off j-on j-off) at (later .0 .0 .spread i il);
+          j-spread = rw (afterSwap-word-j p words m n i j i-on i-off j-on j-off) at (later .0 .0 .spread j jl);
+          i-apart = λ own.
+              replaced p shaped i il (held words n) (held (afterSwap words m n i j) n) j i-off j-on
+              (afterSwap-held-target p words m n i j i-on i-off j-on j-off) own (later .0 .0 .apart i il own n nl);
+          j-apart = λ own.
+              replaced p shaped j jl (held words m) (held (afterSwap words m n i j) m) i j-off i-on
+              (afterSwap-held-source p words m n i j i-on i-off j-on j-off) own (later .0 .0 .apart j jl own m ml);
+        }
 
-      back : LocalSwap p words m n i j → canSwap p words m n i j ≡ true
-      back s =
-          let source = afterSwap-load-source p words m n i j (s .i-on) (s .i-off) (s .j-on) (s .j-off) ml nl il jl in
-          let target = afterSwap-load-target p words m n i j (s .i-on) (s .i-off) (s .j-on) (s .j-off) ml nl il jl in
-          let lowers = s .lowers in
-          let later = feasible-own p count (afterSwap words m n i j) (afterSwap-feasible s) in
-          canSwap-iff p words m n i j .1 (
-            (((s .i-on, s .j-off), s .j-on), s .i-off),
-            improves-iff p words (afterSwap words m n i j) m n .1 ((later, omega arith), omega arith),
-          )
+    back : LocalSwap p words m n i j → canSwap p words m n i j ≡ true
+    back s =
+        let source = afterSwap-load-source p words m n i j (s .i-on) (s .i-off) (s .j-on) (s .j-off) ml nl il jl in
+        let target = afterSwap-load-target p words m n i j (s .i-on) (s .i-off) (s .j-on) (s .j-off) ml nl il jl in
+        let lowers = s .lowers in
+        let later = feasible-own p count (afterSwap words m n i j) (afterSwap-feasible p shaped count words feasible m n i j ml nl il jl s) in
+        canSwap-iff p words m n i j .1 (
+          (((s .i-on, s .j-off), s .j-on), s .i-off),
+          improves-iff p words (afterSwap words m n i j) m n .1 ((later, omega arith), omega arith),
+        )
 
 -- ── after ────────────────────────────────────────────────────────────────────────────────────────
 -- a lawful step keeps the placement feasible, at its counts

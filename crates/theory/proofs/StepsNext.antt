@@ -18,7 +18,7 @@ use Rattle.order.proofs.Searches.{none-below, first-index}
 use Rattle.model.specs.Plan.{Plan, machines, blockCount}
 use Rattle.model.specs.Placement.{Feasible}
 use Rattle.model.specs.Steps.{Step, none, relocate, exchange, after, acrossRacks, canMove, canSwap, isStep, first, routes, nextMove, nextSwap, orStep, nextStep, run}
-use Rattle.theory.specs.Steps.{Admissible, stepKey, Precedes, NextStepLaws, Taken, none-taken, one-more, RunLaws}
+use Rattle.theory.specs.Steps.{Admissible, stepKey, Precedes, NextStepLaws, NextSteps, Taken, none-taken, one-more, RunLaws, Runs}
 use Rattle.theory.proofs.Steps.{after-past}
 use Rattle.theory.proofs.StepsLocal.{after-feasible}
 
@@ -228,36 +228,39 @@ module _ (p : Plan) (words : List ℕ) where
       back (relocate true m n i) h = (2, _, refl, lit< tt, move-admissible true m n i h)
       back (exchange true m n i j) h = (3, _, refl, lit< tt, swap-admissible true m n i j h)
 
-  -- A search over an index finds, at the first index where there is anything to find, what is first there; so nested searches find
-  -- the step whose numbers are first, the outermost deciding before the inner ones. The kinds are the outermost index, then m, n, i
-  -- and j.
-  pub nextStep-laws : NextStepLaws p words
-  nextStep-laws = go (finds-same (Under 4 Kind) (λ a s. (a ≡ stepKey s) × Admissible p words s) (nextStep p words) kinds-admissible finds-next)
-    where
-      go : Finds (λ a s. (a ≡ stepKey s) × Admissible p words s) (nextStep p words) → NextStepLaws p words
-      go (inl (e, empty)) =
-          record {
-            admissible = inl e;
-            first = λ s h. absurd (empty (stepKey s) s (refl, h));
-            none-before = λ s h before. empty (stepKey s) s (refl, h);
-            rest = (λ q s h. empty (stepKey s) s (refl, h), λ h. e);
-          }
-      go (inr (a, (e, h), is, least)) =
-          let first : (s : Step) → Admissible p words s → (nextStep p words ≡ s) ⊎ Precedes (stepKey (nextStep p words)) (stepKey s) =
-          λ s l. rw e at (least (stepKey s) s (refl, l))
-          in
-          record {
-            admissible = inr h;
-            first = first;
-            none-before = λ s l before. elim (first s l) [
-              | inl same ↦ precedes-asym (stepKey s) (stepKey s) (rw same at before) (rw same at before)
-              | inr later ↦ precedes-asym (stepKey s) (stepKey (nextStep p words)) before later
-            ];
-            rest = (λ q. no-contradiction (sym is ∙ ap isStep q), λ none-admissible. absurd (none-admissible (nextStep p words) h));
-          }
+-- A search over an index finds, at the first index where there is anything to find, what is first there; so nested searches find
+-- the step whose numbers are first, the outermost deciding before the inner ones. The kinds are the outermost index, then m, n, i
+-- and j.
+pub next-steps : NextSteps
+next-steps p words =
+    go
+    (finds-same (Under 4 (Kind p words)) (λ a s. (a ≡ stepKey s) × Admissible p words s) (nextStep p words) (kinds-admissible p words)
+    (finds-next p words))
+  where
+    go : Finds (λ a s. (a ≡ stepKey s) × Admissible p words s) (nextStep p words) → NextStepLaws p words
+    go (inl (e, empty)) =
+        record {
+          admissible = inl e;
+          first = λ s h. absurd (empty (stepKey s) s (refl, h));
+          none-before = λ s h before. empty (stepKey s) s (refl, h);
+          rest = (λ q s h. empty (stepKey s) s (refl, h), λ h. e);
+        }
+    go (inr (a, (e, h), is, least)) =
+        let first : (s : Step) → Admissible p words s → (nextStep p words ≡ s) ⊎ Precedes (stepKey (nextStep p words)) (stepKey s) =
+        λ s l. rw e at (least (stepKey s) s (refl, l))
+        in
+        record {
+          admissible = inr h;
+          first = first;
+          none-before = λ s l before. elim (first s l) [
+            | inl same ↦ precedes-asym (stepKey s) (stepKey s) (rw same at before) (rw same at before)
+            | inr later ↦ precedes-asym (stepKey s) (stepKey (nextStep p words)) before later
+          ];
+          rest = (λ q. no-contradiction (sym is ∙ ap isStep q), λ none-admissible. absurd (none-admissible (nextStep p words) h));
+        }
 
 pub nextStep-admissible : (p : Plan) (words : List ℕ) → isStep (nextStep p words) ≡ true → Admissible p words (nextStep p words)
-nextStep-admissible p words is = elim (nextStep-laws p words .admissible) [
+nextStep-admissible p words is = elim (next-steps p words .admissible) [
   | inl e ↦ no-contradiction (sym is ∙ ap isStep e)
   | inr h ↦ h
 ]
@@ -265,7 +268,7 @@ nextStep-admissible p words is = elim (nextStep-laws p words .admissible) [
 pub nextStep-feasible : (p : Plan) (count : ℕ → ℕ) (words : List ℕ) → Feasible p count words
     → Feasible p count (after words (nextStep p words))
 unfolding after
-nextStep-feasible p count words feasible = elim (nextStep-laws p words .admissible) [
+nextStep-feasible p count words feasible = elim (next-steps p words .admissible) [
   | inl e ↦ rw e feasible
   | inr h ↦ after-feasible p count words feasible (nextStep p words) h
 ]
@@ -313,8 +316,8 @@ module _ (p : Plan) (words : List ℕ) where
   unfolding run
   run-suc limit e = rw e
 
-pub run-laws : (p : Plan) (limit : ℕ) (words : List ℕ) → RunLaws p limit words (run p limit words)
-run-laws p zero words =
+pub runs : Runs
+runs p zero words =
     rw (run-zero p words)
     (record {
       within = omega arith;
@@ -322,8 +325,8 @@ run-laws p zero words =
       rest = λ e. isStep-false (nextStep p words) (not-true _ e);
       spent = λ e. (refl, not-false _ e);
     })
-run-laws p (suc limit) words =
-    go (bool-cases (isStep (nextStep p words))) (run-laws p limit (after words (nextStep p words)))
+runs p (suc limit) words =
+    go (bool-cases (isStep (nextStep p words))) (runs p limit (after words (nextStep p words)))
   where
     go : (isStep (nextStep p words) ≡ true) ⊎ (isStep (nextStep p words) ≡ false)
         → RunLaws p limit (after words (nextStep p words)) (run p limit (after words (nextStep p words)))
@@ -348,4 +351,4 @@ run-laws p (suc limit) words =
 
 pub run-feasible : (p : Plan) (count : ℕ → ℕ) (words : List ℕ) → Feasible p count words → (limit : ℕ)
     → Feasible p count (run p limit words .words)
-run-feasible p count words feasible limit = taken-feasible p count (run-laws p limit words .taken) feasible
+run-feasible p count words feasible limit = taken-feasible p count (runs p limit words .taken) feasible

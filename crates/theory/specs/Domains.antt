@@ -23,6 +23,9 @@ abbrev pub Domains : Type 0
 Domains = (p : Plan) → Shaped p → DomainLaws p
 
 -- Versions 1 to 3 are the case F = R, which row 22 does not turn back.
-pub record EarlyFeeds (bytes : List ℕ) : Type 0 where
+pub record EarlyFeedLaws (bytes : List ℕ) : Type 0 where
   pub are-racks : versionIn bytes < 4 → feedsIn bytes ≡ racksIn bytes
   pub row22-later : refusal bytes ≡ 22 → 4 ≤ versionIn bytes
+
+abbrev pub EarlyFeeds : Type 0
+EarlyFeeds = (bytes : List ℕ) → EarlyFeedLaws bytes

@@ -7,5 +7,6 @@ pub mod Placement
 pub mod Domains
 pub mod Steps
 pub mod Calls
+pub mod ReadLog
 pub mod Listing
 pub mod Writing

@@ -51,8 +51,12 @@ pub record ChosenLaws (p : Plan) : Type 0 where
   pub unpopular : (i : ℕ) → i < blockCount p → blockOf p i .popularity ≡ 0 → chosen p i ≡ blockOf p i .minReplicas
   pub even : EvenPairs p (chosen p)
 
+abbrev pub ChosenCounts : Type 0
+ChosenCounts = (p : Plan) → Valid p → ChosenLaws p
+
 -- No other counts are the document's choice.
-abbrev pub ChosenUnique : Plan → Type 0
-ChosenUnique p =
-    (count : ℕ → ℕ) → FeasibleCounts p count → Optimal p count → Smallest p (largestShare p count) count
+abbrev pub ChosenUnique : Type 0
+ChosenUnique =
+    (p : Plan) → Valid p
+    → (count : ℕ → ℕ) → FeasibleCounts p count → Optimal p count → Smallest p (largestShare p count) count
     → (i : ℕ) → i < blockCount p → count i ≡ chosen p i

@@ -5,8 +5,9 @@ use mathlib.Core.List.{List, [], _∷_}
 use mathlib.Core.Logic.{_⊎_, _↔_}
 use Prim.Native.Nat.{ℕ, suc, _+_, _<_, _≤_}
 use Rattle.model.specs.Plan.{Plan, machines, blockCount, blockOf, isPaired, partner}
-use Rattle.model.specs.Placement.{wordOf, held, domainsUsed, used, shareOf, load}
-use Rattle.model.specs.Steps.{Step, none, relocate, exchange, shifted, after, acrossRacks, canMove, canSwap, isStep, nextStep, AtRest, Run}
+use Rattle.model.specs.Placement.{wordOf, held, domainsUsed, used, Feasible, shareOf, load}
+use Rattle.model.specs.Steps.{Step, none, relocate, exchange, shifted, after, acrossRacks, canMove, canSwap, isStep, nextStep, AtRest, Run, run}
+use Rattle.theory.specs.Refusal.{Shaped}
 
 -- What the loads must satisfy for m to give the share `given` and get `back`: both loads end below that of m.
 abbrev pub Lowers : Plan → List ℕ → ℕ → ℕ → ℕ → ℕ → Type 0
@@ -34,6 +35,19 @@ pub record LocalSwap (p : Plan) (words : List ℕ) (m n i j : ℕ) : Type 0 wher
   -- n does not hold i's partner, nor m that of j, unless the two are each other's
   pub i-apart : isPaired p i ≡ true → (partner p i ≡ j → ⊥) → held words n (partner p i) ≡ 0
   pub j-apart : isPaired p j ≡ true → (partner p j ≡ i → ⊥) → held words m (partner p j) ≡ 0
+
+-- From a lawful placement they hold exactly where the document's tests pass, which look at the placement afterwards.
+abbrev pub CanMoveLocal : Type 0
+CanMoveLocal =
+    (p : Plan) → Shaped p → (count : ℕ → ℕ) (words : List ℕ) → Feasible p count words
+    → (m n i : ℕ) → m < machines p → n < machines p → i < blockCount p
+    → (canMove p words m n i ≡ true) ↔ LocalMove p words m n i
+
+abbrev pub CanSwapLocal : Type 0
+CanSwapLocal =
+    (p : Plan) → Shaped p → (count : ℕ → ℕ) (words : List ℕ) → Feasible p count words
+    → (m n i j : ℕ) → m < machines p → n < machines p → i < blockCount p → j < blockCount p
+    → (canSwap p words m n i j ≡ true) ↔ LocalSwap p words m n i j
 
 -- An admissible step, one that the document allows: its machines and blocks are the plan's, it passes its test, and Move and Swap are
 -- for one rack, RackMove and RackSwap for two.
@@ -68,6 +82,9 @@ pub record NextStepLaws (p : Plan) (words : List ℕ) : Type 0 where
   -- it is at rest exactly if there is none
   pub rest : AtRest p words ↔ ((s : Step) → Admissible p words s → ⊥)
 
+abbrev pub NextSteps : Type 0
+NextSteps = (p : Plan) (words : List ℕ) → NextStepLaws p words
+
 -- `Taken p first n last`: n next steps of the definition lead from `first` to `last`.
 pub data Taken (p : Plan) : List ℕ → ℕ → List ℕ → Type 0 where
   none-taken : {words : List ℕ} → Taken p words 0 words
@@ -80,3 +97,6 @@ pub record RunLaws (p : Plan) (limit : ℕ) (words : List ℕ) (r : Run) : Type 
   pub taken : Taken p words (r .steps) (r .words)
   pub rest : r .rested ≡ true → AtRest p (r .words)
   pub spent : r .rested ≡ false → (r .steps ≡ limit) × (isStep (nextStep p (r .words)) ≡ true)
+
+abbrev pub Runs : Type 0
+Runs = (p : Plan) (limit : ℕ) (words : List ℕ) → RunLaws p limit words (run p limit words)

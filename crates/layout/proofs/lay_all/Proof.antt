@@ -10,7 +10,7 @@ use Rattle.order.proofs.Tables.{filled-none, filled-more}
 use Rattle.model.specs.Plan.{Plan, blockCount}
 use Rattle.model.specs.Replication.{chosen}
 use Rattle.model.specs.Placement.{firstWord}
-use Rattle.theory.proofs.Replication.{chosen-laws}
+use Rattle.theory.proofs.Replication.{chosen-counts}
 use Rattle.cluster.specs.Blocks.{ProfilesOf}
 use Rattle.cluster.proofs.Laws.{cluster-blocks, profiles-count}
 use Rattle.layout.proofs.Laws.{cursorFor, cursorFor-first, block-asked, block-laid}
@@ -35,7 +35,7 @@ chosen-here : (c : tie.After-count-of Inv-loop μ-loop) (p : Plan)
     → c .count-of .result ≡ chosen p (at .loop .i)
 chosen-here c p of =
     c .count-of .ensures
-    ∙ profiles-count p (chosen p) _ _ of (chosen-laws p (of .cluster .valid) .feasible .at-most) _ (omega arith)
+    ∙ profiles-count p (chosen p) _ _ of (chosen-counts p (of .cluster .valid) .feasible .at-most) _ (omega arith)
 
 loop-holds : tie.Need-loop-holds Inv-loop μ-loop
 loop-holds c = (omega arith, refl, λ p of. (filled-none _ _, c .start .ensures ∙ cursorFor-first p _))

@@ -11,7 +11,7 @@ use lib.ListN.{length, getD, length-set}
 use lib.Seq.{getD-set-other}
 use Rattle.model.specs.Plan.{Plan, blockCount, upper}
 use Rattle.model.specs.Replication.{chosen}
-use Rattle.theory.proofs.Replication.{chosen-laws}
+use Rattle.theory.proofs.Replication.{chosen-counts}
 use Rattle.cluster.specs.declared.Cluster.{Cluster}
 use Rattle.cluster.specs.Blocks.{DemandsOf}
 use Rattle.cluster.proofs.Laws.{cluster-blocks}
@@ -36,7 +36,7 @@ abbrev entry : tie.At-loop Inv-loop μ-loop → tie.Start Inv-loop μ-loop
 entry at = at .before .before .before
 
 at-most : (p : Plan) (c : Cluster) (demands : List ℕ) → DemandsOf p c demands → (i : ℕ) → i < blockCount p → chosen p i ≤ upper p i
-at-most p c demands of = chosen-laws p (of .cluster .valid) .feasible .at-most
+at-most p c demands of = chosen-counts p (of .cluster .valid) .feasible .at-most
 
 scale-of-requires : tie.Need-scale-of-requires Inv-loop μ-loop
 scale-of-requires c κs = c .before .pre .wanted-narrow
