@@ -117,7 +117,7 @@ mul-demand : tie.Need-mul-demand Inv-loop μ-loop
 mul-demand c = omega arith
 
 slice-read-demand : tie.Need-slice-read-demand Inv-loop μ-loop
-slice-read-demand c = omega (arith, c .before .before .before .before .before .before .pre .fit .room)
+slice-read-demand c = let asked = c .before .before .before .before .before .before .pre in omega (arith, asked .fit .room)
 
 needed-requires : tie.Need-needed-requires Inv-loop μ-loop
 needed-requires c κs = asked-here (c .before)
@@ -138,7 +138,9 @@ mul-items : tie.Need-mul-items Inv-loop μ-loop
 mul-items c = omega arith
 
 slice-write-items : tie.Need-slice-write-items Inv-loop μ-loop
-slice-write-items c = omega (arith, At (c .before .before .before .before .before) .before .before .before .pre .fit .room)
+slice-write-items c =
+    let found = c .before .before .before .before .before in
+    omega (arith, At found .before .before .before .pre .fit .room)
 
 add-i : tie.Need-add-i Inv-loop μ-loop
 add-i c = omega arith
