@@ -98,7 +98,12 @@ unfolding verdictCode
 verdict-done zero p = (λ e. (p, refl), λ d. refl)
 verdict-done (suc code) p = (λ e. absurd (omega arith), λ d. absurd (let e = d .1 in clash (cc)))
 
-module _ (plan items out : List ℕ) (limit : ℕ) where
+-- a listing's room
+room-row : (t : Bool) → (refuseIf t shortOut 0 ≤ lastRow) ⊎ (refuseIf t shortOut 0 ≡ shortOut)
+room-row true = inr refl
+room-row false = inl (lit≤ tt)
+
+module _ (plan items : List ℕ) where
   counts-told : Told (countsCall plan items .answer)
   unfolding countsCall
   counts-told = plan-told items plan _ _ (buffer-le (length items) (blockCount (planIn plan))) tt
@@ -119,17 +124,13 @@ module _ (plan items out : List ℕ) (limit : ℕ) where
   unfolding stepCall
   step-told = placement-told items plan _ tt
 
-  run-told : Told (runCall plan items limit .answer)
+  run-told : (limit : ℕ) → Told (runCall plan items limit .answer)
   unfolding runCall
-  run-told = placement-told items plan _ tt
+  run-told limit = placement-told items plan _ tt
 
-  room-row : (t : Bool) → (refuseIf t shortOut 0 ≤ lastRow) ⊎ (refuseIf t shortOut 0 ≡ shortOut)
-  room-row true = inr refl
-  room-row false = inl (lit≤ tt)
-
-  listing-told : Told (listingCall plan limit items .answer)
+  listing-told : (limit : ℕ) → Told (listingCall plan limit items .answer)
   unfolding listingCall roomRefusal wrote
-  listing-told = unless-told items _ _ (room-row (ltb (length items) listingRoom)) (plan-told items plan _ _ (lit≤ tt) tt)
+  listing-told limit = unless-told items _ _ (room-row (ltb (length items) listingRoom)) (plan-told items plan _ _ (lit≤ tt) tt)
 
   convert-told : Told (convertCall plan items .answer)
   unfolding convertCall convertVerdict wrote
@@ -138,31 +139,35 @@ module _ (plan items out : List ℕ) (limit : ℕ) where
       (inl (buffer-le (length items) (length (converted (planIn plan)))))
       tt
 
-  pub codes : Codes plan items out limit
-  unfolding judge
-  codes =
-      record {
-        plan-known = verdict-known (refusal plan) (planIn plan) (refusal-le plan);
-        plan-done = verdict-done (refusal plan) (planIn plan);
-        counts-tells = effect-tells _ _ items [] _ counts-told;
-        first-tells = effect-tells _ _ items [] _ first-told;
-        check-tells = effect-tells _ _ items [] _ check-told;
-        report-tells = effect-tells _ _ items out _ report-told;
-        step-tells = effect-tells _ _ items out _ step-told;
-        run-tells = effect-tells _ _ items out _ run-told;
-        listing-tells = effect-tells _ _ items out _ listing-told;
-        convert-tells = effect-tells _ _ items out _ convert-told;
-      }
+pub codes : Codes
+unfolding judge
+codes plan items out limit =
+    record {
+      plan-known = verdict-known (refusal plan) (planIn plan) (refusal-le plan);
+      plan-done = verdict-done (refusal plan) (planIn plan);
+      counts-tells = effect-tells _ _ items [] _ (counts-told plan items);
+      first-tells = effect-tells _ _ items [] _ (first-told plan items);
+      check-tells = effect-tells _ _ items [] _ (check-told plan items);
+      report-tells = effect-tells _ _ items out _ (report-told plan items);
+      step-tells = effect-tells _ _ items out _ (step-told plan items);
+      run-tells = effect-tells _ _ items out _ (run-told plan items limit);
+      listing-tells = effect-tells _ _ items out _ (listing-told plan items limit);
+      convert-tells = effect-tells _ _ items out _ (convert-told plan items);
+    }
 
 -- the calls on reads
-module _ (plan : List ℕ) (list : List Entry) (out : List ℕ) (block tick count : ℕ) where
-  read-told : Told (readCall plan block tick list count .answer)
+module _ (plan : List ℕ) (list : List Entry) (block count : ℕ) where
+  read-told : (tick : ℕ) → Told (readCall plan block tick list count .answer)
   unfolding readCall
-  read-told = plan-told list plan (readRefusal block tick list count) _ (le-trans (readRefusal-le block tick list count (planIn plan)) (lit≤ tt)) tt
+  read-told tick = plan-told list plan (readRefusal block tick list count) _ (le-trans (readRefusal-le block tick list count (planIn plan)) (lit≤ tt)) tt
 
   popularity-told : Told (popularityCall plan block list count .answer)
   unfolding popularityCall
   popularity-told = plan-told list plan (λ p. check19 block (blockCount p) 0) _ (le-trans (check19-le block (blockCount (planIn plan)) 0 (lit≤ tt)) (lit≤ tt)) tt
 
-  pub read-codes : ReadCodes plan list out block tick count
-  read-codes = record { read-tells = effect-tells _ _ list out _ read-told; popularity-tells = effect-tells _ _ list out _ popularity-told }
+pub read-codes : ReadCodes
+read-codes plan list out block tick count =
+    record {
+      read-tells = effect-tells _ _ list out _ (read-told plan list block count tick);
+      popularity-tells = effect-tells _ _ list out _ (popularity-told plan list block count);
+    }

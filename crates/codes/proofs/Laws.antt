@@ -6,8 +6,8 @@ use Prim.Native.Nat.{ℕ, _<_, _≤_}
 use borrow.Author.Tests.{lt-ltb, le-ltb}
 use lib.ListN.{length}
 use Rattle.model.specs.Calls.{OutcomeOver, answered, refuse}
-use Rattle.interface.specs.Interface.{Effect, effectOf, shortOut, over, replied, effect}
-use Rattle.codes.specs.Told.{Told}
+use Rattle.interface.specs.Interface.{Effect, effectOf, shortOut, over, oneNumber, replied, effect}
+use Rattle.codes.specs.Told.{Told, NumberTold}
 
 -- an outcome's effect
 abbrev effect-of : {I A : Type 0} → (A → List ℕ) → List ℕ → OutcomeOver I A → Effect I
@@ -33,6 +33,12 @@ module _ {I A B : Type 0} (numbers : A → List ℕ) (reading : B → List I →
             λ items.
             ap (λ (o : List ℕ). effectOf 0 items o) wrote ∙ ap (effect-of numbers out) (reads items ∙ ap (λ (b : B). reading b items) (sym is));
       }
+
+-- an answer of one number
+module _ {I B : Type 0} (reading : B → List I → OutcomeOver I ℕ) {answer variant : B} {out : List ℕ} (is : answer ≡ variant) where
+  pub told-number : {n code : ℕ} {out' : List ℕ} → ((items : List I) → record { answer = answered n; items = items } ≡ reading variant items) → NumberTold n out code out'
+      → Told oneNumber (reading answer) out code out'
+  told-number reads told = rw (told .code-is) (told-answered oneNumber reading is reads (told .out-is))
 
 -- a call's effect: `out` is short, or long enough
 module _ {I A : Type 0} (need : ℕ) (numbers : A → List ℕ) (items : List I) (out : List ℕ) (call : OutcomeOver I A) where

@@ -34,8 +34,8 @@ pub record Tells {A : Type 0} (need : ℕ) (out : List ℕ) (answer : Answer A) 
 abbrev pub EffectTells : {I A : Type 0} → ℕ → (A → List ℕ) → List I → List ℕ → OutcomeOver I A → Type 0
 EffectTells need numbers items out call = Tells need out (call .answer) (effect need numbers items out call .code)
 
--- Of every exported function that makes one call, whatever it is lent. Playing a script is never refused: it is short of `out`, or done.
-pub record Codes (plan items out : List ℕ) (limit : ℕ) : Type 0 where
+-- Of every exported function that makes one call. Playing a script is never refused: it is short of `out`, or done.
+pub record CodeLaws (plan items out : List ℕ) (limit : ℕ) : Type 0 where
   pub plan-known : (verdictCode (judge plan) ≡ 0) ⊎ RefusalCode (verdictCode (judge plan))
   pub plan-done : (verdictCode (judge plan) ≡ 0) ↔ ((p : Plan) × (judge plan ≡ accepted p))
   pub counts-tells : EffectTells 0 noNumbers items [] (countsCall plan items)
@@ -47,7 +47,14 @@ pub record Codes (plan items out : List ℕ) (limit : ℕ) : Type 0 where
   pub listing-tells : EffectTells 1 oneNumber items out (listingCall plan limit items)
   pub convert-tells : EffectTells 1 oneNumber items out (convertCall plan items)
 
--- And of those on reads.
-pub record ReadCodes (plan : List ℕ) (list : List Entry) (out : List ℕ) (block tick count : ℕ) : Type 0 where
+-- Whatever a call is lent.
+abbrev pub Codes : Type 0
+Codes = (plan items out : List ℕ) (limit : ℕ) → CodeLaws plan items out limit
+
+-- Of the exported functions on reads.
+pub record ReadCodeLaws (plan : List ℕ) (list : List Entry) (out : List ℕ) (block tick count : ℕ) : Type 0 where
   pub read-tells : EffectTells 1 oneNumber list out (readCall plan block tick list count)
   pub popularity-tells : EffectTells 1 oneNumber list out (popularityCall plan block list count)
+
+abbrev pub ReadCodes : Type 0
+ReadCodes = (plan : List ℕ) (list : List Entry) (out : List ℕ) (block tick count : ℕ) → ReadCodeLaws plan list out block tick count

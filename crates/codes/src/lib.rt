@@ -20,7 +20,7 @@ ghost use Rattle.conversion.specs.Entries.{convertOutcome};
 ghost use Rattle.reads.specs.Answers.{readsOutcome};
 ghost use Rattle.script.specs.Script.{replyIs};
 ghost use Rattle.interface.specs.Interface.{noNumbers, reportNumbers, stepNumbers, runNumbers, oneNumber, replyNumbers};
-ghost use Rattle.codes.specs.Told.{VerdictTold, Told, replyOutcome};
+ghost use Rattle.codes.specs.Told.{VerdictTold, Told, NumberTold, replyOutcome};
 
 // A plan's verdict.
 pub fn tell_plan(reading: Reading) -> u32
@@ -112,6 +112,16 @@ pub fn tell_run(answer: RunAnswer, out: &mut [u64]) -> u32
     }
 }
 
+// An answer of one number: the code is 0, and the number is the first word of `out`.
+fn tell_number(number: u64, out: &mut [u64]) -> u32
+    requires { ⌜ 1 ≤ length (now out) ⌝ }
+    ensures { λ r. ⌜ NumberTold number (now (out .entry)) r (now (out .exit)) ⌝ }
+{
+    let numbers = [number];
+    interface::write_numbers(out, &numbers);
+    0
+}
+
 // A listing: the number of bytes.
 pub fn tell_listing(answer: ListingAnswer, out: &mut [u64]) -> u32
     requires { ⌜ 1 ≤ length (now out) ⌝ }
@@ -119,11 +129,7 @@ pub fn tell_listing(answer: ListingAnswer, out: &mut [u64]) -> u32
 {
     match answer {
         ListingAnswer::Refused(number) => interface::code_of(number),
-        ListingAnswer::Listed(size) => {
-            let numbers = [size as u64];
-            interface::write_numbers(out, &numbers);
-            0
-        }
+        ListingAnswer::Listed(size) => tell_number(size as u64, out),
     }
 }
 
@@ -134,11 +140,7 @@ pub fn tell_convert(answer: ConvertAnswer, out: &mut [u64]) -> u32
 {
     match answer {
         ConvertAnswer::Refused(number) => interface::code_of(number),
-        ConvertAnswer::Converted(length) => {
-            let numbers = [length as u64];
-            interface::write_numbers(out, &numbers);
-            0
-        }
+        ConvertAnswer::Converted(length) => tell_number(length as u64, out),
     }
 }
 
@@ -159,10 +161,6 @@ pub fn tell_reads(answer: ReadsAnswer, out: &mut [u64]) -> u32
 {
     match answer {
         ReadsAnswer::Refused(number) => interface::code_of(number),
-        ReadsAnswer::Number(n) => {
-            let numbers = [n];
-            interface::write_numbers(out, &numbers);
-            0
-        }
+        ReadsAnswer::Number(n) => tell_number(n, out),
     }
 }

@@ -9,14 +9,8 @@ use Rattle.codes.proofs.Laws.{effect-told}
 use Rattle.capi.proofs.bpl_check.Statement.{statement}
 use Rattle.capi.proofs.bpl_check.Tie as tie
 
-check-requires : tie.Need-check-requires
-check-requires c κs = search needs
-
-tell-check-requires : tie.Need-tell-check-requires
-tell-check-requires c κs = search needs
-
 returns : tie.Need-returns
 returns c = effect-told 0 noNumbers _ [] _ (checkOutcome _) _ _ [] (omega arith) (c .before .check .ensures) (c .tell-check .ensures)
 
 pub bpl-check-spec : {M : Type 1} → statement M
-bpl-check-spec = tie.close (tie.spec check-requires tell-check-requires returns)
+bpl-check-spec = tie.close (tie.spec (λ c κs. search needs) (λ c κs. search needs) returns)

@@ -10,18 +10,6 @@ use Rattle.capi.proofs.bpl_convert.Tie as tie
 returns : tie.Need-returns
 returns c = out-short 1 oneNumber _ _ _ (c .if1 .taken)
 
-convert-requires : tie.Need-convert-requires
-convert-requires c κs = search needs
-
-tell-convert-requires : tie.Need-tell-convert-requires
-tell-convert-requires c κs = c .before .before .before .before .before .if1 .left
-
-same-length : tie.Need-same-length
-same-length c = search needs
-
-same-length-2 : tie.Need-same-length-2
-same-length-2 c = search needs
-
 returns-2 : tie.Need-returns-2
 returns-2 c =
     let told = c .before .before in
@@ -31,4 +19,4 @@ returns-2 c =
 pub bpl-convert-spec : {M : Type 1} → statement M
 bpl-convert-spec =
     tie.close
-    (tie.spec returns convert-requires tell-convert-requires same-length same-length-2 returns-2)
+    (tie.spec returns (λ c κs. search needs) (λ c κs. search needs) (λ c. search needs) (λ c. search needs) returns-2)

@@ -6,14 +6,8 @@ use Rattle.model.specs.Refusal.{verdictCode}
 use Rattle.capi.proofs.bpl_plan.Statement.{statement}
 use Rattle.capi.proofs.bpl_plan.Tie as tie
 
-read-requires : tie.Need-read-requires
-read-requires c κs = search needs
-
-tell-plan-requires : tie.Need-tell-plan-requires
-tell-plan-requires c κs = search needs
-
 returns : tie.Need-returns
 returns c = c .tell-plan .ensures .code-is _ ∙ ap verdictCode (c .before .read .ensures)
 
 pub bpl-plan-spec : {M : Type 1} → statement M
-bpl-plan-spec = tie.close (tie.spec read-requires tell-plan-requires returns)
+bpl-plan-spec = tie.close (tie.spec (λ c κs. search needs) (λ c κs. search needs) returns)

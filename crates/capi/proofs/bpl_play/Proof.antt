@@ -15,18 +15,6 @@ returns c =
       claimed = λ enough. absurd (omega (arith, c .if1 .taken));
     }
 
-play-requires : tie.Need-play-requires
-play-requires c κs = search needs
-
-tell-reply-requires : tie.Need-tell-reply-requires
-tell-reply-requires c κs = c .before .before .before .before .before .if1 .left
-
-same-length : tie.Need-same-length
-same-length c = search needs
-
-same-length-2 : tie.Need-same-length-2
-same-length-2 c = search needs
-
 returns-2 : tie.Need-returns-2
 returns-2 c =
     let told = c .before .before in
@@ -36,4 +24,4 @@ returns-2 c =
 pub bpl-play-spec : {M : Type 1} → statement M
 bpl-play-spec =
     tie.close
-    (tie.spec returns play-requires tell-reply-requires same-length same-length-2 returns-2)
+    (tie.spec returns (λ c κs. search needs) (λ c κs. search needs) (λ c. search needs) (λ c. search needs) returns-2)

@@ -10,15 +10,6 @@ use Rattle.capi.proofs.bpl_report.Tie as tie
 returns : tie.Need-returns
 returns c = out-short 4 reportNumbers _ _ _ (c .if1 .taken)
 
-report-requires : tie.Need-report-requires
-report-requires c κs = search needs
-
-tell-report-requires : tie.Need-tell-report-requires
-tell-report-requires c κs = c .before .before .if1 .left
-
-same-length : tie.Need-same-length
-same-length c = search needs
-
 returns-2 : tie.Need-returns-2
 returns-2 c =
     let told = c .before .before in
@@ -27,4 +18,4 @@ returns-2 c =
 
 pub bpl-report-spec : {M : Type 1} → statement M
 bpl-report-spec =
-    tie.close (tie.spec returns report-requires tell-report-requires same-length returns-2)
+    tie.close (tie.spec returns (λ c κs. search needs) (λ c κs. search needs) (λ c. search needs) returns-2)

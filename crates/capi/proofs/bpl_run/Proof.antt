@@ -10,18 +10,6 @@ use Rattle.capi.proofs.bpl_run.Tie as tie
 returns : tie.Need-returns
 returns c = out-short 2 runNumbers _ _ _ (c .if1 .taken)
 
-run-requires : tie.Need-run-requires
-run-requires c κs = search needs
-
-tell-run-requires : tie.Need-tell-run-requires
-tell-run-requires c κs = c .before .before .before .before .before .if1 .left
-
-same-length : tie.Need-same-length
-same-length c = search needs
-
-same-length-2 : tie.Need-same-length-2
-same-length-2 c = search needs
-
 returns-2 : tie.Need-returns-2
 returns-2 c =
     let told = c .before .before in
@@ -30,4 +18,4 @@ returns-2 c =
 
 pub bpl-run-spec : {M : Type 1} → statement M
 bpl-run-spec =
-    tie.close (tie.spec returns run-requires tell-run-requires same-length same-length-2 returns-2)
+    tie.close (tie.spec returns (λ c κs. search needs) (λ c κs. search needs) (λ c. search needs) (λ c. search needs) returns-2)

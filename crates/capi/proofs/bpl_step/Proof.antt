@@ -10,18 +10,6 @@ use Rattle.capi.proofs.bpl_step.Tie as tie
 returns : tie.Need-returns
 returns c = out-short 6 stepNumbers _ _ _ (c .if1 .taken)
 
-step-requires : tie.Need-step-requires
-step-requires c κs = search needs
-
-tell-step-requires : tie.Need-tell-step-requires
-tell-step-requires c κs = c .before .before .before .before .before .if1 .left
-
-same-length : tie.Need-same-length
-same-length c = search needs
-
-same-length-2 : tie.Need-same-length-2
-same-length-2 c = search needs
-
 returns-2 : tie.Need-returns-2
 returns-2 c =
     let told = c .before .before in
@@ -31,4 +19,4 @@ returns-2 c =
 pub bpl-step-spec : {M : Type 1} → statement M
 bpl-step-spec =
     tie.close
-    (tie.spec returns step-requires tell-step-requires same-length same-length-2 returns-2)
+    (tie.spec returns (λ c κs. search needs) (λ c κs. search needs) (λ c. search needs) (λ c. search needs) returns-2)

@@ -8,15 +8,6 @@ use Rattle.plan.specs.Reading.{verdictOf}
 use Rattle.codes.proofs.tell_plan.Statement.{statement}
 use Rattle.codes.proofs.tell_plan.Tie as tie
 
-enum-known-reading : tie.Need-enum-known-reading
-enum-known-reading c = search needs
-
-code-of-requires : tie.Need-code-of-requires
-code-of-requires c κs = search needs
-
-enum-known-reading-2 : tie.Need-enum-known-reading-2
-enum-known-reading-2 c = search needs
-
 returns : tie.Need-returns
 unfolding verdictCode verdictOf
 returns c =
@@ -32,4 +23,4 @@ returns-2 c = record { code-is = λ bytes. ap (λ (r : Reading). verdictCode (ve
 
 pub tell-plan-spec : {M : Type 1} → statement M
 tell-plan-spec =
-    tie.close (tie.spec enum-known-reading code-of-requires enum-known-reading-2 returns returns-2)
+    tie.close (tie.spec (λ c. search needs) (λ c κs. search needs) (λ c. search needs) returns returns-2)

@@ -4,47 +4,28 @@ use mathlib.Core.Path.{refl}
 use borrow.Author.Needs.{needs}
 use Rattle.reads.specs.Answers.{readsOutcome}
 use Rattle.interface.specs.Interface.{oneNumber}
-use Rattle.codes.proofs.Laws.{told-refused, told-answered}
+use Rattle.codes.proofs.Laws.{told-refused, told-number}
 use Rattle.codes.proofs.tell_reads.Statement.{statement}
 use Rattle.codes.proofs.tell_reads.Tie as tie
-
-enum-known-answer : tie.Need-enum-known-answer
-enum-known-answer c = search needs
-
-code-of-requires : tie.Need-code-of-requires
-code-of-requires c κs = search needs
-
-enum-known-answer-2 : tie.Need-enum-known-answer-2
-enum-known-answer-2 c = search needs
-
-slice-aggregate-write-numbers : tie.Need-slice-aggregate-write-numbers
-slice-aggregate-write-numbers c = search needs
-
-write-numbers-requires : tie.Need-write-numbers-requires
-write-numbers-requires c κs = search needs
 
 returns : tie.Need-returns
 unfolding readsOutcome
 returns c = told-refused oneNumber readsOutcome (c .before .before .answer .given .1) (λ items. refl) (c .code-of .ensures)
 
-same-length : tie.Need-same-length
-same-length c = search needs
-
 returns-2 : tie.Need-returns-2
 unfolding readsOutcome
 returns-2 c =
-    let wrote = c .before .before in
-    told-answered oneNumber readsOutcome (wrote .before .before .before .before .answer2 .given .1) (λ items. refl) (wrote .write-numbers .ensures)
+    let told = c .before .before in
+    told-number readsOutcome (told .before .before .before .answer2 .given .1) (λ items. refl) (told .tell-number .ensures)
 
 pub tell-reads-spec : {M : Type 1} → statement M
 tell-reads-spec =
     tie.close
     (tie.spec
-    enum-known-answer
-    code-of-requires
-    enum-known-answer-2
-    slice-aggregate-write-numbers
-    write-numbers-requires
+    (λ c. search needs)
+    (λ c κs. search needs)
+    (λ c. search needs)
+    (λ c κs. search needs)
     returns
-    same-length
+    (λ c. search needs)
     returns-2)

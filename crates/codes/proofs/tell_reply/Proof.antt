@@ -8,18 +8,6 @@ use Rattle.codes.proofs.Laws.{told-answered}
 use Rattle.codes.proofs.tell_reply.Statement.{statement}
 use Rattle.codes.proofs.tell_reply.Tie as tie
 
-reply-numbers-requires : tie.Need-reply-numbers-requires
-reply-numbers-requires c κs = search needs
-
-slice-aggregate-write-numbers : tie.Need-slice-aggregate-write-numbers
-slice-aggregate-write-numbers c = search needs
-
-write-numbers-requires : tie.Need-write-numbers-requires
-write-numbers-requires c κs = search needs
-
-same-length : tie.Need-same-length
-same-length c = search needs
-
 returns : tie.Need-returns
 returns c =
     let wrote = c .before .before in
@@ -29,8 +17,8 @@ pub tell-reply-spec : {M : Type 1} → statement M
 tell-reply-spec =
     tie.close
     (tie.spec
-    reply-numbers-requires
-    slice-aggregate-write-numbers
-    write-numbers-requires
-    same-length
+    (λ c κs. search needs)
+    (λ c. search needs)
+    (λ c κs. search needs)
+    (λ c. search needs)
     returns)

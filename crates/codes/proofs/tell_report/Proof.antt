@@ -8,27 +8,9 @@ use Rattle.codes.proofs.Laws.{told-refused, told-answered}
 use Rattle.codes.proofs.tell_report.Statement.{statement}
 use Rattle.codes.proofs.tell_report.Tie as tie
 
-enum-known-answer : tie.Need-enum-known-answer
-enum-known-answer c = search needs
-
-code-of-requires : tie.Need-code-of-requires
-code-of-requires c κs = search needs
-
-enum-known-answer-2 : tie.Need-enum-known-answer-2
-enum-known-answer-2 c = search needs
-
-slice-aggregate-write-numbers : tie.Need-slice-aggregate-write-numbers
-slice-aggregate-write-numbers c = search needs
-
-write-numbers-requires : tie.Need-write-numbers-requires
-write-numbers-requires c κs = search needs
-
 returns : tie.Need-returns
 unfolding reportOutcome
 returns c = told-refused reportNumbers reportOutcome (c .before .before .answer .given .1) (λ items. refl) (c .code-of .ensures)
-
-same-length : tie.Need-same-length
-same-length c = search needs
 
 returns-2 : tie.Need-returns-2
 unfolding reportOutcome reportNumbers
@@ -40,11 +22,11 @@ pub tell-report-spec : {M : Type 1} → statement M
 tell-report-spec =
     tie.close
     (tie.spec
-    enum-known-answer
-    code-of-requires
-    enum-known-answer-2
-    slice-aggregate-write-numbers
-    write-numbers-requires
+    (λ c. search needs)
+    (λ c κs. search needs)
+    (λ c. search needs)
+    (λ c. search needs)
+    (λ c κs. search needs)
     returns
-    same-length
+    (λ c. search needs)
     returns-2)

@@ -26,7 +26,8 @@ past-mark c later = c .before .mark-refusal .ensures .code later ∙ orElse-none
 
 -- checks 4, 22 and 5
 hall-code : (c : tie.After-hall-refusal) (later : ℕ)
-    → let bytes = now (c .before .before .before .before .before .before .before .args .bytes) in
+    → let start = c .before .before .before .before .before .before .before in
+    let bytes = now (start .args .bytes) in
     check4 (racksIn bytes) (rackSizeIn bytes) (check22 (racksIn bytes) (feedsIn bytes) (check5 (capacityIn bytes) later))
     ≡ orElse (c .hall-refusal .result) later
 unfolding headerCounted
@@ -36,13 +37,15 @@ hall-code c later =
     ∙ c .hall-refusal .ensures later
 
 past-hall : (c : tie.Else2) (later : ℕ)
-    → let bytes = now (c .before .before .before .before .before .before .before .before .args .bytes) in
+    → let start = c .before .before .before .before .before .before .before .before in
+    let bytes = now (start .args .bytes) in
     check4 (racksIn bytes) (rackSizeIn bytes) (check22 (racksIn bytes) (feedsIn bytes) (check5 (capacityIn bytes) later)) ≡ later
 past-hall c later = hall-code (c .before) later ∙ orElse-none _ later (c .if2 .left)
 
 -- the blocks, and the format
 blocks-are : (c : tie.After-fields)
-    → c .fields .result .cluster .blocks ≡ countedBlocks (now (c .before .before .before .before .before .args .bytes))
+    → let start = c .before .before .before .before .before in
+    c .fields .result .cluster .blocks ≡ countedBlocks (now (start .args .bytes))
 unfolding headerCounted
 blocks-are c = ap (λ (h : Header). h .cluster .blocks) (c .fields .ensures .0)
 
@@ -108,9 +111,10 @@ returns-3 : tie.Need-returns-3
 unfolding refusal
 returns-3 c =
     let hall = c .before .before in
+    let read = hall .before .before .before in
     record {
       is =
-          past-mark (hall .before .before .before .before .before) _
+          past-mark (read .before .before) _
           ∙ past-hall hall _
           ∙ size-code (c .before) _
           ∙ orElse-some _ _ (c .if3 .taken);

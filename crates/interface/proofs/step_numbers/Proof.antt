@@ -6,21 +6,6 @@ use Rattle.interface.specs.Interface.{stepNumbers}
 use Rattle.interface.proofs.step_numbers.Statement.{statement}
 use Rattle.interface.proofs.step_numbers.Tie as tie
 
-enum-told : tie.Need-enum-told
-enum-told c = search needs
-
-enum-known-step : tie.Need-enum-known-step
-enum-known-step c = search needs
-
-enum-known-step-2 : tie.Need-enum-known-step-2
-enum-known-step-2 c = search needs
-
-enum-known-step-3 : tie.Need-enum-known-step-3
-enum-known-step-3 c = search needs
-
-enum-known-step-4 : tie.Need-enum-known-step-4
-enum-known-step-4 c = search needs
-
 returns : tie.Need-returns
 unfolding stepNumbers stepOf
 returns c = rw (c .enum-told .given .1)
@@ -45,11 +30,11 @@ pub step-numbers-spec : {M : Type 1} → statement M
 step-numbers-spec =
     tie.close
     (tie.spec
-    enum-told
-    enum-known-step
-    enum-known-step-2
-    enum-known-step-3
-    enum-known-step-4
+    (λ c. search needs)
+    (λ c. search needs)
+    (λ c. search needs)
+    (λ c. search needs)
+    (λ c. search needs)
     returns
     returns-2
     returns-3

@@ -44,7 +44,9 @@ mul-count-of : tie.Need-mul-count-of Inv-loop μ-loop
 mul-count-of c = omega arith
 
 shared-slice-read-count-of : tie.Need-shared-slice-read-count-of Inv-loop μ-loop
-shared-slice-read-count-of c = omega (arith, c .before .before .before .before .before .before .before .pre .fits .profiles-fit .room)
+shared-slice-read-count-of c =
+    let asked = c .before .before .before .before .before .before .before .pre in
+    omega (arith, asked .fits .profiles-fit .room)
 
 lay-requires : tie.Need-lay-requires Inv-loop μ-loop
 lay-requires c κs =
@@ -58,7 +60,9 @@ mul-words : tie.Need-mul-words Inv-loop μ-loop
 mul-words c = omega arith
 
 slice-write-words : tie.Need-slice-write-words Inv-loop μ-loop
-slice-write-words c = omega (arith, c .before .before .before .before .before .before .before .before .before .pre .fits .word-room)
+slice-write-words c =
+    let asked = c .before .before .before .before .before .before .before .before .before .pre in
+    omega (arith, asked .fits .word-room)
 
 add-i : tie.Need-add-i Inv-loop μ-loop
 add-i c = omega arith

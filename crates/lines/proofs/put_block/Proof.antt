@@ -31,25 +31,34 @@ slice-aggregate-put-fields c = search needs
 
 put-fields-requires : tie.Need-put-fields-requires
 put-fields-requires c κs =
-    record { room = three-room _ _ _ _ _ _ (asked (c .before .before .before .before .before .before .before)) (c .before .before .before .before .put-word .ensures); numbers-max = omega arith }
+    let word = c .before .before .before .before in
+    record { room = three-room _ _ _ _ _ _ (asked (word .before .before .before)) (word .put-word .ensures); numbers-max = omega arith }
 
 put-holders-requires : tie.Need-put-holders-requires
-put-holders-requires c κs = machines-room _ _ _ _ _ _ (asked (c .before .before .before .before .before .before .before .before .before .before .before)) (c .before .before .before .before .before .before .before .before .put-word .ensures) (c .before .before .before .put-fields .ensures)
+put-holders-requires c κs =
+    let fields = c .before .before .before in
+    let word = fields .before .before .before .before .before in
+    machines-room _ _ _ _ _ _ (asked (word .before .before .before)) (word .put-word .ensures) (fields .put-fields .ensures)
 
 put-byte-requires : tie.Need-put-byte-requires
 put-byte-requires c κs =
-    block-end _ _ _ _ _ _ (asked (c .before .before .before .before .before .before .before .before .before .before .before .before .before .before .before)) (c .before .before .before .before .before .before .before .before .before .before .before .before .put-word .ensures) (c .before .before .before .before .before .before .before .put-fields .ensures) (c .before .before .before .put-holders .ensures)
+    let holders = c .before .before .before in
+    let fields = holders .before .before .before .before in
+    let word = fields .before .before .before .before .before in
+    block-end _ _ _ _ _ _ (asked (word .before .before .before)) (word .put-word .ensures) (fields .put-fields .ensures) (holders .put-holders .ensures)
 
 same-length : tie.Need-same-length
 same-length c = search needs
 
 returns : tie.Need-returns
 returns c =
-    let share = c .before .before .before .before .before .before .before .before .before .before .before .before .before .before .before .before .before .before in
+    let byte = c .before .before in
+    let holders = byte .before .before .before .before in
+    let fields = holders .before .before .before .before in
+    let word = fields .before .before .before .before .before in
+    let share = word .before .before .before in
     rw (← (share .before .count-of .ensures), ← (share .share-of .ensures))
-    (block-put _ _ _ _ _ _ (asked share) (c .before .before .before .before .before .before .before .before .before .before .before .before .before .before .before .put-word .ensures)
-    (c .before .before .before .before .before .before .before .before .before .before .put-fields .ensures)
-    (c .before .before .before .before .before .before .put-holders .ensures) (c .before .before .put-byte .ensures))
+    (block-put _ _ _ _ _ _ (asked share) (word .put-word .ensures) (fields .put-fields .ensures) (holders .put-holders .ensures) (byte .put-byte .ensures))
 
 pub put-block-spec : {M : Type 1} → statement M
 put-block-spec =

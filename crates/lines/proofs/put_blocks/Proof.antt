@@ -23,20 +23,31 @@ loop-holds : tie.Need-loop-holds Inv-loop μ-loop
 loop-holds c = (omega arith, refl, rw (joined-zero _) (put-none _ _))
 
 mul-put-block : tie.Need-mul-put-block Inv-loop μ-loop
-mul-put-block c = omega (arith, c .before .before .before .before .before .before .before .pre .fits .profiles-fit .in-range .blocks-max)
+mul-put-block c =
+    let start = c .before .before .before .before .before .before .before in
+    omega (arith, start .pre .fits .profiles-fit .in-range .blocks-max)
 
 shared-slice-read-put-block : tie.Need-shared-slice-read-put-block Inv-loop μ-loop
-shared-slice-read-put-block c = omega (arith, c .before .before .before .before .before .before .before .before .pre .fits .profiles-fit .room)
+shared-slice-read-put-block c =
+    let start = c .before .before .before .before .before .before .before .before in
+    omega (arith, start .pre .fits .profiles-fit .room)
 
 mul-put-block-2 : tie.Need-mul-put-block-2 Inv-loop μ-loop
-mul-put-block-2 c = omega (arith, c .before .before .before .before .before .before .before .before .pre .fits .profiles-fit .in-range .blocks-max)
+mul-put-block-2 c =
+    let start = c .before .before .before .before .before .before .before .before in
+    omega (arith, start .pre .fits .profiles-fit .in-range .blocks-max)
 
 shared-slice-read-put-block-2 : tie.Need-shared-slice-read-put-block-2 Inv-loop μ-loop
-shared-slice-read-put-block-2 c = omega (arith, c .before .before .before .before .before .before .before .before .before .pre .fits .word-room)
+shared-slice-read-put-block-2 c =
+    let start = c .before .before .before .before .before .before .before .before .before in
+    omega (arith, start .pre .fits .word-room)
 
 put-block-requires : tie.Need-put-block-requires Inv-loop μ-loop
 unfolding rowAt
-put-block-requires c κs = joined-room _ _ _ _ _ (c .before .before .before .before .before .before .before .before .before .pre .room) (c .before .before .before .if1 .taken) (c .before .before .before .before .before .loop .inv .2)
+put-block-requires c κs =
+    let inside = c .before .before .before in
+    let at = inside .before .before in
+    joined-room _ _ _ _ _ (at .before .before .before .before .pre .room) (inside .if1 .taken) (at .loop .inv .2)
 
 add-i : tie.Need-add-i Inv-loop μ-loop
 add-i c = omega arith
@@ -47,11 +58,14 @@ loop-less c = omega arith
 loop-again : tie.Need-loop-again Inv-loop μ-loop
 unfolding rowAt
 loop-again c =
-    let inv = c .before .before .before .before .before .before .before .before .loop .inv in
-    let put = c .before .before .put-block in (
+    let call = c .before .before in
+    let inside = call .before .before .before .before in
+    let at = inside .before .before in
+    let inv = at .loop .inv in
+    let put = call .put-block in (
       omega arith,
       put .kept .0 ∙ inv .1,
-      joined-put _ _ _ _ _ (c .before .before .before .before .before .before .before .before .before .before .before .before .pre .room) (c .before .before .before .before .before .before .if1 .taken) (inv .2) (put .ensures),
+      joined-put _ _ _ _ _ (at .before .before .before .before .pre .room) (inside .if1 .taken) (inv .2) (put .ensures),
     )
 
 same-length : tie.Need-same-length Inv-loop μ-loop
@@ -60,7 +74,7 @@ same-length c = c .before .before .loop .inv .1
 returns : tie.Need-returns Inv-loop μ-loop
 returns c =
     let at = c .before .before in
-    let all : at .loop .i ≡ c .before .before .before .before .before .before .args .cluster .blocks = omega arith in
+    let all : at .loop .i ≡ at .before .before .before .before .args .cluster .blocks = omega arith in
     rw all at (at .loop .inv .2)
 
 pub put-blocks-spec : {M : Type 1} → statement M

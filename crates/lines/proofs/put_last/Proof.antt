@@ -16,13 +16,19 @@ slice-aggregate-put-line-2 : tie.Need-slice-aggregate-put-line-2
 slice-aggregate-put-line-2 c = search needs
 
 put-line-requires : tie.Need-put-line-requires
-put-line-requires c κs = record { room = end-room _ _ _ (c .before .before .before .if1 .taken) (c .before .before .before .before .before .before .before .before .pre); numbers-max = omega arith }
+put-line-requires c κs =
+    let arm = c .before .before .before in
+    let start = arm .before .before .before .before .before in
+    record { room = end-room _ _ _ (arm .if1 .taken) (start .pre); numbers-max = omega arith }
 
 same-length : tie.Need-same-length
 same-length c = search needs
 
 returns : tie.Need-returns
-returns c = end-put _ _ _ (c .before .before .before .before .before .before .if1 .taken) (c .before .before .put-line .ensures)
+returns c =
+    let put = c .before .before in
+    let arm = put .before .before .before .before in
+    end-put _ _ _ (arm .if1 .taken) (put .put-line .ensures)
 
 slice-aggregate-put-line-3 : tie.Need-slice-aggregate-put-line-3
 slice-aggregate-put-line-3 c = search needs
@@ -31,13 +37,19 @@ slice-aggregate-put-line-4 : tie.Need-slice-aggregate-put-line-4
 slice-aggregate-put-line-4 c = search needs
 
 put-line-requires-2 : tie.Need-put-line-requires-2
-put-line-requires-2 c κs = record { room = end-room _ _ _ (c .before .before .before .if1 .left) (c .before .before .before .before .before .before .before .before .pre); numbers-max = omega arith }
+put-line-requires-2 c κs =
+    let arm = c .before .before .before in
+    let start = arm .before .before .before .before .before in
+    record { room = end-room _ _ _ (arm .if1 .left) (start .pre); numbers-max = omega arith }
 
 same-length-2 : tie.Need-same-length-2
 same-length-2 c = search needs
 
 returns-2 : tie.Need-returns-2
-returns-2 c = end-put _ _ _ (c .before .before .before .before .before .before .if1 .left) (c .before .before .put-line2 .ensures)
+returns-2 c =
+    let put = c .before .before in
+    let arm = put .before .before .before .before in
+    end-put _ _ _ (arm .if1 .left) (put .put-line2 .ensures)
 
 pub put-last-spec : {M : Type 1} → statement M
 put-last-spec =

@@ -13,27 +13,35 @@ slice-aggregate-put-line-2 : tie.Need-slice-aggregate-put-line-2
 slice-aggregate-put-line-2 c = search needs
 
 put-line-requires : tie.Need-put-line-requires
-put-line-requires c κs = record { room = room-first _ _ _ _ (room-first _ _ _ _ (c .before .before .before .before .before .before .pre .room)); numbers-max = omega arith }
+put-line-requires c κs =
+    let pre = c .before .before .before .before .before .before .pre in
+    record { room = room-first _ _ _ _ (room-first _ _ _ _ (pre .room)); numbers-max = omega arith }
 
 put-blocks-requires : tie.Need-put-blocks-requires
 put-blocks-requires c κs =
-    let pre = c .before .before .before .before .before .before .before .before .before .before .pre in
-    record { fits = pre .fits; room = room-next _ _ _ _ (room-first _ _ _ _ (pre .room)) _ _ (c .before .before .before .put-line .ensures) }
+    let line = c .before .before .before in
+    let pre = line .before .before .before .before .before .before .before .pre in
+    record { fits = pre .fits; room = room-next _ _ _ _ (room-first _ _ _ _ (pre .room)) _ _ (line .put-line .ensures) }
 
 put-last-requires : tie.Need-put-last-requires
 put-last-requires c κs =
-    let pre = c .before .before .before .before .before .before .before .before .before .before .before .before .before .before .pre in
-    room-next _ _ _ _ (pre .room) _ _ (put-then _ _ _ _ (room-first _ _ _ _ (pre .room)) _ _ _ _ (c .before .before .before .before .before .before .before .put-line .ensures) (c .before .before .before .put-blocks .ensures))
+    let blocks = c .before .before .before in
+    let line = blocks .before .before .before .before in
+    let pre = line .before .before .before .before .before .before .before .pre in
+    room-next _ _ _ _ (pre .room) _ _ (put-then _ _ _ _ (room-first _ _ _ _ (pre .room)) _ _ _ _ (line .put-line .ensures) (blocks .put-blocks .ensures))
 
 same-length : tie.Need-same-length
 same-length c = search needs
 
 returns : tie.Need-returns
 returns c =
-    let pre = c .before .before .before .before .before .before .before .before .before .before .before .before .before .before .before .before .before .pre in
+    let last = c .before .before in
+    let blocks = last .before .before .before .before in
+    let line = blocks .before .before .before .before in
+    let pre = line .before .before .before .before .before .before .before .pre in
     put-then _ _ _ _ (pre .room) _ _ _ _
-    (put-then _ _ _ _ (room-first _ _ _ _ (pre .room)) _ _ _ _ (c .before .before .before .before .before .before .before .before .before .before .put-line .ensures) (c .before .before .before .before .before .before .put-blocks .ensures))
-    (c .before .before .put-last .ensures)
+    (put-then _ _ _ _ (room-first _ _ _ _ (pre .room)) _ _ _ _ (line .put-line .ensures) (blocks .put-blocks .ensures))
+    (last .put-last .ensures)
 
 pub put-lines-spec : {M : Type 1} → statement M
 put-lines-spec =

@@ -53,16 +53,16 @@ mul-over : tie.Need-mul-over
 mul-over c = omega (arith, c .before .before .before .before .pre .0 .over-max)
 
 mul-over-2 : tie.Need-mul-over-2
-mul-over-2 c = omega (arith, over-max _ (c .before .before .before .before .before .pre))
+mul-over-2 c = let asked = c .before .before .before .before .before .pre in omega (arith, over-max _ asked)
 
 mul-both : tie.Need-mul-both
-mul-both c = omega (arith, c .before .before .before .before .before .before .pre .0 .spare-max)
+mul-both c = let asked = c .before .before .before .before .before .before .pre in omega (arith, asked .0 .spare-max)
 
 add-both : tie.Need-add-both
-add-both c = omega (arith, c .before .before .before .before .before .before .pre .0 .spare-max)
+add-both c = let asked = c .before .before .before .before .before .before .pre in omega (arith, asked .0 .spare-max)
 
 mul-both-2 : tie.Need-mul-both-2
-mul-both-2 c = omega (arith, spare-max _ (c .before .before .before .before .before .before .before .pre))
+mul-both-2 c = let asked = c .before .before .before .before .before .before .before .pre in omega (arith, spare-max _ asked)
 
 add-both-2 : tie.Need-add-both-2
 add-both-2 c = let asked = c .before .before .before .before .before .before .before .pre in omega (arith, over-max _ asked, spare-max _ asked)
@@ -80,7 +80,9 @@ add-result-2 : tie.Need-add-result-2
 add-result-2 c = let asked = c .before .before .before .before .before .before .before .before .pre in omega (arith, way-max _ asked)
 
 returns-2 : tie.Need-returns-2
-returns-2 c = let way = way-max _ (c .before .before .before .before .before .before .before .before .pre) in (omega arith, omega arith)
+returns-2 c =
+    let asked = c .before .before .before .before .before .before .before .before .pre in
+    let way = way-max _ asked in (omega arith, omega arith)
 
 pub probe-spec : {M : Type 1} → statement M
 probe-spec =
