@@ -79,7 +79,7 @@ module _ (bytes : List ℕ) where
       let other = refuseIf-all (λ n. n ≡ 11 → ⊥) (leb 4 (p .version) && ltb (places p) (p .budget)) 23 _ (λ h. omega (arith, h)) (refuseIf-all (λ n. n ≡ 11 → ⊥) (ltb (p .budget) (minTotal p)) 10 0 (λ h. omega (arith, h)) (λ h. omega (arith, h))) in
       other (sym is ∙ e)
 
-pub budgets : (bytes : List ℕ) → Budgets bytes
+pub budgets : Budgets
 unfolding copyLimit
 budgets bytes =
     record {
