@@ -9,6 +9,7 @@ pub mod Bounds
 pub mod Agreement
 pub mod Claim
 pub mod ClaimCases
+pub mod EveryList
 pub mod Histories
 pub mod Trials
 pub mod RowExamples
