@@ -8,7 +8,7 @@ use lib.Dec.{leb, ltb, eqb}
 use lib.ListN.{length}
 use Rattle.model.specs.Plan.{Plan, places, minTotal, commonLength, latestVersion, markIn, versionIn, racksIn, rackSizeIn, feedsIn, capacityIn, blockCountIn, formatIn, headerLength, recordAt, planIn}
 use Rattle.model.specs.Refusal.{refuseIf, orElse, mark, maxMachines, maxCapacity, maxBlocks, blocksRefusal, pairsRefusal, check1, check2, check3, check4, check22, check5, check6, check7, check23, check10, check11, planRefusal, refusal, verdict, judge}
-use Rattle.model.specs.Calls.{Outcome, unless, onPlan, placementRefusal, onPlacement}
+use Rattle.model.specs.Calls.{unless, onPlan, placementRefusal, onPlacement}
 use Rattle.model.specs.Checks.{checks}
 use Rattle.theory.proofs.Refusal.{verdict-accepted, accepted-laws}
 use Rattle.theory.proofs.Placement.{feasible-length}
