@@ -12,7 +12,7 @@ use Rattle.model.specs.Steps.{AtRest}
 use Rattle.theory.specs.Refusal.{Shaped}
 use Rattle.theory.proofs.Plan.{partner-below}
 use Rattle.theorems.specs.Bounds.{Settled}
-use Rattle.theorems.proofs.Settled.{rest-settled, settled-rest}
+use Rattle.theorems.proofs.Settled.{rest-settled}
 
 abbrev pub Agree : Plan → List ℕ → List ℕ → Type 0
 Agree p v w = (i : ℕ) → i < blockCount p → wordOf v i ≡ wordOf w i
@@ -62,4 +62,4 @@ module _ (p : Plan) (shaped : Shaped p) (v w : List ℕ) (same : Agree p v w) wh
 
   pub agree-rest : (count : ℕ → ℕ) → Feasible p count v → AtRest p v → AtRest p w
   agree-rest count f rest =
-      settled-rest p shaped count w (agree-feasible count f) (agree-settled 0 (rest-settled p shaped count v f rest))
+      rest-settled p shaped count w (agree-feasible count f) .1 (agree-settled 0 (rest-settled p shaped count v f .0 rest))
