@@ -1,6 +1,6 @@
--- Demand 3: the claim about a list of calls (`Claim` in model/specs/Claims.antt), from the first placement, for which lists it is sure to
--- hold, and its bounds at rest written out. X is the hottest load after the list, Y that of any lawful placement at any lawful counts, s the largest share after
--- the list.
+-- Demand 3: the claim about a list of calls (`Claim` in model/specs/Claims.antt), from the first placement, the lists that it is sure to be
+-- about, and its bounds at rest written out. X is the hottest load after the list, Y that of any lawful placement at any lawful counts, s the
+-- largest share after the list.
 use mathlib.Core.Path.{_≡_}
 use mathlib.Core.List.{List, [], _∷_}
 use mathlib.Core.Logic.{_⊎_}
