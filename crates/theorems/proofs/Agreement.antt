@@ -12,25 +12,25 @@ use Rattle.model.specs.Steps.{AtRest}
 use Rattle.theory.specs.Refusal.{Shaped}
 use Rattle.theory.proofs.Plan.{partner-below}
 use Rattle.theorems.specs.Bounds.{Settled}
-use Rattle.theorems.proofs.Settled.{rest-settled, settled-rest}
+use Rattle.theorems.proofs.Settled.{rest-settled}
 
 abbrev pub Agree : Plan → List ℕ → List ℕ → Type 0
 Agree p v w = (i : ℕ) → i < blockCount p → wordOf v i ≡ wordOf w i
 
 module _ (p : Plan) (shaped : Shaped p) (v w : List ℕ) (same : Agree p v w) where
-  agree-share : (i : ℕ) → i < blockCount p → shareOf p v i ≡ shareOf p w i
+  pub agree-share : (i : ℕ) → i < blockCount p → shareOf p v i ≡ shareOf p w i
   unfolding shareOf
   agree-share i l = ap (λ (x : ℕ). share (blockOf p i .popularity) (replicas p x)) (same i l)
 
-  agree-used : (m : ℕ) → used p v m ≡ used p w m
+  pub agree-used : (m : ℕ) → used p v m ≡ used p w m
   unfolding used
   agree-used m = sum-cong (blockCount p) _ _ (λ i l. ap (λ (x : ℕ). bit x m) (same i l))
 
-  agree-load : (m : ℕ) → load p v m ≡ load p w m
+  pub agree-load : (m : ℕ) → load p v m ≡ load p w m
   unfolding load
   agree-load m = sum-cong (blockCount p) _ _ (λ i l. ap₂ _*_ (ap (λ (x : ℕ). bit x m) (same i l)) (agree-share i l))
 
-  agree-partner : (i : ℕ) → i < blockCount p → isPaired p i ≡ true → wordOf v (partner p i) ≡ wordOf w (partner p i)
+  pub agree-partner : (i : ℕ) → i < blockCount p → isPaired p i ≡ true → wordOf v (partner p i) ≡ wordOf w (partner p i)
   agree-partner i l paired = same (partner p i) (partner-below p shaped i l paired)
 
   pub agree-feasible : (count : ℕ → ℕ) → Feasible p count v → Feasible p count w
@@ -62,4 +62,4 @@ module _ (p : Plan) (shaped : Shaped p) (v w : List ℕ) (same : Agree p v w) wh
 
   pub agree-rest : (count : ℕ → ℕ) → Feasible p count v → AtRest p v → AtRest p w
   agree-rest count f rest =
-      settled-rest p shaped count w (agree-feasible count f) (agree-settled 0 (rest-settled p shaped count v f rest))
+      rest-settled p shaped count w (agree-feasible count f) .1 (agree-settled 0 (rest-settled p shaped count v f .0 rest))

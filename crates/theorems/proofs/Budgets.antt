@@ -14,13 +14,13 @@ use Rattle.order.specs.Sum.{sum}
 use Rattle.order.specs.Table.{table, filled}
 use Rattle.order.specs.Search.{firstUp, least, allb, largest}
 use Rattle.model.specs.Plan.{Plan, places, minTotal, maxReplicas, upper, isPaired, pairsBack, pairsNext, field, formatOf, blockIn, versionIn, planIn}
-use Rattle.model.specs.Refusal.{check1, check2, check3, check4, check22, check5, check6, check7, check8, check9, alike, check17, check23, check10, check11, check12, blockRefusal, blocksRefusal, pairRefusal, pairsRefusal, planRefusal, refusal, accepted, judge}
+use Rattle.model.specs.Refusal.{check1, check2, check3, check4, check22, check5, check6, check7, check8, check9, alike, check17, check23, check10, check11, check12, blockRefusal, blocksRefusal, pairRefusal, pairsRefusal, planRefusal, refusal, judge}
 use Rattle.model.specs.Replication.{copyLimit, share, largestShare, need, reachable, figure, chosen}
 use Rattle.model.specs.Calls.{unless, onPlan, countsCall}
 use Rattle.theory.specs.Refusal.{PastRow17}
 use Rattle.theory.proofs.Refusal.{refuseIf-all, check23-above, check23-early, check23-usable, totalRefusal, refusal-shaped, refusal-budget, accepted-laws}
 use Rattle.theorems.specs.Exact.{Infeasible}
-use Rattle.theorems.specs.Budgets.{ElevenIdle, Budgets, plan-whole, wide-whole, budgeted, wide-budgeted, crowded, wide-crowded, BudgetExamples}
+use Rattle.theorems.specs.Budgets.{ElevenIdle, Budgets, plan-whole, wide-whole, wide-budgeted, BudgetExamples}
 use Rattle.theorems.proofs.Exact.{total-cases, shaped-feasible}
 use Rattle.theorems.proofs.Trials.{figure-of}
 
@@ -79,7 +79,7 @@ module _ (bytes : List ℕ) where
       let other = refuseIf-all (λ n. n ≡ 11 → ⊥) (leb 4 (p .version) && ltb (places p) (p .budget)) 23 _ (λ h. omega (arith, h)) (refuseIf-all (λ n. n ≡ 11 → ⊥) (ltb (p .budget) (minTotal p)) 10 0 (λ h. omega (arith, h)) (λ h. omega (arith, h))) in
       other (sym is ∙ e)
 
-pub budgets : (bytes : List ℕ) → Budgets bytes
+pub budgets : Budgets
 unfolding copyLimit
 budgets bytes =
     record {

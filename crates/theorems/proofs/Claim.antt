@@ -32,7 +32,7 @@ rest-bounded : (p : Plan) → Valid p → (words : List ℕ) → Feasible p (cho
 rest-bounded p valid words f rest =
     let count = chosen p in
     let even = chosen-counts p valid .even in
-    let settled = rest-settled p (valid .shaped) count words f rest in
+    let settled = rest-settled p (valid .shaped) count words f .0 rest in
     record {
       one-spread = λ count' other f' one.
           rw (add-zero (maxShare p words)) at (one-spread p words other count count' 0 valid f even settled f' one);

@@ -139,7 +139,7 @@ counted-time (e ∷ later) all close =
 
 -- What holds between two calls.
 record Kept (list reads : List Entry) (log : Log) : Type 0 where
-  length-is : length (log .list) ≡ length list
+  length-same : length (log .list) ≡ length list
   count-max : log .count ≤ usable (length list)
   beyond : drop (usable (length list)) (log .list) ≡ drop (usable (length list)) list
   entries-are : entriesIn (log .list) (log .count) ≡ stillCounted reads
@@ -157,10 +157,10 @@ kept-read list reads log block tick p kept fits passed =
     let size : length entries ≡ length (current tick (entriesIn (log .list) (log .count))) + 1 = noted-length in
     let room : length entries ≤ usable (length (log .list)) = omega (arith, size, passed .room) in
     record {
-      length-is = relisted-length entries (log .list) room ∙ kept .length-is;
-      count-max = subst (λ (n : ℕ). length entries ≤ usable n) (kept .length-is) room;
+      length-same = relisted-length entries (log .list) room ∙ kept .length-same;
+      count-max = subst (λ (n : ℕ). length entries ≤ usable n) (kept .length-same) room;
       beyond =
-          subst (λ (n : ℕ). drop (usable n) (relisted entries (log .list)) ≡ drop (usable n) (log .list)) (kept .length-is)
+          subst (λ (n : ℕ). drop (usable n) (relisted entries (log .list)) ≡ drop (usable n) (log .list)) (kept .length-same)
           (relisted-beyond entries (log .list) room)
           ∙ kept .beyond;
       entries-are =
@@ -231,7 +231,7 @@ kept-empty : (list : List Entry) → Kept list [] (emptyLog list)
 unfolding stillCounted Successive Ticked
 kept-empty list =
     record {
-      length-is = refl;
+      length-same = refl;
       count-max = omega arith;
       beyond = refl;
       entries-are = let none : min 0 (usable (length list)) ≡ 0 = omega arith in ap (λ (n : ℕ). take n list) none;
@@ -254,6 +254,7 @@ reads-claim list calls all =
     let kept = kept-calls list [] calls (emptyLog list) (kept-empty list) all in
     let in-time = kept .entries-are ∙ counted-time _ (kept .ticked) (kept .close) in
     record {
+      length-same = kept .length-same;
       count-max = kept .count-max;
       beyond = kept .beyond;
       entries-are = kept .entries-are;

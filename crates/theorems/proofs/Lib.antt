@@ -9,12 +9,14 @@ pub mod Bounds
 pub mod Agreement
 pub mod Claim
 pub mod ClaimCases
+pub mod EveryList
 pub mod Histories
 pub mod Trials
 pub mod RowExamples
 pub mod Feeds
 pub mod Budgets
 pub mod Checks
+pub mod Unread
 pub mod ReadExamples
 pub mod Versions
 pub mod Ties

@@ -12,11 +12,11 @@ use Rattle.theory.specs.Refusal.{Shaped}
 use Rattle.theory.specs.Steps.{Admissible}
 use Rattle.theory.proofs.StepsLocal.{canMove-local, canSwap-local}
 use Rattle.theory.proofs.StepsNext.{next-steps}
-use Rattle.theorems.specs.Bounds.{Settled}
+use Rattle.theorems.specs.Bounds.{Settled, RestSettled}
 
 module _ (p : Plan) (shaped : Shaped p) (count : ℕ → ℕ) (words : List ℕ) (feasible : Feasible p count words) where
-  pub rest-settled : AtRest p words → Settled p words 0
-  rest-settled rest =
+  settled-at-rest : AtRest p words → Settled p words 0
+  settled-at-rest rest =
       record {
         no-move = λ m n i ml nl il on off room positive spread apart.
             no-gap (load p words m) (load p words n + shareOf p words i) (λ lower.
@@ -57,8 +57,8 @@ module _ (p : Plan) (shaped : Shaped p) (count : ℕ → ℕ) (words : List ℕ)
       no-gap : (a b : ℕ) → (b < a → ⊥) → a ≤ b + 0
       no-gap a b h = elim (decLt b a) [ yes l ↦ absurd (h l) | no l ↦ omega arith ]
 
-  pub settled-rest : Settled p words 0 → AtRest p words
-  settled-rest settled = next-steps p words .rest .1 none-left
+  rest-of-settled : Settled p words 0 → AtRest p words
+  rest-of-settled settled = next-steps p words .rest .1 none-left
     where
       none-left : (s : Step) → Admissible p words s → ⊥
       none-left none h = h
@@ -73,3 +73,7 @@ module _ (p : Plan) (shaped : Shaped p) (count : ℕ → ℕ) (words : List ℕ)
             settled .no-swap m n i j ml nl il jl (s .i-on) (s .i-off) (s .j-on) (s .j-off) (s .lowers .0) (s .i-spread) (s .j-spread)
                 (s .i-apart) (s .j-apart),
           )
+
+pub rest-settled : RestSettled
+rest-settled p shaped count words feasible =
+    (settled-at-rest p shaped count words feasible, rest-of-settled p shaped count words feasible)

@@ -18,7 +18,8 @@ use Rattle.model.specs.Refusal.{refuseIf, orElse, mark, maxMachines, maxCapacit
 use Rattle.model.specs.Replication.{copyLimit, largestShare, need, reachable, figure, chosen}
 use Rattle.model.specs.Placement.{countOf, replicas, replicasIn, domainsUsed, used, allWithin, allSpread, allFit, keptApart, allApart, countsFeasible, isFeasible, position, laidWord, firstWord, firstPlacement, shareOf, load, maxLoad, minLoad, totalLoad, maxShare}
 use Rattle.model.specs.Steps.{after, improves, canMove, canSwap, routes, nextMove, nextSwap, nextStep, run}
-use Rattle.model.specs.Calls.{Outcome, onPlan, bufferRefusal, allCounted, placementRefusal, onPlacement, reportOf, countsCall, firstCall, checkCall, reportCall, stepCall, runCall}
+use Rattle.model.specs.Calls.{OutcomeOver, onPlan, bufferRefusal, allCounted, placementRefusal, onPlacement, reportOf, countsCall, firstCall, checkCall, reportCall, stepCall, runCall}
+use Rattle.model.specs.ReadLog.{check19, readRefusal, readCall, popularityOf, popularityCall}
 use Rattle.model.specs.Listing.{planLine, blockLine, lastLine, listingOf, printedOf, printed}
 use Rattle.model.specs.Conversion.{withVersion}
 use Rattle.theory.specs.Refusal.{PastRow23}
@@ -104,8 +105,8 @@ module _ (version : ℕ) (p : Plan) (same : SameUpper (p .version) version (mach
   unfolding placementRefusal allWithin allSpread allFit allApart keptApart partner replicas replicasIn domainsUsed used isPaired pairsBack pairsNext
   placementRefusal-free words = rw (allCounted-free words)
 
-pub version-free : VersionsFree
-version-free version p same =
+pub versions-free : VersionsFree
+versions-free version p same =
     record {
       counts = chosen-free version p same;
       first = first-free version p same;
@@ -209,7 +210,7 @@ module _ (from to : ℕ) (read-from : Described from) (read-to : Described to) (
 
 -- ── Versions ─────────────────────────────────────────────────────────────────────────────────────
 -- a call whose own rows and answer do not go by the version of the plan that is accepted
-calls-free : {A : Type 0} (version : ℕ) (v : Verdict) (items : List ℕ) (rows : Plan → ℕ) (call : Plan → Outcome A)
+calls-free : {I A : Type 0} (version : ℕ) (v : Verdict) (items : List I) (rows : Plan → ℕ) (call : Plan → OutcomeOver I A)
     → ((p : Plan) → v ≡ accepted p → rows (withVersion version p) ≡ rows p)
     → ((p : Plan) → v ≡ accepted p → call (withVersion version p) ≡ call p)
     → onPlan (verdictWith version v) items rows call ≡ onPlan v items rows call
@@ -233,7 +234,7 @@ module _ (to : ℕ) (old new : List ℕ) (e : judge new ≡ verdictWith to (judg
       go (accepted p) l = listing-free to p (l p refl) limit
 
   pub same-answers : SameAnswers to old new
-  unfolding countsCall firstCall checkCall reportCall stepCall runCall onPlacement reportOf maxLoad minLoad totalLoad maxShare largestShare shareOf load replicas
+  unfolding countsCall firstCall checkCall reportCall stepCall runCall onPlacement reportOf maxLoad minLoad totalLoad maxShare largestShare shareOf load replicas readCall popularityCall readRefusal popularityOf isPaired pairsBack pairsNext partner
   same-answers =
       record {
         verdict = e;
@@ -253,6 +254,10 @@ module _ (to : ℕ) (old new : List ℕ) (e : judge new ≡ verdictWith to (judg
             rw e
             (calls-free to (judge old) words (placementRefusal words) _ (rows-same words)
             (λ p a. rw (run-free to p (upper-same p a) limit words)));
+        read = λ block tick list count.
+            rw e (calls-free to (judge old) list (readRefusal block tick list count) _ (λ p a. refl) (λ p a. refl));
+        popularity = λ block list count.
+            rw e (calls-free to (judge old) list (λ p. check19 block (blockCount p) 0) _ (λ p a. refl) (λ p a. refl));
         listing = printed-same;
       }
 

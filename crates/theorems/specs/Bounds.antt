@@ -1,13 +1,14 @@
 -- Document 01, "Steps and rest": the bound at rest, on the largest load of a settled placement against that of any feasible placement
--- of the same plan. A placement at rest is settled with slack 0.
+-- of the same plan.
 use mathlib.Core.Path.{_≡_}
 use mathlib.Core.Bool.{true}
 use mathlib.Core.List.{List}
+use mathlib.Core.Logic.{_↔_}
 use Prim.Native.Nat.{ℕ, _+_, _*_, _-_, _<_, _≤_}
 use Rattle.model.specs.Plan.{Plan, machines, blockCount, blockOf, isPaired, partner}
 use Rattle.model.specs.Placement.{wordOf, held, domainsUsed, used, Feasible, shareOf, load, maxLoad, maxShare}
-use Rattle.model.specs.Steps.{shifted}
-use Rattle.theory.specs.Refusal.{Valid}
+use Rattle.model.specs.Steps.{shifted, AtRest}
+use Rattle.theory.specs.Refusal.{Shaped, Valid}
 use Rattle.theory.specs.Replication.{EvenPairs}
 
 -- No transfer that the spreads and pairs allow lowers the higher load by more than the slack.
@@ -26,6 +27,11 @@ pub record Settled (p : Plan) (words : List ℕ) (slack : ℕ) : Type 0 where
       → (isPaired p i ≡ true → (partner p i ≡ j → ⊥) → held words n (partner p i) ≡ 0)
       → (isPaired p j ≡ true → (partner p j ≡ i → ⊥) → held words m (partner p j) ≡ 0)
       → load p words m + shareOf p words j ≤ load p words n + shareOf p words i + slack
+
+-- A lawful placement is at rest exactly if it is settled with slack 0.
+abbrev pub RestSettled : Type 0
+RestSettled =
+    (p : Plan) → Shaped p → (count : ℕ → ℕ) (words : List ℕ) → Feasible p count words → AtRest p words ↔ Settled p words 0
 
 -- Where every spread is one, and the two blocks of a pair have as many copies, as at the chosen counts; the other placement's need not.
 abbrev pub OneSpread : Type 0

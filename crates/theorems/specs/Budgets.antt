@@ -19,7 +19,8 @@ ElevenIdle =
     → check23 version room budget (check10 budget total (check11 room total later))
     ≡ check23 version room budget (check10 budget total later)
 
-pub record Budgets (bytes : List ℕ) : Type 0 where
+-- What 23 says of the plan that the bytes hold, and what it leaves of an accepted one.
+pub record BudgetLaws (bytes : List ℕ) : Type 0 where
   -- past 17, 23 is given exactly for a version 4 budget above M × C: earlier versions are still read
   pub row23-exact : PastRow17 (refusal bytes) → (refusal bytes ≡ 23) ↔ ((4 ≤ versionIn bytes) × (places (planIn bytes) < planIn bytes .budget))
   -- it does not mean that no lawful placement exists: one does where M × C has room for the least copies
@@ -28,6 +29,9 @@ pub record Budgets (bytes : List ℕ) : Type 0 where
   pub never-eleven : 4 ≤ versionIn bytes → refusal bytes ≡ 11 → ⊥
   -- an accepted version 4 plan may use its whole budget
   pub whole : (p : Plan) → judge bytes ≡ accepted p → 4 ≤ p .version → copyLimit p ≡ p .budget
+
+abbrev pub Budgets : Type 0
+Budgets = (bytes : List ℕ) → BudgetLaws bytes
 
 -- R 2, S 1, F 2, C 1, budget 2; P 4 and 1, least copies and spread 1. The budget is at 10 to 13, the least copies are at 20 and 27, the
 -- pair bytes at 22 and 29; and the same in version 3, with the budget at 9 to 12 and the least copies at 19 and 26.

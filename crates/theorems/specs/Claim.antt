@@ -1,11 +1,12 @@
--- Demand 3: the claim about a list of calls (`Claim` in model/specs/Claims.antt), from the first placement, and its bounds at rest
--- written out. X is the hottest load after the list, Y that of any lawful placement at any lawful counts, s the largest share after
--- the list.
+-- Demand 3: the claim about a list of calls (`Claim` in model/specs/Claims.antt), from the first placement, the lists that it is sure to be
+-- about, and its bounds at rest written out. X is the hottest load after the list, Y that of any lawful placement at any lawful counts, s the
+-- largest share after the list.
 use mathlib.Core.Path.{_≡_}
-use mathlib.Core.List.{List}
+use mathlib.Core.List.{List, [], _∷_}
+use mathlib.Core.Logic.{_⊎_}
 use Prim.Native.Nat.{ℕ, _+_, _*_, _-_, _<_, _≤_}
 use Rattle.model.specs.Plan.{Plan, machines, blockCount, blockOf}
-use Rattle.model.specs.Refusal.{judge, accepted}
+use Rattle.model.specs.Refusal.{judge, refused, accepted}
 use Rattle.model.specs.Replication.{chosen}
 use Rattle.model.specs.Placement.{Feasible, used, maxLoad, maxShare}
 use Rattle.model.specs.Steps.{AtRest}
@@ -19,6 +20,18 @@ FirstClaim =
     → (p : Plan) × (judge bytes ≡ accepted p)
     × ((calls : List Call) → Allowed bytes (blockCount p) calls (firstCall bytes lent .items)
     → After p (firstCall bytes lent .items) (play checked calls (firstCall bytes lent .items)))
+
+-- Every call of the list gets the plan's own bytes, or bytes that are refused as a plan.
+unfoldable pub OwnOrRefused : List ℕ → List Call → Type 0
+OwnOrRefused plan [] = Unit {0}
+OwnOrRefused plan (call ∷ calls) =
+    ((call .bytes ≡ plan) ⊎ ((code : ℕ) × (judge (call .bytes) ≡ refused code))) × OwnOrRefused plan calls
+
+-- Each such list is allowed, with any words: with the plan's bytes and fewer than B words a call is refused too.
+abbrev pub EveryList : Type 0
+EveryList =
+    (bytes : List ℕ) (p : Plan) → judge bytes ≡ accepted p
+    → (calls : List Call) → OwnOrRefused bytes calls → (words : List ℕ) → Allowed bytes (blockCount p) calls words
 
 -- The words after a list of calls from a lawful placement of an accepted plan, where they are at rest.
 pub record RestAfter (p : Plan) (after : List ℕ) : Type 0 where

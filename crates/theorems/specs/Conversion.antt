@@ -22,8 +22,8 @@ pub record Takes (bytes : List ℕ) (p : Plan) : Type 0 where
   pub takes : OldPlan bytes p → convertVerdict bytes ≡ accepted p
 
 -- "And the result has the same fields": it is accepted, and the two plans are equal but for the version. "A converted plan is sure to keep
--- its counts, placement and listing only where M is at most 8": there every call answers the same. It is shorter than what a program reads
--- at most.
+-- its counts, placement and listing only where M is at most 8": there every call but the converter's answers the same. It is shorter than
+-- what a program reads at most.
 pub record Converts (bytes : List ℕ) (p : Plan) : Type 0 where
   pub accepts : judge (converted p) ≡ accepted (withVersion writtenVersion p)
   pub same : machines p ≤ 8 → SameAnswers writtenVersion bytes (converted p)

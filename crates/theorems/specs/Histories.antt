@@ -13,6 +13,7 @@ use Rattle.model.specs.Histories.{ReadsCall, Log, playReads, acceptedReads, sti
 
 -- What holds after the calls, of the list lent before them and the reads accepted.
 pub record Counted (list : List Entry) (reads : List Entry) (log : Log) : Type 0 where
+  pub length-same : length (log .list) ≡ length list
   pub count-max : log .count ≤ usable (length list)
   pub beyond : drop (usable (length list)) (log .list) ≡ drop (usable (length list)) list
   pub entries-are : entriesIn (log .list) (log .count) ≡ stillCounted reads

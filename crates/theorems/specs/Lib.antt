@@ -10,6 +10,7 @@ pub mod RowExamples
 pub mod Feeds
 pub mod Budgets
 pub mod Checks
+pub mod Unread
 pub mod ReadExamples
 pub mod Versions
 pub mod Ties

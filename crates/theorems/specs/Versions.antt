@@ -1,15 +1,17 @@
 -- Document 02, U1 and U4 to U7: plans of two versions with the same fields are equal but for the version, and what a call answers goes by
--- the version's most copies and by row 23 alone: where these say the same of both versions, all calls answer the same.
+-- the version's most copies and by row 23 alone: where these say the same of both versions, all calls but the converter's answer the same.
 use mathlib.Core.Path.{_≡_}
 use mathlib.Core.List.{List}
 use Prim.Native.Nat.{ℕ, _*_, _<_, _≤_, min}
 use lib.ListN.{length}
+use Rattle.model.specs.declared.Entry.{Entry}
 use Rattle.model.specs.Plan.{Plan, machines, places, maxReplicas, markIn, versionIn, racksIn, rackSizeIn, feedsIn, capacityIn, budgetIn, blockCountIn, latestVersion, formatOf, recordAt, blockIn}
 use Rattle.model.specs.Refusal.{check23, refusal, Verdict, refused, accepted, judge}
 use Rattle.model.specs.Replication.{chosen}
 use Rattle.model.specs.Placement.{firstPlacement}
 use Rattle.model.specs.Steps.{nextStep, run}
 use Rattle.model.specs.Calls.{countsCall, firstCall, checkCall, reportCall, stepCall, runCall}
+use Rattle.model.specs.ReadLog.{readCall, popularityCall}
 use Rattle.model.specs.Listing.{listingOf, printed}
 use Rattle.model.specs.Writing.{planBytes}
 use Rattle.model.specs.Conversion.{withVersion}
@@ -71,7 +73,7 @@ pub record SameFields (from to : ℕ) (old new : List ℕ) : Type 0 where
   pub old-length : length old ≡ recordAt (formatOf from) (blockCountIn old)
   pub new-length : length new ≡ recordAt (formatOf to) (blockCountIn old)
 
--- The verdict is the same but for the plan's version, and so is what every call answers and leaves, and what is printed.
+-- The verdict is the same but for the plan's version, and so is what every call but the converter's answers and leaves, and what is printed.
 pub record SameAnswers (to : ℕ) (old new : List ℕ) : Type 0 where
   pub verdict : judge new ≡ verdictWith to (judge old)
   pub counts : (items : List ℕ) → countsCall new items ≡ countsCall old items
@@ -80,6 +82,8 @@ pub record SameAnswers (to : ℕ) (old new : List ℕ) : Type 0 where
   pub report : (words : List ℕ) → reportCall new words ≡ reportCall old words
   pub step : (words : List ℕ) → stepCall new words ≡ stepCall old words
   pub run : (words : List ℕ) (limit : ℕ) → runCall new words limit ≡ runCall old words limit
+  pub read : (block tick : ℕ) (list : List Entry) (count : ℕ) → readCall new block tick list count ≡ readCall old block tick list count
+  pub popularity : (block : ℕ) (list : List Entry) (count : ℕ) → popularityCall new block list count ≡ popularityCall old block list count
   pub listing : (limit : ℕ) → printed new limit ≡ printed old limit
 
 abbrev pub Versions : Type 0
@@ -102,8 +106,8 @@ VersionsApart =
     → racksIn old * rackSizeIn old * capacityIn old < budgetIn old
     → TurnedBack old new
 
--- The twin of an accepted plan in another version: a plan that is accepted, is equal but for the version, and on which every call answers
--- the same, counts, first placement, steps and listing among them.
+-- The twin of an accepted plan in another version: a plan that is accepted, is equal but for the version, and on which every call but the
+-- converter's answers the same, counts, first placement, steps, reads and listing among them.
 pub record Twin (version : ℕ) (bytes : List ℕ) (p : Plan) : Type 0 where
   pub accepts : judge (planBytes (withVersion version p)) ≡ accepted (withVersion version p)
   pub same : SameAnswers version bytes (planBytes (withVersion version p))

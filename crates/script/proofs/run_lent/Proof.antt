@@ -25,7 +25,8 @@ same-length c = search needs
 returns : tie.Need-returns
 unfolding replyIs runOutcome
 returns c =
-    respond-run _ _ _ _ (rw (c .before .answer .given .1) at (c .before .before .before .before .before .run .ensures))
+    let called = c .before .before .before .before .before in
+    respond-run _ _ _ _ (rw (c .before .answer .given .1) at (called .run .ensures))
 
 same-length-2 : tie.Need-same-length-2
 same-length-2 c = search needs
@@ -33,7 +34,8 @@ same-length-2 c = search needs
 returns-2 : tie.Need-returns-2
 unfolding replyIs runOutcome
 returns-2 c =
-    respond-run _ _ _ _ (rw (c .before .answer2 .given .1) at (c .before .before .before .before .before .run .ensures))
+    let called = c .before .before .before .before .before in
+    respond-run _ _ _ _ (rw (c .before .answer2 .given .1) at (called .run .ensures))
 
 same-length-3 : tie.Need-same-length-3
 same-length-3 c = search needs
@@ -41,7 +43,8 @@ same-length-3 c = search needs
 returns-3 : tie.Need-returns-3
 unfolding replyIs runOutcome
 returns-3 c =
-    respond-run _ _ _ _ (rw (c .before .answer3 .given .1) at (c .before .before .before .before .before .run .ensures))
+    let called = c .before .before .before .before .before in
+    respond-run _ _ _ _ (rw (c .before .answer3 .given .1) at (called .run .ensures))
 
 pub run-lent-spec : {M : Type 1} → statement M
 run-lent-spec =

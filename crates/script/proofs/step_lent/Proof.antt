@@ -22,7 +22,8 @@ same-length c = search needs
 returns : tie.Need-returns
 unfolding replyIs stepOutcome
 returns c =
-    respond-step _ _ _ (rw (c .before .answer .given .1) at (c .before .before .before .before .before .step .ensures))
+    let called = c .before .before .before .before .before in
+    respond-step _ _ _ (rw (c .before .answer .given .1) at (called .step .ensures))
 
 same-length-2 : tie.Need-same-length-2
 same-length-2 c = search needs
@@ -30,7 +31,8 @@ same-length-2 c = search needs
 returns-2 : tie.Need-returns-2
 unfolding replyIs stepOutcome
 returns-2 c =
-    respond-step _ _ _ (rw (c .before .answer2 .given .1) at (c .before .before .before .before .before .step .ensures))
+    let called = c .before .before .before .before .before in
+    respond-step _ _ _ (rw (c .before .answer2 .given .1) at (called .step .ensures))
 
 pub step-lent-spec : {M : Type 1} → statement M
 step-lent-spec =
