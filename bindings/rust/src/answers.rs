@@ -127,7 +127,7 @@ impl Step {
     }
 }
 
-/// How a run ended, with the number of steps taken: at rest, or with the budget spent and a step still left.
+/// How a run ended, with the number of steps taken: at rest, or with the step limit used and a step still left.
 #[derive(Clone, Copy, Debug, PartialEq, Eq, Hash)]
 pub enum RunEnd {
     Rest(u32),

@@ -29,7 +29,7 @@ fn plan_h() {
     assert_eq!(bpl::listing(&bytes, 100_000).as_deref(), Ok(listing));
 }
 
-/// Plan Y: two moves, then rest; with step budget 1 `spent`.
+/// Plan Y: two moves, then rest; with step limit 1 `spent`.
 #[test]
 fn plan_y() {
     let bytes = samples::y().bytes();
