@@ -62,6 +62,9 @@ pub use script::{Call, Request, Source};
 
 use answers::settled;
 
+/// The blocks that a plan has at most: so many counts or words are enough for every plan.
+pub const MAX_BLOCKS: usize = 1024;
+
 /// Judges a plan: refusals 1 to 11, 17, 22 and 23.
 pub fn plan(plan: &[u8]) -> Result<(), Refusal> {
     // SAFETY: the pointer and the length are those of a slice that is borrowed for the whole call.
