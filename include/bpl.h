@@ -261,8 +261,9 @@ struct bpl_entry {
  * list and the count that the last one left, nobody else writing to the list and each number keeping its block: the
  * entries are exactly the accepted reads that were in the window at every accepted tick since. With less than 2^31 ms
  * between successive accepted reads, as 20 takes it, they are those of the two hours before the last accepted one.
- * After 2^31 ms (24.8 days) without an accepted read every read is refused with 20 until the tick has gone round. All
- * entries are too old by then: a count of 0 starts anew.
+ * A tick behind that of the last entry is refused with 20, too: take ticks from a monotonic clock. After 2^31 ms (24.8
+ * days) without an accepted read every read is refused with 20 until the tick has gone round. All entries are too old
+ * by then: a count of 0 starts anew.
  */
 uint32_t bpl_read(const uint8_t *plan, size_t plan_len, uint32_t block, uint32_t tick,
                   struct bpl_entry *list, size_t list_len, uint64_t count, uint64_t *out, size_t out_len);
