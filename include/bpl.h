@@ -1,7 +1,25 @@
 /*
- * Block placement: the functions of the archive libcapi.a (`rt staticlib capi`), in C99.
+ * Block placement: the functions of the archive libcapi.a, in C99 and C++.
  *
  * Each function is proved against the definitions of crates/model; its contract stands in crates/capi/src/lib.rt.
+ *
+ * To compile and link: `scripts/build capi` proves and makes the archive. Then, in the repository's folder,
+ *   cc -Iinclude -o target/example examples/c/place.c target/staticlib/libcapi.a
+ * compiles and links a caller, here the example. The archive needs no library but C's own.
+ *
+ * Terms (M is the number of machines, and C the copies that one can hold: see "The plan file")
+ *   Counts      A number of copies for each block.
+ *   Lawful      Counts are lawful where each is from the block's least copies to its limit by check 8, and their sum is
+ *               at most the smaller of budget and M * C. A placement is lawful where its counts are, only machines
+ *               below M hold copies, each block lies in at least as many racks (in version 4: feeds) as its spread, no
+ *               machine holds more than C copies, and none holds both blocks of a pair.
+ *   Share       What a copy takes of its block's reads: popularity * 2520 / count. The unit is a 2520th of a read, so
+ *               that the shares of 1 to 10 copies are whole.
+ *   Load        Of a machine: the sum of the shares of the copies that it holds.
+ *   Chosen      The chosen counts are lawful. Their largest share is as small as any lawful counts make it, and each
+ *               block has the smallest count, from its least copies on, that keeps its share within it.
+ *   Step        A copy passes from machine m to n, or m and n exchange two copies. The placement stays lawful, and both
+ *               loads are then below the load that m had. At rest there is no step.
  *
  * Results
  *   0         done: what is written below is written.
@@ -71,7 +89,7 @@
  *
  * The functions keep no state and use no memory but the lent buffers and the stack (120 KiB were enough where it was
  * measured; leave 256): calls in several threads at once are independent of each other. They always return: bpl_run
- * and bpl_listing after at most `budget` steps, and bpl_play's runs after at most as many as their limits say.
+ * and bpl_listing after at most `step_limit` steps, and bpl_play's runs after at most as many as their limits say.
  */
 #ifndef BPL_H
 #define BPL_H
@@ -119,6 +137,15 @@ extern "C" {
 #define BPL_STEPPED 2
 #define BPL_RAN 3
 
+/* Numbers of a fixed width for the macros below. C++ may warn of C's casts. */
+#ifdef __cplusplus
+#define BPL_UINT32(number) static_cast<uint32_t>(number)
+#define BPL_UINT64(number) static_cast<uint64_t>(number)
+#else
+#define BPL_UINT32(number) ((uint32_t)(number))
+#define BPL_UINT64(number) ((uint64_t)(number))
+#endif
+
 /*
  * A call in a script of bpl_play, as an item of the script: what it asks for, or-ed with how many of the words it is
  * lent (none without BPL_LEND) and, where it gets the other bytes in place of the plan's, with BPL_WITH_OTHER.
@@ -127,11 +154,11 @@ extern "C" {
  * Bits 0 to 31 are the step limit of a run, 32 and 33 the kind of call (0 check, 1 step, 2 and 3 run), 34 is set for
  * the other bytes, and 35 to 63 are the number of words, below 2^29; all are lent where there are fewer.
  */
-#define BPL_ASK_CHECK ((uint64_t)0)
-#define BPL_ASK_STEP ((uint64_t)1 << 32)
-#define BPL_ASK_RUN(limit) ((uint64_t)2 << 32 | (uint32_t)(limit))
-#define BPL_WITH_OTHER ((uint64_t)1 << 34)
-#define BPL_LEND(number) ((uint64_t)(number) << 35)
+#define BPL_ASK_CHECK BPL_UINT64(0)
+#define BPL_ASK_STEP (BPL_UINT64(1) << 32)
+#define BPL_ASK_RUN(step_limit) (BPL_UINT64(2) << 32 | BPL_UINT32(step_limit))
+#define BPL_WITH_OTHER (BPL_UINT64(1) << 34)
+#define BPL_LEND(number) (BPL_UINT64(number) << 35)
 #define BPL_LEND_ALL BPL_LEND(0x1FFFFFFF)
 
 /* Judges a plan: refusals 1 to 11, 17, 22 and 23. Writes nothing. */
@@ -152,7 +179,7 @@ uint32_t bpl_check(const uint8_t *plan, size_t plan_len, const uint64_t *words, 
 /*
  * Reports on a placement: refusals 1 to 18, 22 and 23, and 255 where out_len is below 4.
  * Writes out[0] the largest load of a machine, out[1] the smallest, out[2] the sum of all loads, out[3] the largest
- * share of a copy (0 if B is 0). All are in 2520ths of a read, so that the shares of 1 to 10 copies are whole.
+ * share of a copy (0 if B is 0), all in 2520ths of a read.
  */
 uint32_t bpl_report(const uint8_t *plan, size_t plan_len, const uint64_t *words, size_t words_len,
                     uint64_t *out, size_t out_len);
@@ -167,21 +194,28 @@ uint32_t bpl_step(const uint8_t *plan, size_t plan_len, uint64_t *words, size_t 
                   uint64_t *out, size_t out_len);
 
 /*
- * Takes next steps of a placement until rest or until `budget` steps are taken: refusals 1 to 18, 22 and 23, and 255
- * where out_len is below 2.
- * Writes the placement after the last step to the first B words, out[0] 1 for rest and 0 where the budget is spent
- * and a step is still left, and out[1] the number of steps taken.
+ * Takes next steps of a placement until rest or until `step_limit` steps are taken: refusals 1 to 18, 22 and 23, and
+ * 255 where out_len is below 2.
+ * Writes the placement after the last step to the first B words, out[0] 1 for rest and 0 where the limit is used and a
+ * step is still left, and out[1] the number of steps taken.
  */
 uint32_t bpl_run(const uint8_t *plan, size_t plan_len, uint64_t *words, size_t words_len,
-                 uint32_t budget, uint64_t *out, size_t out_len);
+                 uint32_t step_limit, uint64_t *out, size_t out_len);
 
 /*
- * The listing of a plan, of a run from its first placement with step budget `budget`: refusals 1 to 11, 17, 22 and 23,
- * and 255 where out_len is below 1 or text_len below BPL_LISTING_ROOM.
+ * The listing of a plan, of a run from its first placement of at most `step_limit` steps: refusals 1 to 11, 17, 22 and
+ * 23, and 255 where out_len is below 1 or text_len below BPL_LISTING_ROOM.
  * Writes the listing's bytes (ASCII, no 0 at the end) to the start of `text`, and their number to out[0]; the text
  * behind them stays.
+ *
+ * Each line is a word and decimal numbers, parted by one space, and ends in a line feed:
+ *   plan    once: R, S, B;
+ *   block   for each block in file order: its number, its count, the share of each of its copies, and the machines
+ *           that hold one, rising;
+ *   rest    last, or `spent` where a step is still left: the number of steps taken, the largest load of a machine, the
+ *           smallest, the sum of all loads, and the largest share of a copy (0 if B is 0).
  */
-uint32_t bpl_listing(const uint8_t *plan, size_t plan_len, uint32_t budget, uint8_t *text, size_t text_len,
+uint32_t bpl_listing(const uint8_t *plan, size_t plan_len, uint32_t step_limit, uint8_t *text, size_t text_len,
                      uint64_t *out, size_t out_len);
 
 /*
@@ -227,8 +261,9 @@ struct bpl_entry {
  * list and the count that the last one left, nobody else writing to the list and each number keeping its block: the
  * entries are exactly the accepted reads that were in the window at every accepted tick since. With less than 2^31 ms
  * between successive accepted reads, as 20 takes it, they are those of the two hours before the last accepted one.
- * After 2^31 ms (24.8 days) without an accepted read every read is refused with 20 until the tick has gone round. All
- * entries are too old by then: a count of 0 starts anew.
+ * A tick behind that of the last entry is refused with 20, too: take ticks from a monotonic clock. After 2^31 ms (24.8
+ * days) without an accepted read every read is refused with 20 until the tick has gone round. All entries are too old
+ * by then: a count of 0 starts anew.
  */
 uint32_t bpl_read(const uint8_t *plan, size_t plan_len, uint32_t block, uint32_t tick,
                   struct bpl_entry *list, size_t list_len, uint64_t count, uint64_t *out, size_t out_len);

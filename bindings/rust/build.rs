@@ -16,7 +16,7 @@ fn main() {
     println!("cargo:rerun-if-changed={}", archive.display());
     if !archive.is_file() {
         panic!(
-            "{} is missing: make it by `rt staticlib capi`, or name its folder in BPL_LIB_DIR",
+            "{} is missing: make it by `scripts/build capi`, or name its folder in BPL_LIB_DIR",
             archive.display()
         );
     }

@@ -10,7 +10,8 @@
  * at most 8 machines, compares the listings. It writes a plan of version 3 as version 4, with a mains feed for each
  * rack and a budget that the machines have places for, and compares the listings. Last it counts reads of the blocks,
  * and makes the next plan file of their popularities.
- * scripts/c-example compiles, runs and tests it. The status is 0 for a listing, 1 for a refused plan, 2 for a failure.
+ * scripts/c-example compiles, runs and tests it. The status is 0 for a listing, 1 for a failure, 2 where there is more
+ * than one argument, and 3 for a refused plan.
  *
  * How every call is used here:
  * - All memory is the caller's. A buffer is passed as a pointer and its number of items, not its size in bytes.
@@ -27,7 +28,7 @@
 #include <string.h>
 
 /* The steps that the program ./place takes at most. */
-#define STEP_BUDGET 100000
+#define STEP_LIMIT 100000
 
 /* A read is 2520 units, so that the share of each of 1 to 10 copies is whole. */
 #define UNITS_PER_READ 2520
@@ -46,7 +47,7 @@
 #define BLOCKS_AT 13
 #define RECORDS_AT 15
 
-enum { LISTED = 0, REFUSED = 1, FAILED = 2 };
+enum { LISTED = 0, FAILED = 1, MISUSED = 2, REFUSED = 3 };
 
 /* ---- Refusals ---- */
 
@@ -237,10 +238,10 @@ struct store {
     uint64_t words[BPL_MAX_BLOCKS];
 };
 
-/* Takes steps until none is left or the budget is used. Answers the code; the number of steps taken is in *steps. */
-static uint32_t take_steps(struct store *store, uint32_t budget, uint32_t *steps)
+/* Takes steps until none is left or the limit is used. Answers the code; the number of steps taken is in *steps. */
+static uint32_t take_steps(struct store *store, uint32_t step_limit, uint32_t *steps)
 {
-    for (*steps = 0; *steps < budget; ++*steps) {
+    for (*steps = 0; *steps < step_limit; ++*steps) {
         uint64_t step[BPL_STEP_NUMBERS];
         const uint32_t code =
             bpl_step(store->plan, store->plan_len, store->words, BPL_MAX_BLOCKS, step, BPL_STEP_NUMBERS);
@@ -265,10 +266,10 @@ static uint32_t list(struct store *store, struct text *text)
     if (code != 0)
         return code;
 
-    /* Step by step. One call of bpl_run with this budget would do the same at once; with a budget of 0 it takes no
+    /* Step by step. One call of bpl_run with this step limit would do the same at once; with one of 0 it takes no
      * step and tells whether one is left. */
     uint32_t steps;
-    code = take_steps(store, STEP_BUDGET, &steps);
+    code = take_steps(store, STEP_LIMIT, &steps);
     if (code != 0)
         return code;
     uint64_t end[BPL_RUN_NUMBERS];
@@ -308,7 +309,7 @@ static bool is_listing(const struct store *store, const struct text *text)
 {
     static uint8_t listing[BPL_LISTING_ROOM];
     uint64_t size[BPL_LISTING_NUMBERS];
-    const uint32_t code = bpl_listing(store->plan, store->plan_len, STEP_BUDGET, listing, sizeof listing, size,
+    const uint32_t code = bpl_listing(store->plan, store->plan_len, STEP_LIMIT, listing, sizeof listing, size,
                                       BPL_LISTING_NUMBERS);
     return code == 0 && size[0] == text->size && memcmp(listing, text->bytes, text->size) == 0;
 }
@@ -321,7 +322,7 @@ static bool plays_alike(const struct store *store)
     static const uint64_t script[] = {
         BPL_ASK_STEP | BPL_LEND_ALL,
         BPL_ASK_STEP | BPL_LEND_ALL | BPL_WITH_OTHER, /* refused with 1, and the words stay */
-        BPL_ASK_RUN(STEP_BUDGET - 1) | BPL_LEND_ALL,
+        BPL_ASK_RUN(STEP_LIMIT - 1) | BPL_LEND_ALL,
         BPL_ASK_CHECK | BPL_LEND(BPL_MAX_BLOCKS),
     };
     uint64_t reply[BPL_PLAY_NUMBERS];
@@ -505,7 +506,7 @@ int main(int argc, char **argv)
 
     if (argc > 2) {
         fprintf(stderr, "usage: place [FILE]\n");
-        return FAILED;
+        return MISUSED;
     }
     if (argc < 2) {
         store.plan_len = make_plan_h(plan, 8);

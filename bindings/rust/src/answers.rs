@@ -4,8 +4,9 @@ use crate::raw::{PLAY_NUMBERS, REPORT_NUMBERS, RUN_NUMBERS, STEP_NUMBERS};
 use std::error::Error;
 use std::fmt;
 
-/// Why a plan, a placement or a read is turned back: the number of the check, 1 to 23.
-#[derive(Clone, Copy, Debug, PartialEq, Eq, Hash)]
+/// Why a plan, a placement or a read is turned back: the number of the check, 1 to 23. `Display` and `Debug` tell it
+/// with the reason in words.
+#[derive(Clone, Copy, PartialEq, Eq, Hash)]
 pub struct Refusal(u8);
 
 impl Refusal {
@@ -52,6 +53,12 @@ impl Refusal {
 impl fmt::Display for Refusal {
     fn fmt(&self, f: &mut fmt::Formatter<'_>) -> fmt::Result {
         write!(f, "refused {}: {}", self.0, self.reason())
+    }
+}
+
+impl fmt::Debug for Refusal {
+    fn fmt(&self, f: &mut fmt::Formatter<'_>) -> fmt::Result {
+        write!(f, "Refusal({}: {})", self.0, self.reason())
     }
 }
 
@@ -127,7 +134,7 @@ impl Step {
     }
 }
 
-/// How a run ended, with the number of steps taken: at rest, or with the budget spent and a step still left.
+/// How a run ended, with the number of steps taken: at rest, or with the step limit used and a step still left.
 #[derive(Clone, Copy, Debug, PartialEq, Eq, Hash)]
 pub enum RunEnd {
     Rest(u32),
@@ -175,5 +182,29 @@ impl Reply {
             2 => Reply::Stepped(Step::from_numbers([a, b, c, d, e, f])),
             _ => Reply::Ran(RunEnd::from_numbers([a, b])),
         }
+    }
+}
+
+#[cfg(test)]
+mod tests {
+    use super::*;
+    use std::collections::HashSet;
+
+    /// Every number of the table has a reason of its own, which both forms tell with the number.
+    #[test]
+    fn refusals_tell_their_reasons() {
+        let mut reasons = HashSet::new();
+        for number in 1..=23 {
+            let refusal = Refusal(number);
+            let reason = refusal.reason();
+            assert!(reasons.insert(reason), "{number}: {reason}");
+            assert_eq!(refusal.to_string(), format!("refused {number}: {reason}"));
+            assert_eq!(
+                format!("{refusal:?}"),
+                format!("Refusal({number}: {reason})")
+            );
+        }
+        assert!(!reasons.contains(Refusal(24).reason()));
+        assert!(reasons.contains("the sum of least copies is above the budget"));
     }
 }

@@ -62,6 +62,9 @@ pub use script::{Call, Request, Source};
 
 use answers::settled;
 
+/// The blocks that a plan has at most: so many counts or words are enough for every plan.
+pub const MAX_BLOCKS: usize = 1024;
+
 /// Judges a plan: refusals 1 to 11, 17, 22 and 23.
 pub fn plan(plan: &[u8]) -> Result<(), Refusal> {
     // SAFETY: the pointer and the length are those of a slice that is borrowed for the whole call.
@@ -124,8 +127,8 @@ pub fn step(plan: &[u8], words: &mut [u64]) -> Result<Option<Step>, Refusal> {
     Ok(Step::from_numbers(out))
 }
 
-/// Takes next steps of a placement until rest or until the step budget is used: refusals 1 to 18, 22 and 23.
-pub fn run(plan: &[u8], words: &mut [u64], budget: u32) -> Result<RunEnd, Refusal> {
+/// Takes next steps of a placement until rest or until the step limit is used: refusals 1 to 18, 22 and 23.
+pub fn run(plan: &[u8], words: &mut [u64], step_limit: u32) -> Result<RunEnd, Refusal> {
     let mut out = [0; raw::RUN_NUMBERS];
     // SAFETY: as in `first`; `out` is a local of its own with the length that is passed.
     settled(unsafe {
@@ -134,7 +137,7 @@ pub fn run(plan: &[u8], words: &mut [u64], budget: u32) -> Result<RunEnd, Refusa
             plan.len(),
             words.as_mut_ptr(),
             words.len(),
-            budget,
+            step_limit,
             out.as_mut_ptr(),
             out.len(),
         )
@@ -142,8 +145,8 @@ pub fn run(plan: &[u8], words: &mut [u64], budget: u32) -> Result<RunEnd, Refusa
     Ok(RunEnd::from_numbers(out))
 }
 
-/// The listing of a plan, of a run from its first placement with the step budget: refusals 1 to 11, 17, 22 and 23.
-pub fn listing(plan: &[u8], budget: u32) -> Result<String, Refusal> {
+/// The listing of a plan, of a run from its first placement with the step limit: refusals 1 to 11, 17, 22 and 23.
+pub fn listing(plan: &[u8], step_limit: u32) -> Result<String, Refusal> {
     let mut text = vec![0; raw::LISTING_ROOM];
     let mut out = [0; raw::LISTING_NUMBERS];
     // SAFETY: as in `plan`; `text` and `out` are locals of their own with the lengths that are passed.
@@ -151,7 +154,7 @@ pub fn listing(plan: &[u8], budget: u32) -> Result<String, Refusal> {
         raw::bpl_listing(
             plan.as_ptr(),
             plan.len(),
-            budget,
+            step_limit,
             text.as_mut_ptr(),
             text.len(),
             out.as_mut_ptr(),

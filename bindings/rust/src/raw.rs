@@ -56,7 +56,7 @@ extern "C" {
         plan_len: usize,
         words: *mut u64,
         words_len: usize,
-        budget: u32,
+        step_limit: u32,
         out: *mut u64,
         out_len: usize,
     ) -> u32;
@@ -64,7 +64,7 @@ extern "C" {
     pub fn bpl_listing(
         plan: *const u8,
         plan_len: usize,
-        budget: u32,
+        step_limit: u32,
         text: *mut u8,
         text_len: usize,
         out: *mut u64,

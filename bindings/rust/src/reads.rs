@@ -25,8 +25,9 @@ pub struct Entry {
 /// the new one follows, and later records become 0. Records past `MAX_ENTRIES` are never read or written, and a count
 /// above the number of records that are used is taken as it.
 ///
-/// After 2^31 ms (24.8 days) without an accepted read every read is refused with 20 until the tick has gone round: pass
-/// a count of 0 to begin anew.
+/// A tick behind that of the last entry is refused with 20: take ticks from a monotonic clock. After 2^31 ms (24.8
+/// days) without an accepted read every read is refused with 20 until the tick has gone round: pass a count of 0 to
+/// begin anew.
 ///
 /// ```
 /// use bpl::Entry;

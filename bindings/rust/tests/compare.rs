@@ -105,10 +105,10 @@ fn each_entry() {
         }
         entries::report(&bytes, &words);
         met.step(entries::step(&bytes, &mut words.clone()));
-        met.run(entries::run(&bytes, &mut words.clone(), budget(rng)));
+        met.run(entries::run(&bytes, &mut words.clone(), step_limit(rng)));
         entries::first(&bytes, &mut patterned(words.len()));
         entries::first(&bytes, &mut patterned(blocks.saturating_sub(1)));
-        entries::listing(&bytes, budget(rng));
+        entries::listing(&bytes, step_limit(rng));
         for lent in buffer_lengths(rng, &bytes) {
             let _ = entries::convert(&bytes, lent);
         }
@@ -136,7 +136,7 @@ fn call(rng: &mut Rng, bytes: &[u8], words: &mut [u64]) {
         1 => entries::report(bytes, part),
         2 => entries::counts(bytes, part.len()),
         3 if rng.once_in(4) => entries::first(bytes, part),
-        4 | 5 => drop(entries::run(bytes, part, budget(rng))),
+        4 | 5 => drop(entries::run(bytes, part, step_limit(rng))),
         6 => entries::listing(bytes, 3),
         7 => drop(entries::convert(bytes, part.len())),
         _ => drop(entries::step(bytes, part)),

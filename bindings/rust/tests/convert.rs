@@ -55,29 +55,29 @@ fn of_the_fields(bytes: &[u8]) -> OfTheFields {
 }
 
 /// Every other entry but the conversion, on the same words.
-fn of_the_counts(bytes: &[u8], words: &[u64], budget: u32) -> OfTheCounts {
-    let script = [Request::Step, Request::Run(budget)].map(Call::new);
+fn of_the_counts(bytes: &[u8], words: &[u64], step_limit: u32) -> OfTheCounts {
+    let script = [Request::Step, Request::Run(step_limit)].map(Call::new);
     OfTheCounts {
         counts: with_buffer(&vec![0xEE; words.len()], |b| bpl::counts(bytes, b)),
         first: with_buffer(words, |b| bpl::first(bytes, b)),
         check: bpl::check(bytes, words),
         report: bpl::report(bytes, words),
         step: with_buffer(words, |b| bpl::step(bytes, b)),
-        run: with_buffer(words, |b| bpl::run(bytes, b, budget)),
+        run: with_buffer(words, |b| bpl::run(bytes, b, step_limit)),
         play: with_buffer(words, |b| bpl::play(bytes, bytes, b, &script)),
-        listing: bpl::listing(bytes, budget),
+        listing: bpl::listing(bytes, step_limit),
     }
 }
 
 /// These entries against the reference; scripts are in play.rs.
-fn as_the_reference(bytes: &[u8], words: &[u64], budget: u32) {
+fn as_the_reference(bytes: &[u8], words: &[u64], step_limit: u32) {
     entries::counts(bytes, words.len());
     entries::first(bytes, &mut words.to_vec());
     let _ = entries::check(bytes, words);
     entries::report(bytes, words);
     let _ = entries::step(bytes, &mut words.to_vec());
-    let _ = entries::run(bytes, &mut words.to_vec(), budget);
-    entries::listing(bytes, budget);
+    let _ = entries::run(bytes, &mut words.to_vec(), step_limit);
+    entries::listing(bytes, step_limit);
 }
 
 /// The chosen counts of an accepted plan.
@@ -90,7 +90,7 @@ fn counts_of(bytes: &[u8]) -> Vec<u8> {
 /// What a conversion wrote: it is as long as version 3 has it, has the same fields, and is not converted again. With few
 /// machines it answers as the plan that it was made of, with more as the reference does. Answers whether it has other
 /// counts.
-fn judge_written(old: &[u8], new: &[u8], words: &[u64], budget: u32) -> bool {
+fn judge_written(old: &[u8], new: &[u8], words: &[u64], step_limit: u32) -> bool {
     let [before, after] = [old, new].map(|bytes| read(bytes).expect("an accepted plan"));
     assert_eq!(new.len(), 15 + 7 * before.blocks.len());
     assert_eq!(version_of(new), Some(3));
@@ -99,12 +99,12 @@ fn judge_written(old: &[u8], new: &[u8], words: &[u64], budget: u32) -> bool {
     assert_eq!(of_the_fields(new), of_the_fields(old), "{old:?}");
     if before.machines() <= MACHINES_ALIKE {
         assert_eq!(
-            of_the_counts(new, words, budget),
-            of_the_counts(old, words, budget),
+            of_the_counts(new, words, step_limit),
+            of_the_counts(old, words, step_limit),
             "{old:?}"
         );
     } else {
-        as_the_reference(new, words, budget);
+        as_the_reference(new, words, step_limit);
     }
     assert_eq!(entries::convert(new, new.len()), Err(3));
     counts_of(new) != counts_of(old)
@@ -128,7 +128,7 @@ fn any_plan() {
                 Ok(new) => {
                     written[usize::from(version == Some(2))] += 1;
                     let words = lent_words(rng, &new);
-                    let differ = judge_written(&bytes, &new, &words, budget(rng));
+                    let differ = judge_written(&bytes, &new, &words, step_limit(rng));
                     other_counts += u64::from(differ);
                 }
             }

@@ -29,7 +29,7 @@ fn plan_h() {
     assert_eq!(bpl::listing(&bytes, 100_000).as_deref(), Ok(listing));
 }
 
-/// Plan Y: two moves, then rest; with step budget 1 `spent`.
+/// Plan Y: two moves, then rest; with step limit 1 `spent`.
 #[test]
 fn plan_y() {
     let bytes = samples::y().bytes();
@@ -543,6 +543,10 @@ fn refusals() {
         empty.to_string(),
         "refused 1: the plan is shorter than 15 bytes"
     );
+    assert_eq!(
+        format!("{empty:?}"),
+        "Refusal(1: the plan is shorter than 15 bytes)"
+    );
     let short = bpl::first(&samples::h().bytes(), &mut [0; 2]).unwrap_err();
     assert_eq!(short.number(), 12);
     let mut strange = samples::H;
@@ -573,6 +577,27 @@ fn refusals() {
         full.to_string(),
         "refused 21: the list is full of reads that still count"
     );
+}
+
+/// A plan of so many blocks of one copy, on one machine that holds 1,024.
+fn of_blocks(blocks: u16) -> Vec<u8> {
+    let [high, low] = blocks.to_be_bytes();
+    let mut bytes = vec![0x42, 0x50, 0x4C, 0, 1, 1, 1, 4, 0, 0, 0, 4, 0, high, low];
+    bytes.extend([0, 0, 1, 1, 1].repeat(usize::from(blocks)));
+    bytes
+}
+
+/// The most blocks: as many words are enough, one block more is refused by 6.
+#[test]
+fn most_blocks() {
+    let most = of_blocks(bpl::MAX_BLOCKS as u16);
+    let mut words = [0; bpl::MAX_BLOCKS];
+    assert_eq!(bpl::first(&most, &mut words), Ok(()));
+    assert_eq!(words, [1; bpl::MAX_BLOCKS]);
+    let fewer = bpl::first(&most, &mut words[1..]).unwrap_err();
+    assert_eq!(fewer.number(), 12);
+    let more = bpl::plan(&of_blocks(bpl::MAX_BLOCKS as u16 + 1)).unwrap_err();
+    assert_eq!(more.to_string(), "refused 6: more than 1,024 blocks");
 }
 
 /// Each stored example: its plan gives its listing.

@@ -57,9 +57,11 @@ impl Call {
             match self {
                 Call::Report => bpl_report(plan, plan_len, words, words_len, out, lent),
                 Call::Step => bpl_step(plan, plan_len, words, words_len, out, lent),
-                Call::Run(budget) => bpl_run(plan, plan_len, words, words_len, budget, out, lent),
-                Call::Listing(budget) => {
-                    bpl_listing(plan, plan_len, budget, text, text_len, out, lent)
+                Call::Run(step_limit) => {
+                    bpl_run(plan, plan_len, words, words_len, step_limit, out, lent)
+                }
+                Call::Listing(step_limit) => {
+                    bpl_listing(plan, plan_len, step_limit, text, text_len, out, lent)
                 }
                 Call::Read { block, tick, count } => bpl_read(
                     plan, plan_len, block, tick, list, list_len, count, out, lent,
@@ -99,8 +101,8 @@ fn any_call(rng: &mut Rng) -> Call {
     match rng.below(7) {
         0 => Call::Report,
         1 => Call::Step,
-        2 => Call::Run(budget(rng)),
-        3 => Call::Listing(budget(rng)),
+        2 => Call::Run(step_limit(rng)),
+        3 => Call::Listing(step_limit(rng)),
         4 => {
             let tick = rng.below(9_000_000) as u32;
             Call::Read { block, tick, count }

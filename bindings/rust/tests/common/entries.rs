@@ -55,13 +55,13 @@ pub fn step(bytes: &[u8], words: &mut [u64]) -> Result<Option<Step>, u8> {
     said
 }
 
-pub fn run(bytes: &[u8], words: &mut [u64], budget: u32) -> Result<RunEnd, u8> {
+pub fn run(bytes: &[u8], words: &mut [u64], step_limit: u32) -> Result<RunEnd, u8> {
     let before = words.to_vec();
     let mut theirs = before.clone();
-    let said = numbered(bpl::run(bytes, words, budget));
-    let expected = enter_run(bytes, &mut theirs, budget).map(end_of);
-    assert_eq!(said, expected, "run {budget} {bytes:?} {before:?}");
-    assert_eq!(*words, theirs, "run {budget} {bytes:?} {before:?}");
+    let said = numbered(bpl::run(bytes, words, step_limit));
+    let expected = enter_run(bytes, &mut theirs, step_limit).map(end_of);
+    assert_eq!(said, expected, "run {step_limit} {bytes:?} {before:?}");
+    assert_eq!(*words, theirs, "run {step_limit} {bytes:?} {before:?}");
     kept(said.is_err(), bytes, &before, words);
     said
 }
@@ -83,11 +83,11 @@ pub fn convert(bytes: &[u8], lent: usize) -> Result<Vec<u8>, u8> {
     said.map(|length| ours[..length].to_vec())
 }
 
-pub fn listing(bytes: &[u8], budget: u32) {
-    let said = numbered(bpl::listing(bytes, budget));
+pub fn listing(bytes: &[u8], step_limit: u32) {
+    let said = numbered(bpl::listing(bytes, step_limit));
     let expected = match enter_plan(bytes) {
-        Ok(_) => Ok(listing::text(bytes, budget)),
+        Ok(_) => Ok(listing::text(bytes, step_limit)),
         Err(number) => Err(number),
     };
-    assert_eq!(said, expected, "listing {budget} {bytes:?}");
+    assert_eq!(said, expected, "listing {step_limit} {bytes:?}");
 }

@@ -206,8 +206,8 @@ pub fn patterned(number: usize) -> Vec<u64> {
         .collect()
 }
 
-/// A step budget.
-pub fn budget(rng: &mut Rng) -> u32 {
+/// A step limit.
+pub fn step_limit(rng: &mut Rng) -> u32 {
     match rng.below(6) {
         0 => 0,
         1 => 1,

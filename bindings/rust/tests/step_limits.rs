@@ -1,4 +1,4 @@
-//! Step budgets of more than 16 bits reach a run whole, also in a listing and in a script.
+//! Step limits of more than 16 bits reach a run whole, also in a listing and in a script.
 
 use bpl::{Call, Reply, Request, RunEnd};
 use placement_reference::gen::{patient, Rng};
@@ -8,28 +8,28 @@ use std::fs;
 use std::path::PathBuf;
 
 /// A play of runs, one after the other.
-fn runs(bytes: &[u8], words: &mut [u64], budgets: &[u32]) -> Reply {
-    let calls: Vec<Call> = budgets
+fn runs(bytes: &[u8], words: &mut [u64], limits: &[u32]) -> Reply {
+    let calls: Vec<Call> = limits
         .iter()
-        .map(|budget| Call::new(Request::Run(*budget)))
+        .map(|limit| Call::new(Request::Run(*limit)))
         .collect();
     bpl::play(bytes, &[], words, &calls)
 }
 
-/// Plan Y rests after two steps, whichever bit of the budget is set alone: none but the lowest is lost.
+/// Plan Y rests after two steps, whichever bit of the step limit is set alone: none but the lowest is lost.
 #[test]
 fn every_bit() {
     let bytes = samples::y().bytes();
     for bit in 1..32 {
         let (mut at_once, mut in_script) = ([1, 2, 1], [1, 2, 1]);
-        let budget = 1 << bit;
+        let limit = 1 << bit;
         let rest = RunEnd::Rest(2);
-        assert_eq!(bpl::run(&bytes, &mut at_once, budget), Ok(rest), "{bit}");
-        let reply = runs(&bytes, &mut in_script, &[budget]);
+        assert_eq!(bpl::run(&bytes, &mut at_once, limit), Ok(rest), "{bit}");
+        let reply = runs(&bytes, &mut in_script, &[limit]);
         assert_eq!(reply, Reply::Ran(rest), "{bit}");
         assert_eq!((at_once, in_script), ([2, 1, 1], [2, 1, 1]), "{bit}");
-        let expected = listing::text(&bytes, budget);
-        assert_eq!(bpl::listing(&bytes, budget), Ok(expected), "{bit}");
+        let expected = listing::text(&bytes, limit);
+        assert_eq!(bpl::listing(&bytes, limit), Ok(expected), "{bit}");
     }
 }
 
@@ -41,9 +41,9 @@ struct After {
 }
 
 /// A run from these words.
-fn after(bytes: &[u8], words: &[u64], budget: u32) -> After {
+fn after(bytes: &[u8], words: &[u64], limit: u32) -> After {
     let mut words = words.to_vec();
-    let end = bpl::run(bytes, &mut words, budget).expect("an accepted placement");
+    let end = bpl::run(bytes, &mut words, limit).expect("an accepted placement");
     After { end, words }
 }
 
@@ -60,7 +60,7 @@ fn listed_words(listing: &str) -> Vec<u64> {
 }
 
 /// A plan that needs more than 65,536 steps to rest. After 100,000 its words are those of the reference's listing, which
-/// is stored. Two runs are one run with the sum of their budgets, also in a script.
+/// is stored. Two runs are one run with the sum of their limits, also in a script.
 #[test]
 fn more_than_16_bits_of_steps() {
     let bytes = patient(&mut Rng::new(0)).bytes();
@@ -94,9 +94,9 @@ fn more_than_16_bits_of_steps() {
     };
     assert_eq!(after(&bytes, &between.words, all - part), rested);
 
-    for (budgets, expected) in [(&[100_000][..], long), (&[part, u32::MAX], rested)] {
+    for (limits, expected) in [(&[100_000][..], long), (&[part, u32::MAX], rested)] {
         let mut words = begin.clone();
-        assert_eq!(runs(&bytes, &mut words, budgets), Reply::Ran(expected.end));
+        assert_eq!(runs(&bytes, &mut words, limits), Reply::Ran(expected.end));
         assert_eq!(words, expected.words);
     }
 }
