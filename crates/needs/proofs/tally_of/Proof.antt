@@ -139,7 +139,7 @@ mul-demand : tie.Need-mul-demand Inv-loop μ-loop
 mul-demand c = omega arith
 
 shared-slice-read-demand : tie.Need-shared-slice-read-demand Inv-loop μ-loop
-shared-slice-read-demand c = omega (arith, c .before .before .before .before .before .before .pre .fit .room)
+shared-slice-read-demand c = let at = c .before .before .before in omega (arith, at .before .before .before .pre .fit .room)
 
 needed-requires : tie.Need-needed-requires Inv-loop μ-loop
 needed-requires c κs =
@@ -194,8 +194,9 @@ is-less-requires c κs = (At (c .before .before .before .before) .loop .inv .4, 
 
 -- where the test says so, its share is not above the next one
 less-most : (c : tie.Then3 Inv-loop μ-loop)
-    → share (c .before .before .before .popularity-of .result) (c .before .before .before .before .before .before .needed .result - 1)
-    ≤ fractionShare (At (c .before .before .before .before .before .before) .loop .next .share)
+    → let read = c .before .before .before in
+    let found = read .before .before .before in
+    share (read .popularity-of .result) (found .needed .result - 1) ≤ fractionShare (At found .loop .next .share)
 less-most c = ltb-false _ _ (sym (c .before .is-less .ensures) ∙ not-true _ (c .if3 .taken))
 
 next-with-requires : tie.Need-next-with-requires Inv-loop μ-loop
