@@ -249,6 +249,9 @@ module _ (p : Plan) (c : Cluster) (words demands : List ℕ) (of : DemandsOf p c
   pub counts-upper : countOf p words i ≤ upper p i
   counts-upper = rw (counts-held, demands-most p c demands of i l) at (fit .at-most i l)
 
+  pub counts-pos : 1 ≤ countOf p words i
+  counts-pos = rw counts-held at (le-trans (fit .demands-fit .each i l .least-pos) (fit .at-least i l))
+
 -- ── profileOf ──────────────────────────────────────────────────────────────────────────────────────────────────────────
 
 module _ (p : Plan) (count : ℕ → ℕ) (i : ℕ) (b : ValidBlock p i) (few : count i ≤ mostReplicas) where

@@ -5,17 +5,21 @@ use mathlib.Core.Bool.{Bool, true, false}
 use mathlib.Core.List.{List}
 use mathlib.Core.Logic.{_⊎_, inl, inr}
 use Prim.Native.Nat.{ℕ, _+_, _-_, _<_, _≤_, _^_}
+use native.Mathlib.Nat.{le-trans}
 use native.Mathlib.Decide.{decLt}
+use borrow.Author.Tests.{le-leb}
 use native.Mathlib.Omega.{arith}
 use lib.Dec.{leb, ltb, eqb}
 use lib.ListN.{getD}
 use Rattle.order.specs.Search.{allb}
+use Rattle.order.proofs.Sums.{sum-none, sum-index}
 use Rattle.order.proofs.Booleans.{bool-cases, not-so}
 use Rattle.order.proofs.Extremes.{allb-cong, allb-step}
 use Rattle.model.specs.Plan.{Plan, machines, blockCount, isPaired, partner}
 use Rattle.model.specs.Replication.{need}
-use Rattle.model.specs.Placement.{bit, wordOf, countOf, domainsUsed, allWithin, allSpread, allFit, allApart}
-use Rattle.theory.proofs.Placement.{bit-above-from, allWithin-iff, allApart-iff}
+use Rattle.model.specs.Placement.{bit, wordOf, replicas, countOf, domainsUsed, allWithin, allSpread, allFit, allApart}
+use Rattle.theory.specs.Refusal.{Shaped}
+use Rattle.theory.proofs.Placement.{bit-le, bit-above-from, domainsUsed-pos, allWithin-iff, allApart-iff}
 use Rattle.theory.proofs.Plan.{partner-below, partner-other}
 use Rattle.cluster.specs.declared.Cluster.{Cluster}
 use Rattle.cluster.specs.Cluster.{machinesIn, ClusterOf}
@@ -50,6 +54,14 @@ isSpread p words profiles i = leb (spreadIn (getD profiles i 0)) (domainsUsed p 
 abbrev pub isFit : List ℕ → ℕ → ℕ → Bool
 isFit copies capacity m = leb (getD copies m 0) capacity
 
+-- a spread of one is met by every word that has a copy
+pub spread-one : (p : Plan) → Shaped p → (word spread : ℕ) → spread ≤ 1 → 1 ≤ replicas p word → leb spread (domainsUsed p word) ≡ true
+unfolding replicas
+spread-one p shaped word spread one some =
+    let found = sum-index (machines p) (λ m. 0) (bit word) (rw (sum-none (machines p)) some) in
+    let on : bit word (found .0) ≡ 1 = omega (arith, found .2, bit-le word (found .0)) in
+    le-leb spread (domainsUsed p word) (le-trans one (domainsUsed-pos p shaped word (found .0) (found .1) on))
+
 module _ (p : Plan) (words : List ℕ) (c : Cluster) where
   pub within-row : ClusterOf p c → allb (c .blocks) (isWithin words (machinesIn c)) ≡ allWithin p words
   unfolding allWithin
@@ -71,7 +83,7 @@ module _ (p : Plan) (words : List ℕ) (c : Cluster) where
   unfolding allCountedAt
   counted-row figure of = rw (cluster-blocks p c of)
 
-  module _ (count : ℕ → ℕ) (profiles : List ℕ) (held : HeldAt p count c profiles) where
+  module _ (count : ℕ → ℕ) (profiles : List ℕ) (held : HeldAt p count c words profiles) where
     of : ProfilesOf p count c profiles
     of = held .profiles-of
 

@@ -53,10 +53,11 @@ pub record CountsJudged (c : Cluster) (words demands : List ℕ) (figure r : ℕ
   pub code-is : (p : Plan) → DemandsOf p c demands → r ≡ countsRefusal p (need p figure) words
   pub fit : r ≡ 0 → (p : Plan) → DemandsOf p c demands → CountsFit c words demands
 
--- The profiles of plan p's blocks at counts that are at most the upper counts.
-pub record HeldAt (p : Plan) (count : ℕ → ℕ) (c : Cluster) (profiles : List ℕ) : Type 0 where
+-- The profiles of plan p's blocks at counts that are at most the upper counts, and words in which every block has a copy.
+pub record HeldAt (p : Plan) (count : ℕ → ℕ) (c : Cluster) (words profiles : List ℕ) : Type 0 where
   pub profiles-of : ProfilesOf p count c profiles
   pub at-most : (i : ℕ) → i < blockCount p → count i ≤ upper p i
+  pub some : (i : ℕ) → i < blockCount p → 1 ≤ countOf p words i
 
 -- The copies on plan p's machines.
 pub record CopiesOf (p : Plan) (words : List ℕ) (c : Cluster) (loads : Loads) : Type 0 where

@@ -7,11 +7,12 @@ ghost use mathlib.Core.Bool.{Bool};
 ghost use mathlib.Core.List.{List};
 ghost use mathlib.Core.Logic.{_↔_};
 ghost use Prim.Native.Nat.{ℕ, _<_, _≤_};
+ghost use lib.Dec.{leb};
 ghost use Rattle.model.specs.Plan.{Plan};
 ghost use Rattle.model.specs.Refusal.{maxMachines};
-ghost use Rattle.model.specs.Placement.{allWithin, allSpread, allFit, allApart};
-ghost use Rattle.cluster.specs.Cluster.{machinesIn, ClusterOf};
-ghost use Rattle.cluster.specs.Blocks.{PlacementFits};
+ghost use Rattle.model.specs.Placement.{replicas, domainsUsed, allWithin, allSpread, allFit, allApart};
+ghost use Rattle.cluster.specs.Cluster.{machinesIn, InRange, ClusterOf};
+ghost use Rattle.cluster.specs.Blocks.{spreadIn, PlacementFits};
 ghost use Rattle.validation.specs.Validation.{WordsAsked, CountsAsked, CountedAs, CountsJudged, HeldAt, CopiesOf, Apart, LayoutAsked, layoutRefusal};
 
 // Row 13: whether every word names only machines below M.
@@ -60,14 +61,27 @@ pub fn counts_refusal(words: &[u64], demands: &[u64], cluster: Cluster, figure: 
     0
 }
 
+// Whether a block that has a copy lies in as many failure domains as its spread says. They are counted for a spread above one alone.
+fn is_spread(word: u64, profile: u64, cluster: Cluster) -> bool
+    requires { ⌜ InRange cluster ⌝ }
+    ensures { λ r. ⌜ ((p : Plan) → ClusterOf p cluster → 1 ≤ replicas p word → r ≡ leb (spreadIn profile) (domainsUsed p word)) ⌝ }
+{
+    let spread = cluster::spread_of(profile);
+    if spread <= 1 {
+        return true;
+    }
+    spread <= bits::domains_used(word, cluster)
+}
+
 // Row 15: whether every block lies in as many failure domains as its spread says.
 fn all_spread(words: &[u64], profiles: &[u64], cluster: Cluster) -> bool
     requires { ⌜ PlacementFits cluster (now words) (now profiles) ⌝ }
-    ensures { λ r. ⌜ ((p : Plan) (count : ℕ → ℕ) → HeldAt p count cluster (now (profiles .entry)) → r ≡ allSpread p (now (words .entry))) ⌝ }
+    ensures { λ r. ⌜ ((p : Plan) (count : ℕ → ℕ) → HeldAt p count cluster (now (words .entry)) (now (profiles .entry))
+        → r ≡ allSpread p (now (words .entry))) ⌝ }
 {
     let mut i: usize = 0;
     while i < cluster.blocks {
-        if bits::domains_used(words[i], cluster) < cluster::spread_of(profiles[i]) {
+        if !is_spread(words[i], profiles[i], cluster) {
             return false;
         }
         i += 1;
@@ -107,7 +121,7 @@ fn is_apart(words: &[u64], profiles: &[u64], cluster: Cluster, i: usize) -> bool
 // Row 18: whether no machine holds both blocks of a pair. The words name only machines below M.
 fn all_apart(words: &[u64], profiles: &[u64], cluster: Cluster) -> bool
     requires { ⌜ PlacementFits cluster (now words) (now profiles) ⌝ }
-    ensures { λ r. ⌜ ((p : Plan) (count : ℕ → ℕ) → HeldAt p count cluster (now (profiles .entry))
+    ensures { λ r. ⌜ ((p : Plan) (count : ℕ → ℕ) → HeldAt p count cluster (now (words .entry)) (now (profiles .entry))
         → allWithin p (now (words .entry)) ≡ Bool.true → r ≡ allApart p (now (words .entry))) ⌝ }
 {
     let mut i: usize = 0;
@@ -123,7 +137,7 @@ fn all_apart(words: &[u64], profiles: &[u64], cluster: Cluster) -> bool
 // Rows 15, 16 and 18 of a placement whose words have passed 13 and 14, with its loads, at whatever counts it holds; 0 where all pass.
 pub fn layout_refusal(words: &[u64], profiles: &[u64], loads: Loads, cluster: Cluster) -> u8
     requires { ⌜ LayoutAsked cluster (now words) (now profiles) loads ⌝ }
-    ensures { λ r. ⌜ ((p : Plan) (count : ℕ → ℕ) → HeldAt p count cluster (now (profiles .entry))
+    ensures { λ r. ⌜ ((p : Plan) (count : ℕ → ℕ) → HeldAt p count cluster (now (words .entry)) (now (profiles .entry))
         → allWithin p (now (words .entry)) ≡ Bool.true → r ≡ layoutRefusal p (now (words .entry))) ⌝ }
 {
     if !all_spread(words, profiles, cluster) {

@@ -6,7 +6,7 @@ use Prim.Native.Nat.{ℕ, _<_}
 use denote.Ref.{now}
 use Rattle.model.specs.Plan.{Plan, blockCount}
 use Rattle.theory.proofs.Placement.{allWithin-iff}
-use Rattle.cluster.proofs.Laws.{cluster-blocks, cluster-machines, counts-upper}
+use Rattle.cluster.proofs.Laws.{cluster-blocks, cluster-machines, counts-upper, counts-pos}
 use Rattle.admission.proofs.Laws.{prepared-of}
 use Rattle.admission.proofs.admit_counted.Statement.{statement}
 use Rattle.admission.proofs.admit_counted.Tie as tie
@@ -52,7 +52,11 @@ returns c p of =
     record {
       code-is =
           c .layout-refusal .ensures p _
-          (record { profiles-of = prepared .profiles-of; at-most = λ i l. counts-upper p _ _ _ of (asked .fit) i (inside i l) })
+          (record {
+            profiles-of = prepared .profiles-of;
+            at-most = λ i l. counts-upper p _ _ _ of (asked .fit) i (inside i l);
+            some = λ i l. counts-pos p _ _ _ of (asked .fit) i (inside i l);
+          })
           within;
       cluster-is = refl;
       prepared = prepared;

@@ -15,7 +15,7 @@ use Rattle.validation.proofs.layout_refusal.Tie as tie
 
 -- the profiles are a plan's, at some counts
 abbrev HandedIn : tie.Start → Plan → (ℕ → ℕ) → Type 0
-HandedIn start p count = HeldAt p count (start .args .cluster) (now (start .args .profiles))
+HandedIn start p count = HeldAt p count (start .args .cluster) (now (start .args .words)) (now (start .args .profiles))
 
 abbrev entry : tie.After-all-spread → tie.Start
 entry c = c .before .before .before
