@@ -14,9 +14,10 @@ use Rattle.cluster.specs.Blocks.{PlacementFits, PlacementOf}
 use Rattle.loads.specs.Loads.{LoadsOf}
 use Rattle.index.specs.Index.{Indexed}
 use Rattle.transfers.specs.declared.Hit.{Hit}
-use Rattle.transfers.specs.Route.{hitOf, routeStep, Shift, HitFound, MarginOf, HasRoom}
+use Rattle.transfers.specs.Route.{hitOf, routeStep, HitFound, MarginOf, HasRoom}
 use Rattle.search.specs.declared.Step.{Step}
 use Rattle.search.specs.declared.Step.the-variants.{Rest, Move, Swap, RackMove, RackSwap}
+use Rattle.search.specs.declared.Found.{Found}
 use Rattle.search.specs.declared.Row.{Row}
 
 -- The answer as the model's step.
@@ -27,23 +28,9 @@ stepOf (Swap m n i j) = exchange false m n i j
 stepOf (RackMove m n i) = relocate true m n i
 stepOf (RackSwap m n i j) = exchange true m n i j
 
--- What an answer names can be carried out: block i from m to n, and of an exchange block j from n to m.
-abbrev pub Found : Cluster → List ℕ → Step → Type 0
-Found c words Rest = Unit
-Found c words (Move m n i) = Shift c words m n i
-Found c words (Swap m n i j) = Shift c words m n i × Shift c words n m j
-Found c words (RackMove m n i) = Shift c words m n i
-Found c words (RackSwap m n i j) = Shift c words m n i × Shift c words n m j
-
--- The next step of the definition, which can be carried out.
-pub record NextFound (c : Cluster) (words profiles : List ℕ) (r : Step) : Type 0 where
-  pub sound : Found c words r
-  pub is : (p : Plan) (count : ℕ → ℕ) → PlacementOf p count c words profiles → stepOf r ≡ nextStep p words
-
--- A find as an answer.
-pub record AnswerOf (hit : Hit) (across : Bool) (r : Step) : Type 0 where
-  pub is : stepOf r ≡ hitOf across hit
-  pub sound : (c : Cluster) (words : List ℕ) → HitFound c words hit → Found c words r
+-- A find as the model's step.
+abbrev pub foundOf : Found → ModelStep
+foundOf found = hitOf (found .across) (found .hit)
 
 -- Whether n is of the kind: `low` is the first machine of m's rack.
 pub record KindAsked (low size : ℕ) : Type 0 where
@@ -127,3 +114,7 @@ pub record OpenFound (c : Cluster) (words profiles : List ℕ) (row : Row) (n ma
 pub record HitIs (c : Cluster) (words profiles : List ℕ) (across : Bool) (wanted : Plan → ModelStep) (r : Hit) : Type 0 where
   pub sound : HitFound c words r
   pub is : (p : Plan) (count : ℕ → ℕ) → PlacementOf p count c words profiles → hitOf across r ≡ wanted p
+
+-- And that is the next step of the definition.
+abbrev pub NextFound : Cluster → List ℕ → List ℕ → Found → Type 0
+NextFound c words profiles r = HitIs c words profiles (r .across) (λ p. nextStep p words) (r .hit)

@@ -4,8 +4,9 @@ use transfers::Hit;
 use transfers::Route;
 ghost use mathlib.Core.Path.{_≡_};
 ghost use Prim.Native.Nat.{_%_, _≤_};
+ghost use Rattle.model.specs.Steps.{isStep};
 ghost use Rattle.cluster.specs.Cluster.{InRange};
-ghost use Rattle.search.specs.Scene.{isExchange, isAcross, NextFound, AnswerOf, KindAsked, OfKind, PartedOf, OpenAsked, OpenFound, routeOf, rowOf, kindStep, SearchAsked, RowIn, StartsAt, EndsAt, RowAsked, RouteAt, HitIs};
+ghost use Rattle.search.specs.Scene.{isExchange, isAcross, stepOf, foundOf, NextFound, KindAsked, OfKind, PartedOf, OpenAsked, OpenFound, routeOf, rowOf, kindStep, SearchAsked, RowIn, StartsAt, EndsAt, RowAsked, RouteAt, HitIs};
 
 // A step, or rest. Block i goes from m to n, of an exchange block j from n to m; m and n of a RackMove or RackSwap lie in
 // different racks.
@@ -43,10 +44,18 @@ struct Row {
     m: usize,
 }
 
-// A find as an answer.
-fn as_step(hit: Hit, across: bool) -> Step
-    ensures { λ r. ⌜ AnswerOf hit across r ⌝ }
+// What was found, and whether its machines lie in different racks.
+pub struct Found {
+    pub across: bool,
+    pub hit: Hit,
+}
+
+// A find as the answer, with its kind.
+pub fn as_step(found: Found) -> Step
+    ensures { λ r. ⌜ stepOf r ≡ foundOf found ⌝ }
 {
+    let across = found.across;
+    let hit = found.hit;
     match hit {
         Hit::Nothing => Step::Rest,
         Hit::Move { m, n, i } => {
@@ -62,6 +71,14 @@ fn as_step(hit: Hit, across: bool) -> Step
             Step::Swap { m, n, i, j }
         }
     }
+}
+
+// Whether a step was found.
+fn is_step(found: Found) -> bool
+    ensures { λ r. ⌜ isStep (foundOf found) ≡ r ⌝ }
+{
+    let hit = found.hit;
+    transfers::is_found(hit)
 }
 
 // Whether n lies in another rack than the one that starts at `low`, or in that one, as the kind wants.
@@ -212,10 +229,10 @@ fn find_kind(
     copies: &[usize],
     cluster: Cluster,
     kind: u8,
-) -> Hit
+) -> Found
     requires { ⌜ SearchAsked cluster (now words) (now profiles) (now index) (now loads) (now copies) ⌝ }
-    ensures { λ r. ⌜ HitIs cluster (now (words .entry)) (now (profiles .entry)) (isAcross kind)
-        (λ p. kindStep p (now (words .entry)) (isExchange kind) (isAcross kind)) r ⌝ }
+    ensures { λ r. ⌜ HitIs cluster (now (words .entry)) (now (profiles .entry)) (r .across)
+        (λ p. kindStep p (now (words .entry)) (isExchange kind) (isAcross kind)) (r .hit) ⌝ }
 {
     let swapping = kind % 2 == 1;
     let across = 2 <= kind;
@@ -232,11 +249,14 @@ fn find_kind(
         };
         let hit = find_row(words, profiles, index, loads, copies, cluster, row);
         if transfers::is_found(hit) {
-            return hit;
+            return Found { across, hit };
         }
         m += 1;
     }
-    Hit::Nothing
+    Found {
+        across,
+        hit: Hit::Nothing,
+    }
 }
 
 // The next step, the first by kind: Move, Swap, RackMove, RackSwap.
@@ -247,22 +267,21 @@ pub fn find(
     loads: &[u64],
     copies: &[usize],
     cluster: Cluster,
-) -> Step
+) -> Found
     requires { ⌜ SearchAsked cluster (now words) (now profiles) (now index) (now loads) (now copies) ⌝ }
     ensures { λ r. ⌜ NextFound cluster (now (words .entry)) (now (profiles .entry)) r ⌝ }
 {
     let near = find_kind(words, profiles, index, loads, copies, cluster, 0);
-    if transfers::is_found(near) {
-        return as_step(near, false);
+    if is_step(near) {
+        return near;
     }
     let swap = find_kind(words, profiles, index, loads, copies, cluster, 1);
-    if transfers::is_found(swap) {
-        return as_step(swap, false);
+    if is_step(swap) {
+        return swap;
     }
     let far = find_kind(words, profiles, index, loads, copies, cluster, 2);
-    if transfers::is_found(far) {
-        return as_step(far, true);
+    if is_step(far) {
+        return far;
     }
-    let last = find_kind(words, profiles, index, loads, copies, cluster, 3);
-    as_step(last, true)
+    find_kind(words, profiles, index, loads, copies, cluster, 3)
 }
