@@ -21,16 +21,15 @@ pub struct Ran {
     pub steps: u32,
 }
 
-// The next step, not taken; the index is made anew from the words.
+// The next step, not taken; the index is made anew from the words and the loads.
 fn look(words: &[u64], profiles: &[u64], index: &mut [u64], loads: Loads, cluster: Cluster) -> Found
     requires { ⌜ OrderedAsked cluster (now words) (now profiles) (now index) loads ⌝ }
     ensures { λ r. ⌜ NextFound cluster (now (words .entry)) (now (profiles .entry)) r
         × Ordered cluster (now (profiles .entry)) (now (index .exit)) ⌝ }
 {
     index::fill(index, words, cluster);
-    let load = loads.load;
-    let copies = loads.copies;
-    search::find(words, profiles, index, &load[..], &copies[..], cluster)
+    index::put_loads(index, &loads.load);
+    search::find(words, profiles, index, &loads.copies, cluster)
 }
 
 // The copy of block i on m passes to n, in the words and in the loads.

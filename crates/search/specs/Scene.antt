@@ -2,17 +2,20 @@
 use mathlib.Core.Path.{_≡_}
 use mathlib.Core.Bool.{Bool, true, false, not, cond, Bool·beq}
 use mathlib.Core.List.{List}
+use mathlib.Core.Logic.{_↔_}
 use Prim.Native.Nat.{ℕ, _*_, _/_, _%_, _<_, _≤_}
 use lib.Dec.{eqb, leb}
+use lib.ListN.{getD}
 use Rattle.model.specs.Plan.{Plan, machines}
 use Rattle.model.specs.Refusal.{maxMachines}
+use Rattle.model.specs.Placement.{bit}
 use Rattle.theory.specs.Widths.{loadBound}
 use Rattle.model.specs.Steps.{Step as ModelStep, none, relocate, exchange, acrossRacks, first, nextStep}
 use Rattle.cluster.specs.declared.Cluster.{Cluster}
 use Rattle.cluster.specs.Cluster.{machinesIn, domainIn, InRange}
 use Rattle.cluster.specs.Blocks.{PlacementFits, PlacementOf}
-use Rattle.loads.specs.Loads.{LoadsOf}
-use Rattle.index.specs.Index.{Indexed}
+use Rattle.loads.specs.Loads.{copySum, LoadsOf}
+use Rattle.index.specs.Index.{loadAt, Indexed}
 use Rattle.transfers.specs.declared.Hit.{Hit}
 use Rattle.transfers.specs.Route.{hitOf, routeStep, HitFound, MarginOf, HasRoom}
 use Rattle.search.specs.declared.Step.{Step}
@@ -63,11 +66,33 @@ rowOf p words swapping across m = first (machines p) (routeOf p words swapping a
 unfoldable pub kindStep : Plan → List ℕ → Bool → Bool → ModelStep
 kindStep p words swapping across = first (machines p) (rowOf p words swapping across)
 
--- A placement with its index, its loads and its copies.
-pub record SearchAsked (c : Cluster) (words profiles index loads copies : List ℕ) : Type 0 where
+-- A placement with its index, in which its loads stand, too.
+pub record SearchAsked (c : Cluster) (words profiles index : List ℕ) : Type 0 where
   pub fits : PlacementFits c words profiles
   pub indexed : Indexed c words profiles index
+  pub loads : List ℕ
+  pub copies : List ℕ
   pub loads-of : LoadsOf c words profiles loads copies
+  pub loads-in : (m : ℕ) → m < maxMachines → loadAt index m ≡ getD loads m 0
+
+-- With the copies on each machine.
+pub record FindAsked (c : Cluster) (words profiles index copies : List ℕ) : Type 0 where
+  pub all : SearchAsked c words profiles index
+  pub copies-are : copies ≡ all .copies
+
+-- Of the machines before `end` those with room are the set bits of r.
+pub record RoomTo (c : Cluster) (copies : List ℕ) (end r : ℕ) : Type 0 where
+  pub is : (n : ℕ) → n < end → (bit r n ≡ 1) ↔ (getD copies n 0 < c .capacity)
+  pub past : (n : ℕ) → end ≤ n → bit r n ≡ 0
+
+-- The machines that an exchange may lead to are all, and a move those with room.
+abbrev pub TargetsOf : Cluster → List ℕ → Bool → ℕ → Type 0
+TargetsOf c words swapping targets =
+    (n : ℕ) → n < machinesIn c → (bit targets n ≡ 1) ↔ (swapping ≡ false → copySum c words n < c .capacity)
+
+pub record KindSearchAsked (c : Cluster) (words profiles index : List ℕ) (kind targets : ℕ) : Type 0 where
+  pub all : SearchAsked c words profiles index
+  pub targets-are : TargetsOf c words (isExchange kind) targets
 
 -- A machine of the cluster, and where its rack starts.
 pub record RowIn (c : Cluster) (row : Row) : Type 0 where
@@ -87,13 +112,13 @@ pub record EndsAt (c : Cluster) (row : Row) (r : ℕ) : Type 0 where
   pub within : r ≤ machinesIn c
   pub past : (n : ℕ) → r ≤ n → n < machinesIn c → kindAt c row n ≡ false
 
-pub record RowAsked (c : Cluster) (words profiles index loads copies : List ℕ) (row : Row) : Type 0 where
-  pub all : SearchAsked c words profiles index loads copies
+pub record RowAsked (c : Cluster) (words profiles index : List ℕ) (row : Row) : Type 0 where
+  pub all : SearchAsked c words profiles index
   pub row-in : RowIn c row
+  pub targets-are : TargetsOf c words (row .swapping) (row .targets)
 
-pub record RouteAt (c : Cluster) (words profiles index loads copies : List ℕ) (row : Row) (n : ℕ) : Type 0 where
-  pub all : SearchAsked c words profiles index loads copies
-  pub row-in : RowIn c row
+pub record RouteAt (c : Cluster) (words profiles index : List ℕ) (row : Row) (n : ℕ) : Type 0 where
+  pub asked : RowAsked c words profiles index row
   pub n-below : n < machinesIn c
 
 -- The row's machine and n, and what it has more in load.

@@ -78,7 +78,7 @@ loop-again c =
       rw (followed .words-are (looked .look .result .across)) (along-more (at .0) (found .0) (looked .before .before .before .loop-test .taken) (passed .before .is-found .ensures _ ∙ not-false _ (passed .if1 .left))),
       record {
         asked = followed .loads-follow _ (at .1 .asked) (found .0 .sound);
-        ordered = ordered-kept (cleared .sized) (cleared .kept) (found .1);
+        ordered = ordered-kept (at .1 .asked .fits .profiles-fit .in-range .blocks-max) (cleared .sized) (λ k l h. cleared .kept k l) (found .1);
         cleared = cleared .clear;
       },
     )
