@@ -1,7 +1,7 @@
--- What a step that was found lets the words be shifted by, and what a step keeps: the loads as they follow, the placement, the run.
+-- What a step that was found lets be shifted, and what it keeps: the loads as they follow, the placement, the run.
 -- Assumes nothing.
 use mathlib.Core.Path.{_≡_, refl, ap, sym, _∙_}
-use mathlib.Core.Bool.{true, false, not}
+use mathlib.Core.Bool.{Bool, true, false, not}
 use mathlib.Core.List.{List}
 use Prim.Native.Nat.{ℕ, _+_, _*_, _-_, _<_, _≤_}
 use native.Mathlib.Nat.{add-zero, zero-add, sub-zero}
@@ -18,79 +18,45 @@ use Rattle.theory.proofs.StepsNext.{isStep-false, nextStep-feasible, run-zero, 
 use Rattle.theory.proofs.Steps.{after-length, afterMove-held, afterMove-other, afterMove-length}
 use Rattle.theory.proofs.Placement.{held-apart}
 use Rattle.cluster.specs.declared.Cluster.{Cluster}
-use Rattle.cluster.specs.Blocks.{shareIn, PlacementFits, PlacementOf}
+use Rattle.cluster.specs.Blocks.{shareIn, ProfilesFit, PlacementOf}
 use Rattle.loads.specs.declared.Loads.{Loads}
-use Rattle.loads.specs.Loads.{loadSum, copySum, LoadShiftAsked as SharesAsked, ShiftedTo}
+use Rattle.loads.specs.Loads.{loadSum, copySum, LoadShiftAsked, ShiftedTo}
 use Rattle.loads.proofs.Laws.{loads-narrow, copies-max}
-use Rattle.transfers.specs.Route.{Shift}
-use Rattle.search.specs.Scene.{Found, stepOf, NextFound}
-use Rattle.search.specs.declared.Step.{Step}
-use Rattle.search.specs.declared.Step.the-variants.{Rest, Move, Swap, RackMove, RackSwap}
-use Rattle.balance.specs.Standing.{StepAsked, ShiftAsked, TakeAsked, FollowAsked, Followed, ranOf}
+use Rattle.transfers.specs.declared.Hit.the-variants.{Nothing, Move, Swap}
+use Rattle.transfers.specs.Route.{hitOf, Shift}
+use Rattle.search.specs.Scene.{foundOf, NextFound}
+use Rattle.search.specs.declared.Found.{Found}
+use Rattle.balance.specs.Standing.{StepAsked, FollowAsked, Followed, ranOf}
 
--- ── TakeAsked ──────────────────────────────────────────────────────────────────────────────────────────────────────────
-
--- a block that m lacks stays where it is while another leaves m
-stays : (words : List ℕ) (m n i j : ℕ) → held words m i ≡ 1 → held words m j ≡ 0
-    → (k : ℕ) → held (afterMove words m n i) k j ≡ held words k j
-stays words m n i j on off k = ap (λ (w : ℕ). bit w k) (afterMove-other words m n i j (held-apart words m i j on off))
-
--- so an exchange's second shift can still be made after its first
-pub second-shift : {words : List ℕ} {m n i j : ℕ} → ShiftAsked words m n i → ShiftAsked words n m j
-    → ShiftAsked (afterMove words m n i) n m j
-second-shift {words} {m} {n} {i} {j} one two =
-    record {
-      word-in = rw (afterMove-length words m n i) (two .word-in);
-      m-max = two .m-max;
-      n-max = two .n-max;
-      holds = stays words m n i j (one .holds) (two .lacks) n ∙ two .holds;
-      lacks = stays words m n i j (one .holds) (two .lacks) m ∙ two .lacks;
-    }
-
-module _ {c : Cluster} {words profiles : List ℕ} (fits : PlacementFits c words profiles) where
-  shift-asked : (m n i : ℕ) → Shift c words m n i → ShiftAsked words m n i
-  shift-asked m n i s =
-      record {
-        word-in = omega (arith, s .i-below, fits .word-room);
-        m-max = omega (arith, s .m-below, fits .profiles-fit .in-range .machines-max);
-        n-max = omega (arith, s .n-below, fits .profiles-fit .in-range .machines-max);
-        holds = s .holds;
-        lacks = s .lacks;
-      }
-
-  found-asked : (step : Step) → Found c words step → TakeAsked words step
-  found-asked Rest f = tt
-  found-asked (Move m n i) f = shift-asked m n i f
-  found-asked (Swap m n i j) f = (shift-asked m n i (f .0), shift-asked n m j (f .1))
-  found-asked (RackMove m n i) f = shift-asked m n i f
-  found-asked (RackSwap m n i j) f = (shift-asked m n i (f .0), shift-asked n m j (f .1))
-
-  -- what was found can be taken
-  pub take-asked : {step : Step} → NextFound c words profiles step → TakeAsked words step
-  take-asked {step} next = found-asked step (next .sound)
-
--- ── FollowAsked, Followed ──────────────────────────────────────────────────────────────────────────────────────────────
+-- ── Followed ───────────────────────────────────────────────────────────────────────────────────────────────────────────
 
 abbrev shareAt : List ℕ → ℕ → ℕ
 shareAt profiles i = shareIn (getD profiles i 0)
 
 module _ {c : Cluster} {words profiles : List ℕ} {l : Loads} (asked : StepAsked c words profiles l)
     {m n i : ℕ} (s : Shift c words m n i) where
+  range : ProfilesFit c profiles
+  range = asked .fits .profiles-fit
+
+  m-max : m < maxMachines
+  m-max = omega (arith, s .m-below, range .in-range .machines-max)
+
+  n-max : n < maxMachines
+  n-max = omega (arith, s .n-below, range .in-range .machines-max)
+
   -- m has the share and the copy that are to be shifted
-  pub loads-asked : SharesAsked l m n (shareAt profiles i)
+  pub loads-asked : LoadShiftAsked l m n (shareAt profiles i)
   loads-asked =
-      let ranges = asked .fits .profiles-fit in
-      let below : m < maxMachines = omega (arith, s .m-below, ranges .in-range .machines-max) in
       let term : held words m i * shareAt profiles i ≡ shareAt profiles i = rw (s .holds) (omega arith) in
       let on = s .holds in
       record {
-        m-below = below;
-        n-below = omega (arith, s .n-below, ranges .in-range .machines-max);
-        has-share = rw (asked .loads-of .load-is m below)
+        m-below = m-max;
+        n-below = n-max;
+        has-share = rw (asked .loads-of .load-is m m-max)
             (omega (arith, sum-term (c .blocks) (λ b. held words m b * shareAt profiles b) i (s .i-below)));
-        has-copy = rw (asked .loads-of .copies-are m below) (omega (arith, sum-term (c .blocks) (held words m) i (s .i-below)));
-        load-room = loads-narrow c words profiles (l .load) (l .copies) (asked .loads-of) ranges;
-        copies-room = copies-max c words profiles (l .load) (l .copies) (asked .loads-of) (ranges .in-range);
+        has-copy = rw (asked .loads-of .copies-are m m-max) (omega (arith, sum-term (c .blocks) (held words m) i (s .i-below)));
+        load-room = loads-narrow c words profiles (l .load) (l .copies) (asked .loads-of) range;
+        copies-room = copies-max c words profiles (l .load) (l .copies) (asked .loads-of) (range .in-range);
       }
 
   -- the sums over the words once the copy is shifted
@@ -124,37 +90,54 @@ module _ {c : Cluster} {words profiles : List ℕ} {l : Loads} (asked : StepAske
             };
       }
 
+  -- a block that m lacks stays where it is while another leaves m, so an exchange's second shift can still be made
+  stays : (j : ℕ) → held words m j ≡ 0 → (k : ℕ) → held (afterMove words m n i) k j ≡ held words k j
+  stays j off k = ap (λ (w : ℕ). bit w k) (afterMove-other words m n i j (held-apart words m i j (s .holds) off))
+
   shift-back : {j : ℕ} → Shift c words n m j → Shift c (afterMove words m n i) n m j
   shift-back {j} two =
       record {
         m-below = two .m-below;
         n-below = two .n-below;
         i-below = two .i-below;
-        holds = stays words m n i j (s .holds) (two .lacks) n ∙ two .holds;
-        lacks = stays words m n i j (s .holds) (two .lacks) m ∙ two .lacks;
+        holds = stays j (two .lacks) n ∙ two .holds;
+        lacks = stays j (two .lacks) m ∙ two .lacks;
       }
 
-module _ {profiles : List ℕ} {l given : Loads} {m n i : ℕ} where
-  pub followed-move : ShiftedTo l m n (shareAt profiles i) given → Followed profiles l (Move m n i) given
-  unfolding after stepOf
-  followed-move to = λ c words asked s. asked-shifted asked s to
+module _ {words profiles : List ℕ} {l : Loads} where
+  pub followed-nothing : Followed words profiles l Nothing words l
+  unfolding after hitOf
+  followed-nothing = record { words-are = λ across. refl; loads-follow = λ c asked s. asked }
 
-  -- the second shift of an exchange follows its first
-  module _ (one : Followed profiles l (Move m n i) given) {j : ℕ} where
-    pub follow-back : {c : Cluster} {words : List ℕ} → StepAsked c words profiles l → Shift c words m n i × Shift c words n m j
-        → FollowAsked profiles given (Move n m j)
-    unfolding after stepOf
-    follow-back {c} {words} asked s =
-        record {
-          cluster = c;
-          words = afterMove words m n i;
-          asked = one c words asked (s .0);
-          found = shift-back asked (s .0) (s .1);
-        }
+  module _ {m n i : ℕ} {later : List ℕ} {given : Loads} where
+    pub followed-move : later ≡ afterMove words m n i → ShiftedTo l m n (shareAt profiles i) given
+        → Followed words profiles l (Move m n i) later given
+    unfolding after hitOf
+    followed-move e to =
+        record { words-are = λ across. e; loads-follow = λ c asked s. rw e (asked-shifted asked s to) }
 
-    pub followed-swap : {r : Loads} → Followed profiles given (Move n m j) r → Followed profiles l (Swap m n i j) r
-    unfolding after afterSwap stepOf
-    followed-swap two = λ c words asked s. two c (afterMove words m n i) (one c words asked (s .0)) (shift-back asked (s .0) (s .1))
+    -- the second shift of an exchange follows its first
+    module _ (one : Followed words profiles l (Move m n i) later given) where
+      moved : later ≡ afterMove words m n i
+      unfolding after hitOf
+      moved = one .words-are false
+
+      back : {j : ℕ} {c : Cluster} → StepAsked c words profiles l → Shift c words m n i × Shift c words n m j → Shift c later n m j
+      back asked s = rw moved (shift-back asked (s .0) (s .1))
+
+      pub follow-back : {j : ℕ} {c : Cluster} → StepAsked c words profiles l → Shift c words m n i × Shift c words n m j
+          → FollowAsked later profiles given (Move n m j)
+      follow-back {j} {c} asked s =
+          record { cluster = c; asked = one .loads-follow c asked (s .0); found = back asked s }
+
+      pub followed-swap : {j : ℕ} {last : List ℕ} {r : Loads} → Followed later profiles given (Move n m j) last r
+          → Followed words profiles l (Swap m n i j) last r
+      unfolding after afterSwap hitOf
+      followed-swap two =
+          record {
+            words-are = λ across. rw (← moved) (two .words-are across);
+            loads-follow = λ c asked s. two .loads-follow c (one .loads-follow c asked (s .0)) (back asked s);
+          }
 
 -- ── run ────────────────────────────────────────────────────────────────────────────────────────────────────────────────
 
@@ -187,17 +170,17 @@ along-first {c} {words} {profiles} {limit} =
       coming = λ p count at. rw (sub-zero limit, zero-add (run p limit words .steps));
     }
 
-module _ {c : Cluster} {first profiles words : List ℕ} {limit steps : ℕ} {step : Step}
-    (along : Along c first profiles limit steps words) (next : NextFound c words profiles step) where
-  step-is : (p : Plan) (count : ℕ → ℕ) → PlacementOf p count c first profiles → stepOf step ≡ nextStep p words
+module _ {c : Cluster} {first profiles words : List ℕ} {limit steps : ℕ} {found : Found}
+    (along : Along c first profiles limit steps words) (next : NextFound c words profiles found) where
+  step-is : (p : Plan) (count : ℕ → ℕ) → PlacementOf p count c first profiles → foundOf found ≡ nextStep p words
   step-is p count at = next .is p count (along .placement p count at)
 
   -- one step more, taken
-  pub along-more : steps < limit → isStep (stepOf step) ≡ true → Along c first profiles limit (steps + 1) (after words (stepOf step))
+  pub along-more : steps < limit → isStep (foundOf found) ≡ true → Along c first profiles limit (steps + 1) (after words (foundOf found))
   along-more l is =
       record {
         within = omega arith;
-        same-length = after-length words (stepOf step) ∙ along .same-length;
+        same-length = after-length words (foundOf found) ∙ along .same-length;
         placement = λ p count at. rw (step-is p count at) (placement-next p count c words profiles (along .placement p count at));
         coming = λ p count at. rw (step-is p count at) (more p (sym (ap isStep (step-is p count at)) ∙ is) (along .coming p count at));
       }
@@ -215,16 +198,16 @@ module _ {c : Cluster} {first profiles words : List ℕ} {limit steps : ℕ} {st
           ∙ ap (λ (n : ℕ). counted n later) (omega arith)
 
   -- no step is left, and the limit is used
-  pub along-rest : isStep (stepOf step) ≡ false → (p : Plan) (count : ℕ → ℕ) → PlacementOf p count c first profiles
+  pub along-rest : isStep (foundOf found) ≡ false → (p : Plan) (count : ℕ → ℕ) → PlacementOf p count c first profiles
       → ranOf (record { rested = true; steps = steps }) words ≡ run p limit first
   unfolding ranOf
   along-rest is p count at =
-      let rest = sym (step-is p count at) ∙ isStep-false (stepOf step) is in
+      let rest = sym (step-is p count at) ∙ isStep-false (foundOf found) is in
       sym (along .coming p count at ∙ (rw (run-none p words (limit - steps) rest, add-zero steps)))
 
-  pub along-end : limit ≤ steps → (p : Plan) (count : ℕ → ℕ) → PlacementOf p count c first profiles
-      → ranOf (record { rested = not (isStep (stepOf step)); steps = steps }) words ≡ run p limit first
+  pub along-end : limit ≤ steps → {is : Bool} → isStep (foundOf found) ≡ is → (p : Plan) (count : ℕ → ℕ)
+      → PlacementOf p count c first profiles → ranOf (record { rested = not is; steps = steps }) words ≡ run p limit first
   unfolding ranOf
-  along-end l p count at =
+  along-end l e p count at =
       let all : limit - steps ≡ 0 = omega (arith, along .within) in
-      sym (along .coming p count at ∙ (rw (all, run-zero p words, add-zero steps, step-is p count at)))
+      sym (along .coming p count at ∙ (rw (all, run-zero p words, add-zero steps, ← (step-is p count at), e)))

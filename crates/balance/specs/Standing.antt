@@ -1,20 +1,19 @@
 -- What steps over the words are given and say, in the model's terms.
 use mathlib.Core.Path.{_≡_}
+use mathlib.Core.Bool.{Bool}
 use mathlib.Core.List.{List}
-use Prim.Native.Nat.{ℕ, _<_}
-use lib.ListN.{length}
+use Prim.Native.Nat.{ℕ}
 use Rattle.model.specs.Plan.{Plan}
-use Rattle.model.specs.Refusal.{maxMachines}
-use Rattle.model.specs.Placement.{held}
 use Rattle.model.specs.Steps.{nextStep, after, Run}
 use Rattle.cluster.specs.declared.Cluster.{Cluster}
 use Rattle.cluster.specs.Blocks.{PlacementFits}
 use Rattle.loads.specs.declared.Loads.{Loads}
 use Rattle.loads.specs.Loads.{LoadsOf}
 use Rattle.index.specs.Index.{Ordered, Cleared}
-use Rattle.search.specs.Scene.{stepOf, Found}
+use Rattle.transfers.specs.declared.Hit.{Hit}
+use Rattle.transfers.specs.Route.{hitOf, HitFound}
+use Rattle.search.specs.Scene.{stepOf}
 use Rattle.search.specs.declared.Step.{Step}
-use Rattle.search.specs.declared.Step.the-variants.{Rest, Move, Swap, RackMove, RackSwap}
 use Rattle.balance.specs.declared.Ran.{Ran}
 
 -- A placement with its loads and copies.
@@ -28,34 +27,16 @@ pub record OrderedAsked (c : Cluster) (words profiles index : List ℕ) (loads :
   pub ordered : Ordered c profiles index
   pub cleared : Cleared index
 
--- A copy that can be shifted: m holds block i and n does not.
-pub record ShiftAsked (words : List ℕ) (m n i : ℕ) : Type 0 where
-  pub word-in : i < length words
-  pub m-max : m < maxMachines
-  pub n-max : n < maxMachines
-  pub holds : held words m i ≡ 1
-  pub lacks : held words n i ≡ 0
-
--- A step that can be taken at these words.
-abbrev pub TakeAsked : List ℕ → Step → Type 0
-TakeAsked words Rest = Unit {0}
-TakeAsked words (Move m n i) = ShiftAsked words m n i
-TakeAsked words (Swap m n i j) = ShiftAsked words m n i × ShiftAsked words n m j
-TakeAsked words (RackMove m n i) = ShiftAsked words m n i
-TakeAsked words (RackSwap m n i j) = ShiftAsked words m n i × ShiftAsked words n m j
-
--- A step that was found at some placement with these loads.
-pub record FollowAsked (profiles : List ℕ) (loads : Loads) (step : Step) : Type 0 where
+-- What was found at a placement with these loads.
+pub record FollowAsked (words profiles : List ℕ) (loads : Loads) (hit : Hit) : Type 0 where
   pub cluster : Cluster
-  pub words : List ℕ
   pub asked : StepAsked cluster words profiles loads
-  pub found : Found cluster words step
+  pub found : HitFound cluster words hit
 
--- The loads and copies after it, at every such placement.
-abbrev pub Followed : List ℕ → Loads → Step → Loads → Type 0
-Followed profiles loads step r =
-    (c : Cluster) (words : List ℕ) → StepAsked c words profiles loads → Found c words step
-    → StepAsked c (after words (stepOf step)) profiles r
+-- It is taken, and the loads are those of the later words, at every such placement.
+pub record Followed (words profiles : List ℕ) (loads : Loads) (hit : Hit) (later : List ℕ) (r : Loads) : Type 0 where
+  pub words-are : (across : Bool) → later ≡ after words (hitOf across hit)
+  pub loads-follow : (c : Cluster) → StepAsked c words profiles loads → HitFound c words hit → StepAsked c later profiles r
 
 -- The next step, taken.
 pub record Stepped (p : Plan) (words later : List ℕ) (r : Step) : Type 0 where

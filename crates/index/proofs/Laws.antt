@@ -1,5 +1,5 @@
--- Laws of the index: words written one after the other, one mark in a part, the blocks entered one after the other, the order, and the
--- free blocks of a word.
+-- Laws of the index: words written one after the other, one mark in a part, the blocks entered one after the other, the order, the
+-- loads beside it, and the free blocks of a word.
 -- Assumes nothing.
 use mathlib.Core.Path.{_≡_, refl, ap, sym, _∙_}
 use mathlib.Core.List.{List}
@@ -17,7 +17,7 @@ use Rattle.theory.proofs.Placement.{bit-add, bit-take, bit-le, bit-cases, bit-a
 use Rattle.cluster.specs.declared.Cluster.{Cluster}
 use Rattle.bits.specs.Words.{Lowest}
 use Rattle.bits.proofs.Laws.{bit-from}
-use Rattle.index.specs.Index.{indexLength, byRank, keysAt, ranksAt, spot, keyAt, rankAt, Ordered, Cleared, Marked}
+use Rattle.index.specs.Index.{indexLength, byNumber, byRank, keysAt, ranksAt, loadsAt, spot, keyAt, rankAt, Ordered, Cleared, Indexed, CopiedTo, Marked}
 
 -- ── words written ──────────────────────────────────────────────────────────────────────────────────────────────────────
 
@@ -52,6 +52,11 @@ cell part m i = part + m * 16 + i / 64
 -- that bit set
 abbrev pub mark : List ℕ → ℕ → ℕ → ℕ → List ℕ
 mark index part m i = set index (cell part m i) (getD index (cell part m i) 0 + 2 ^ (i % 64))
+
+spot-same : (later entry : List ℕ) (part m i : ℕ) → getD later (cell part m i) 0 ≡ getD entry (cell part m i) 0
+    → spot later part m i ≡ spot entry part m i
+unfolding spot
+spot-same later entry part m i e = ap (λ (w : ℕ). bit w (i % 64)) e
 
 -- a mark changes one bit of all parts
 module _ (index : List ℕ) (part a i : ℕ) (room : cell part a i < length index) (clear : spot index part a i ≡ 0) where
@@ -164,23 +169,45 @@ module _ {words index : List ℕ} {part i : ℕ} {place : ℕ → ℕ} (past : F
 
 -- ── Ordered ────────────────────────────────────────────────────────────────────────────────────────────────────────────
 
--- the order is what the last two parts say
-pub ordered-kept : {c : Cluster} {profiles entry later : List ℕ} → length later ≡ indexLength
-    → ((k : ℕ) → keysAt ≤ k → getD later k 0 ≡ getD entry k 0) → Ordered c profiles entry → Ordered c profiles later
-ordered-kept {entry = entry} {later} sized kept order =
+-- the order is what the keys and the ranks say
+pub ordered-kept : {c : Cluster} {profiles entry later : List ℕ} → c .blocks ≤ maxBlocks → length later ≡ indexLength
+    → ((k : ℕ) → keysAt ≤ k → k < loadsAt → getD later k 0 ≡ getD entry k 0) → Ordered c profiles entry → Ordered c profiles later
+ordered-kept {c} {entry = entry} {later} few sized kept order =
     record {
       sized = sized;
-      rank-below = λ i l. rw (rank i) (order .rank-below i l);
-      rank-share = λ i l. rw (rank i, key (rankAt entry i)) (order .rank-share i l);
-      rank-apart = λ i j l h e. order .rank-apart i j l h (sym (rank i) ∙ e ∙ rank j);
-      rising = λ r q l h. rw (key r, key q) (order .rising r q l h);
+      rank-below = λ i l. rw (rank i l) (order .rank-below i l);
+      rank-share = λ i l. rw (rank i l, key (rankAt entry i) (order .rank-below i l)) (order .rank-share i l);
+      rank-apart = λ i j l h e. order .rank-apart i j l h (sym (rank i l) ∙ e ∙ rank j h);
+      rising = λ r q l h. rw (key r (omega arith), key q h) (order .rising r q l h);
     }
   where
-    key : (r : ℕ) → keyAt later r ≡ keyAt entry r
-    key r = kept (keysAt + r) (omega arith)
+    key : (r : ℕ) → r < c .blocks → keyAt later r ≡ keyAt entry r
+    key r l = kept (keysAt + r) (omega arith) (omega arith)
 
-    rank : (i : ℕ) → rankAt later i ≡ rankAt entry i
-    rank i = kept (ranksAt + i) (omega arith)
+    rank : (i : ℕ) → i < c .blocks → rankAt later i ≡ rankAt entry i
+    rank i l = kept (ranksAt + i) (omega arith) (omega arith)
+
+-- ── Indexed ────────────────────────────────────────────────────────────────────────────────────────────────────────────
+
+-- the loads stand after all that an index says of its blocks
+pub indexed-loaded : {c : Cluster} {words profiles loads entry later : List ℕ} → c .blocks ≤ maxBlocks
+    → CopiedTo entry loadsAt loads maxMachines later → Indexed c words profiles entry → Indexed c words profiles later
+indexed-loaded {c} {profiles = profiles} {entry = entry} {later} few copied indexed =
+    record {
+      ordered = ordered-kept few (copied .sized) (λ k l h. copied .below k h) order;
+      by-number = λ m i ml l. same byNumber m i (omega arith) ml (omega arith) ∙ indexed .by-number m i ml l;
+      by-rank = λ m i ml l.
+          let below = order .rank-below i l in
+          ap (spot later byRank m) (copied .below (ranksAt + i) (omega arith))
+          ∙ same byRank m (rankAt entry i) (omega arith) ml (omega arith)
+          ∙ indexed .by-rank m i ml l;
+    }
+  where
+    order : Ordered c profiles entry
+    order = indexed .ordered
+
+    same : (part m i : ℕ) → part ≤ byRank → m < maxMachines → i < maxBlocks → spot later part m i ≡ spot entry part m i
+    same part m i pl ml l = spot-same later entry part m i (copied .below (cell part m i) (omega arith))
 
 -- ── NextOf ─────────────────────────────────────────────────────────────────────────────────────────────────────────────
 

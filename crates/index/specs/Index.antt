@@ -1,5 +1,5 @@
 -- The index of a placement: four parts of 1,024 words. For each machine the bit set of its blocks by number, sixteen words each; the
--- same by rank; the keys of the blocks by rising share; and each block's rank.
+-- same by rank; the keys of the blocks by rising share; and each block's rank. After them a word for each machine, its load.
 use mathlib.Core.Path.{_≡_}
 use mathlib.Core.List.{List}
 use Prim.Native.Nat.{ℕ, _+_, _*_, _/_, _%_, _<_, _≤_}
@@ -12,7 +12,7 @@ use Rattle.cluster.specs.Blocks.{shareIn, ProfilesFit}
 use Rattle.ranking.specs.Ranks.{keyShare}
 
 abbrev pub indexLength : ℕ
-indexLength = 4096
+indexLength = 4160
 
 -- Where each part begins.
 abbrev pub byNumber : ℕ
@@ -27,6 +27,9 @@ keysAt = 2048
 abbrev pub ranksAt : ℕ
 ranksAt = 3072
 
+abbrev pub loadsAt : ℕ
+loadsAt = 4096
+
 -- Whether machine m holds the block at place i of a part, by number or by rank: 0 or 1.
 unfoldable pub spot : List ℕ → ℕ → ℕ → ℕ → ℕ
 spot index part m i = bit (getD index (part + m * 16 + i / 64) 0) (i % 64)
@@ -40,6 +43,10 @@ shareAt index r = keyShare (keyAt index r)
 
 abbrev pub rankAt : List ℕ → ℕ → ℕ
 rankAt index i = getD index (ranksAt + i) 0
+
+-- The load of machine m.
+abbrev pub loadAt : List ℕ → ℕ → ℕ
+loadAt index m = getD index (loadsAt + m) 0
 
 -- The blocks by rising share: every block has a rank of its own, at which its share stands.
 pub record Ordered (c : Cluster) (profiles index : List ℕ) : Type 0 where
@@ -66,15 +73,14 @@ pub record StartAsked (c : Cluster) (profiles index : List ℕ) : Type 0 where
   pub cleared : Cleared index
 
 -- The first items of a part that are copied into the index.
-pub record CopyAsked (index : List ℕ) (part : ℕ) (from : List ℕ) (blocks : ℕ) : Type 0 where
+pub record CopyAsked (index : List ℕ) (part : ℕ) (from : List ℕ) (count : ℕ) : Type 0 where
   pub sized : length index ≡ indexLength
-  pub part-max : part ≤ ranksAt
-  pub from-sized : length from ≡ maxBlocks
-  pub blocks-max : blocks ≤ maxBlocks
+  pub part-room : part + count ≤ indexLength
+  pub from-room : count ≤ length from
 
-pub record CopiedTo (index : List ℕ) (part : ℕ) (from : List ℕ) (blocks : ℕ) (later : List ℕ) : Type 0 where
+pub record CopiedTo (index : List ℕ) (part : ℕ) (from : List ℕ) (count : ℕ) (later : List ℕ) : Type 0 where
   pub sized : length later ≡ indexLength
-  pub here : (k : ℕ) → k < blocks → getD later (part + k) 0 ≡ getD from k 0
+  pub here : (k : ℕ) → k < count → getD later (part + k) 0 ≡ getD from k 0
   pub below : (k : ℕ) → k < part → getD later k 0 ≡ getD index k 0
 
 -- The bit sets empty, the rest as it was.

@@ -1,14 +1,17 @@
-// The index of a placement: each machine's blocks as bit sets, by number and by rank, and the blocks in order of their shares.
+// The index of a placement: each machine's blocks as bit sets, by number and by rank, the blocks in order of their shares, and the
+// machines' loads.
 use cluster::Cluster;
 use cluster::MAX_BLOCKS;
+use cluster::MAX_MACHINES;
 ghost use mathlib.Core.List.{List};
 ghost use Prim.Native.Nat.{ℕ};
 ghost use mathlib.Core.Path.{_≡_};
 ghost use lib.ListN.{length};
-ghost use Rattle.index.specs.Index.{indexLength, Ordered, Cleared, StartAsked, Indexed, CopyAsked, CopiedTo, ClearedTo, EnterAsked, Entered, FillAsked, NextAsked, NextOf, AboveAsked, AboveOf};
+ghost use Rattle.model.specs.Refusal.{maxMachines};
+ghost use Rattle.index.specs.Index.{indexLength, loadsAt, Ordered, Cleared, StartAsked, Indexed, CopyAsked, CopiedTo, ClearedTo, EnterAsked, Entered, FillAsked, NextAsked, NextOf, AboveAsked, AboveOf};
 
-// The index's length, and where its parts begin: the blocks by number and by rank, the keys and the ranks.
-pub const INDEX_LENGTH: usize = 4096;
+// The index's length, and where its parts begin: the blocks by number and by rank, the keys, the ranks and the loads.
+pub const INDEX_LENGTH: usize = 4160;
 
 pub const BY_NUMBER: usize = 0;
 
@@ -18,13 +21,15 @@ pub const KEYS_AT: usize = 2048;
 
 pub const RANKS_AT: usize = 3072;
 
-// The first B of the items at the start of a part of the index.
-fn copy_part(index: &mut [u64], part: usize, from: &[u64], blocks: usize)
-    requires { ⌜ CopyAsked (now index) part (now from) blocks ⌝ }
-    ensures { λ r. ⌜ CopiedTo (now (index .entry)) part (now (from .entry)) blocks (now (index .exit)) ⌝ }
+pub const LOADS_AT: usize = 4096;
+
+// The first items of `from` at the start of a part of the index.
+fn copy_part(index: &mut [u64], part: usize, from: &[u64], count: usize)
+    requires { ⌜ CopyAsked (now index) part (now from) count ⌝ }
+    ensures { λ r. ⌜ CopiedTo (now (index .entry)) part (now (from .entry)) count (now (index .exit)) ⌝ }
 {
     let mut k: usize = 0;
-    while k < blocks {
+    while k < count {
         index[part + k] = from[k];
         k += 1;
     }
@@ -83,6 +88,14 @@ pub fn fill(index: &mut [u64], words: &[u64], cluster: Cluster)
         enter(index, words[i], i);
         i += 1;
     }
+}
+
+// The machines' loads, in an index; all else stays.
+pub fn put_loads(index: &mut [u64], loads: &[u64])
+    requires { ⌜ (length (now index) ≡ indexLength) × (length (now loads) ≡ maxMachines) ⌝ }
+    ensures { λ r. ⌜ CopiedTo (now (index .entry)) loadsAt (now (loads .entry)) maxMachines (now (index .exit)) ⌝ }
+{
+    copy_part(index, LOADS_AT, loads, MAX_MACHINES);
 }
 
 // The first place from `from` on, by number or by rank, of a block that m holds and n does not; past the last block where there is none.

@@ -19,7 +19,8 @@ use Rattle.cluster.specs.Cluster.{domainIn, InRange}
 use Rattle.cluster.specs.Blocks.{PlacementOf}
 use Rattle.transfers.specs.declared.Hit.{Hit}
 use Rattle.transfers.specs.Route.{hitOf, routeStep}
-use Rattle.search.specs.Scene.{routeOf, rowOf, kindStep, HitIs}
+use Rattle.search.specs.declared.Found.{Found}
+use Rattle.search.specs.Scene.{routeOf, rowOf, kindStep, HitIs, NextFound}
 
 -- ── of_kind ────────────────────────────────────────────────────────────────────────────────────────────────────────────
 
@@ -91,19 +92,37 @@ pass-first none later e = refl
 pass-first (relocate racks m n i) later e = no-contradiction e
 pass-first (exchange racks m n i j) later e = no-contradiction e
 
-module _ (swapping across : Bool) {c : Cluster} {words profiles : List ℕ} {r : Hit}
-    (found : HitIs c words profiles across (λ p. kindStep p words swapping across) r) (p : Plan) (count : ℕ → ℕ) (placement : PlacementOf p count c words profiles) where
-  pub kindStep-last : hitOf across r ≡ kindStep p words swapping across
-  kindStep-last = found .is p count placement
+module _ {c : Cluster} {words profiles : List ℕ} {across : Bool} {wanted : Plan → Step} {r : Hit}
+    (found : HitIs c words profiles across wanted r) where
+  pub kind-taken : (later : Plan → Step) → isStep (hitOf across r) ≡ true
+      → HitIs c words profiles across (λ p. orStep (wanted p) (later p)) r
+  kind-taken later e =
+      record {
+        sound = found .sound;
+        is = λ p count at. take-first (hitOf across r) (later p) e ∙ ap (λ (s : Step). orStep s (later p)) (found .is p count at);
+      }
 
-  pub kindStep-taken : (later : Step) → isStep (hitOf across r) ≡ true → hitOf across r ≡ orStep (kindStep p words swapping across) later
-  kindStep-taken later e = take-first (hitOf across r) later e ∙ ap (λ (s : Step). orStep s later) kindStep-last
+  pub kind-passed : {later : Plan → Step} {farther : Bool} {q : Hit} → isStep (hitOf across r) ≡ false
+      → HitIs c words profiles farther later q → HitIs c words profiles farther (λ p. orStep (wanted p) (later p)) q
+  kind-passed {later} e next =
+      record {
+        sound = next .sound;
+        is = λ p count at.
+            next .is p count at
+            ∙ pass-first (hitOf across r) (later p) e
+            ∙ ap (λ (s : Step). orStep s (later p)) (found .is p count at);
+      }
 
-  pub kindStep-passed : (later : Step) → isStep (hitOf across r) ≡ false → later ≡ orStep (kindStep p words swapping across) later
-  kindStep-passed later e = pass-first (hitOf across r) later e ∙ ap (λ (s : Step). orStep s later) kindStep-last
+-- the kinds after Move, and those after Swap
+abbrev pub afterMoves : List ℕ → Plan → Step
+afterMoves words p = orStep (kindStep p words true false) (orStep (kindStep p words false true) (kindStep p words true true))
 
--- the definition's next step, by kinds
-pub nextStep-kinds : (p : Plan) (words : List ℕ) → nextStep p words
-    ≡ orStep (kindStep p words false false) (orStep (kindStep p words true false) (orStep (kindStep p words false true) (kindStep p words true true)))
+abbrev pub afterSwaps : List ℕ → Plan → Step
+afterSwaps words p = orStep (kindStep p words false true) (kindStep p words true true)
+
+-- all of them are the definition's next step
+pub nextStep-kinds : {c : Cluster} {words profiles : List ℕ} {r : Found}
+    → HitIs c words profiles (r .across) (λ p. orStep (kindStep p words false false) (afterMoves words p)) (r .hit)
+    → NextFound c words profiles r
 unfolding nextStep nextMove nextSwap routes kindStep rowOf routeOf routeStep
-nextStep-kinds p words = refl
+nextStep-kinds found = found

@@ -1,16 +1,15 @@
 -- Laws of a route of machines: where the loads, the capacity or the shares rule it out the definition finds nothing there.
 -- Assumes nothing.
-use mathlib.Core.Path.{_≡_, ap, sym, _∙_}
+use mathlib.Core.Path.{_≡_, refl, ap, sym, _∙_}
 use mathlib.Core.Bool.{Bool, true, false, not}
 use mathlib.Core.List.{List}
 use Prim.Native.Nat.{ℕ, _-_, _<_, _≤_}
 use native.Mathlib.Nat.{div-add-mod', mul-le-mul-right}
 use native.Mathlib.Omega.{arith}
-use lib.ListN.{getD}
-use Rattle.order.proofs.Booleans.{not-so}
+use Rattle.order.proofs.Booleans.{not-so, no-contradiction}
 use Rattle.model.specs.Plan.{Plan, machines, blockCount}
 use Rattle.model.specs.Refusal.{maxMachines}
-use Rattle.model.specs.Placement.{held, used, shareOf, load}
+use Rattle.model.specs.Placement.{bit, held, used, shareOf, load}
 use Rattle.model.specs.Steps.{none, relocate, exchange, canMove, canSwap, Step, isStep}
 use Rattle.theory.specs.Refusal.{Shaped}
 use Rattle.theory.specs.Steps.{LocalMove, LocalSwap}
@@ -19,9 +18,10 @@ use Rattle.cluster.specs.declared.Cluster.{Cluster}
 use Rattle.cluster.specs.Cluster.{machinesIn, InRange}
 use Rattle.cluster.specs.Blocks.{PlacementOf}
 use Rattle.cluster.proofs.Laws.{cluster-size, cluster-capacity, cluster-blocks, placement-machine, placement-share}
+use Rattle.loads.specs.Loads.{copySum, LoadsOf}
 use Rattle.loads.proofs.Laws.{loads-narrow, copies-used, loads-load}
 use Rattle.transfers.specs.declared.Route.{Route}
-use Rattle.index.specs.Index.{rankAt, shareAt}
+use Rattle.index.specs.Index.{rankAt, shareAt, loadAt}
 use Rattle.screen.specs.Screen.{ScreenAsked, Alone, rankedOn, RuledOut}
 use Rattle.transfers.specs.declared.Hit.{Hit}
 use Rattle.transfers.specs.declared.Hit.the-variants.{Nothing}
@@ -158,17 +158,30 @@ kindAt-other c words profiles row n e p count placement = rw (sym (cluster-size 
 
 -- ── the route of a row's machine m and n ────────────────────────────────────────────────────────────────────────────────
 
-module _ {c : Cluster} {words profiles index loads copies : List ℕ} {row : Row} {n : ℕ}
-    (at : RouteAt c words profiles index loads copies row n) where
+module _ {c : Cluster} {words profiles index : List ℕ} {row : Row} {n : ℕ}
+    (at : RouteAt c words profiles index row n) where
   m-max : row .m < maxMachines
-  m-max = omega (arith, at .row-in .m-below, at .all .fits .profiles-fit .in-range .machines-max)
+  m-max = omega (arith, at .asked .row-in .m-below, at .asked .all .fits .profiles-fit .in-range .machines-max)
+
+  n-max : n < maxMachines
+  n-max = omega (arith, at .n-below, at .asked .all .fits .profiles-fit .in-range .machines-max)
+
+  -- the loads and the copies that those in the index are
+  abbrev loads : List ℕ
+  loads = at .asked .all .loads
+
+  abbrev copies : List ℕ
+  copies = at .asked .all .copies
+
+  of : LoadsOf c words profiles loads copies
+  of = at .asked .all .loads-of
 
   pub kind-asked : KindAsked (row .low) (c .«rack_size»)
   kind-asked =
-      let ranges = at .all .fits .profiles-fit .in-range in
+      let ranges = at .asked .all .fits .profiles-fit .in-range in
       record {
         size-pos = ranges .size-pos;
-        low-max = omega (arith, at .row-in .low-is, div-add-mod' (row .m) (c .«rack_size»), m-max);
+        low-max = omega (arith, at .asked .row-in .low-is, div-add-mod' (row .m) (c .«rack_size»), m-max);
         size-max = omega (arith, mul-le-mul-right (c .«rack_size») (ranges .racks-pos), ranges .machines-max);
       }
 
@@ -198,61 +211,79 @@ module _ {c : Cluster} {words profiles index loads copies : List ℕ} {row : Row
         record {
           sound = tt;
           is = λ p count placement.
-              routeStep-none p count c words profiles placement (row .m) n (at .row-in .m-below) (at .n-below)
+              routeStep-none p count c words profiles placement (row .m) n (at .asked .row-in .m-below) (at .n-below)
               (row .swapping) (row .across) (barren p count placement)
               ∙ this p count placement;
         }
 
     module _ (p : Plan) (count : ℕ → ℕ) (placement : PlacementOf p count c words profiles) where
-      load-of : (k : ℕ) → k < machinesIn c → getD loads k 0 ≡ load p words k
-      load-of = loads-load c words profiles loads copies (at .all .loads-of) p count placement
+      load-of : (k : ℕ) → k < machinesIn c → loadAt index k ≡ load p words k
+      load-of k l =
+          at .asked .all .loads-in k (omega (arith, at .asked .all .fits .profiles-fit .in-range .machines-max))
+          ∙ loads-load c words profiles loads copies of p count placement k l
 
-      n-used : getD copies n 0 ≡ used p words n
-      n-used = copies-used c words profiles loads copies (at .all .loads-of) p (placement .profiles-of .cluster) n (at .n-below)
+      n-used : copySum c words n ≡ used p words n
+      n-used =
+          sym (of .copies-are n n-max)
+          ∙ copies-used c words profiles loads copies of p (placement .profiles-of .cluster) n (at .n-below)
 
-    -- nothing leaves a machine that has no more load, and nothing moves to a full one
-    pub nothing-level : getD loads (row .m) 0 ≤ getD loads n 0 → HitIs c words profiles (row .across) wanted Nothing
-    nothing-level l = nothing-barren (λ p count placement. go p (load-of p count placement (row .m) (at .row-in .m-below)) (load-of p count placement n (at .n-below)) (row .swapping))
+    -- nothing leaves a machine that has no more load
+    level-barren : loadAt index (row .m) ≤ loadAt index n → HitIs c words profiles (row .across) wanted Nothing
+    level-barren l = nothing-barren (λ p count placement. go p (load-of p count placement (row .m) (at .asked .row-in .m-below)) (load-of p count placement n (at .n-below)) (row .swapping))
       where
-        go : (p : Plan) → getD loads (row .m) 0 ≡ load p words (row .m) → getD loads n 0 ≡ load p words n
+        go : (p : Plan) → loadAt index (row .m) ≡ load p words (row .m) → loadAt index n ≡ load p words n
             → (swapping : Bool) → Barren p words swapping (row .m) n
         go p d e false = λ i h s. omega (arith, s .lowers)
         go p d e true = λ i j h k s. omega (arith, s .lowers)
 
-    pub nothing-full : row .swapping ≡ false → c .capacity ≤ getD copies n 0 → HitIs c words profiles (row .across) wanted Nothing
-    nothing-full moving l = nothing-barren (λ p count placement. rw moving (λ i h s. omega (arith, n-used p count placement, cluster-capacity p c (placement .profiles-of .cluster), s .room)))
+    -- and nothing moves to a full one
+    pub nothing-full : bit (row .targets) n ≡ 0 → HitIs c words profiles (row .across) wanted Nothing
+    nothing-full off = nothing-barren (λ p count placement. go p (n-used p count placement) (cluster-capacity p c (placement .profiles-of .cluster)) (row .swapping) (at .asked .targets-are n (at .n-below) .1))
+      where
+        go : (p : Plan) → copySum c words n ≡ used p words n → c .capacity ≡ p .capacity → (swapping : Bool)
+            → ((swapping ≡ false → copySum c words n < c .capacity) → bit (row .targets) n ≡ 1) → Barren p words swapping (row .m) n
+        go p d e false on = λ i h s. omega (arith, on (λ x. omega (arith, s .room)))
+        go p d e true on = λ i j h k s. omega (arith, on (λ x. no-contradiction x))
 
-    module _ (more : getD loads n 0 < getD loads (row .m) 0) where
+    module _ (more : loadAt index n < loadAt index (row .m)) where
       -- what m has more than n is the margin
       abbrev marginHere : ℕ
-      marginHere = getD loads (row .m) 0 - getD loads n 0
+      marginHere = loadAt index (row .m) - loadAt index n
 
       pub open-asked : OpenAsked c words profiles index row n marginHere
       open-asked =
           record {
-            fits = at .all .fits;
-            indexed = at .all .indexed;
-            row-in = at .row-in;
+            fits = at .asked .all .fits;
+            indexed = at .asked .all .indexed;
+            row-in = at .asked .row-in;
             n-below = at .n-below;
-            margin-narrow = omega (arith, loads-narrow c words profiles loads copies (at .all .loads-of) (at .all .fits .profiles-fit) (row .m) m-max);
+            margin-narrow = omega (arith, at .asked .all .loads-in (row .m) m-max, loads-narrow c words profiles loads copies of (at .asked .all .fits .profiles-fit) (row .m) m-max);
           }
 
       margin-is : (p : Plan) (count : ℕ → ℕ) → PlacementOf p count c words profiles → MarginOf p words (row .m) n marginHere
       margin-is p count placement given back =
-          let d = load-of p count placement (row .m) (at .row-in .m-below) in
+          let d = load-of p count placement (row .m) (at .asked .row-in .m-below) in
           let e = load-of p count placement n (at .n-below) in (
             λ h. record { gain = h .0; below = omega (arith, h .1) },
             λ h. (h .gain, omega (arith, h .below)),
           )
 
-      pub open-found : (r : Hit) → (row .swapping ≡ false → getD copies n 0 < c .capacity) → OpenFound c words profiles row n marginHere r
+      pub open-found : (r : Hit) → bit (row .targets) n ≡ 1 → OpenFound c words profiles row n marginHere r
           → HitIs c words profiles (row .across) wanted r
-      open-found r room found =
+      open-found r on found =
           record {
             sound = found .sound;
             is = λ p count placement.
                 found .is p count placement (margin-is p count placement)
-                (λ moving. omega (arith, room moving, n-used p count placement, cluster-capacity p c (placement .profiles-of .cluster)))
+                (λ moving. omega (arith, at .asked .targets-are n (at .n-below) .0 on moving, n-used p count placement, cluster-capacity p c (placement .profiles-of .cluster)))
                 (row .across)
                 ∙ this p count placement;
           }
+
+  -- whatever the kind of the route
+  pub nothing-level : loadAt index (row .m) ≤ loadAt index n → HitIs c words profiles (row .across) wanted Nothing
+  nothing-level l = go kindHere refl
+    where
+      go : (kind : Bool) → kind ≡ kindHere → HitIs c words profiles (row .across) wanted Nothing
+      go true e = level-barren e l
+      go false e = nothing-other e

@@ -2,21 +2,25 @@
 use mathlib.Core.Path.{_≡_}
 use mathlib.Core.Bool.{Bool, true, false, not, cond, Bool·beq}
 use mathlib.Core.List.{List}
+use mathlib.Core.Logic.{_↔_}
 use Prim.Native.Nat.{ℕ, _*_, _/_, _%_, _<_, _≤_}
 use lib.Dec.{eqb, leb}
+use lib.ListN.{getD}
 use Rattle.model.specs.Plan.{Plan, machines}
 use Rattle.model.specs.Refusal.{maxMachines}
+use Rattle.model.specs.Placement.{bit}
 use Rattle.theory.specs.Widths.{loadBound}
 use Rattle.model.specs.Steps.{Step as ModelStep, none, relocate, exchange, acrossRacks, first, nextStep}
 use Rattle.cluster.specs.declared.Cluster.{Cluster}
 use Rattle.cluster.specs.Cluster.{machinesIn, domainIn, InRange}
 use Rattle.cluster.specs.Blocks.{PlacementFits, PlacementOf}
-use Rattle.loads.specs.Loads.{LoadsOf}
-use Rattle.index.specs.Index.{Indexed}
+use Rattle.loads.specs.Loads.{copySum, LoadsOf}
+use Rattle.index.specs.Index.{loadAt, Indexed}
 use Rattle.transfers.specs.declared.Hit.{Hit}
-use Rattle.transfers.specs.Route.{hitOf, routeStep, Shift, HitFound, MarginOf, HasRoom}
+use Rattle.transfers.specs.Route.{hitOf, routeStep, HitFound, MarginOf, HasRoom}
 use Rattle.search.specs.declared.Step.{Step}
 use Rattle.search.specs.declared.Step.the-variants.{Rest, Move, Swap, RackMove, RackSwap}
+use Rattle.search.specs.declared.Found.{Found}
 use Rattle.search.specs.declared.Row.{Row}
 
 -- The answer as the model's step.
@@ -27,23 +31,9 @@ stepOf (Swap m n i j) = exchange false m n i j
 stepOf (RackMove m n i) = relocate true m n i
 stepOf (RackSwap m n i j) = exchange true m n i j
 
--- What an answer names can be carried out: block i from m to n, and of an exchange block j from n to m.
-abbrev pub Found : Cluster → List ℕ → Step → Type 0
-Found c words Rest = Unit
-Found c words (Move m n i) = Shift c words m n i
-Found c words (Swap m n i j) = Shift c words m n i × Shift c words n m j
-Found c words (RackMove m n i) = Shift c words m n i
-Found c words (RackSwap m n i j) = Shift c words m n i × Shift c words n m j
-
--- The next step of the definition, which can be carried out.
-pub record NextFound (c : Cluster) (words profiles : List ℕ) (r : Step) : Type 0 where
-  pub sound : Found c words r
-  pub is : (p : Plan) (count : ℕ → ℕ) → PlacementOf p count c words profiles → stepOf r ≡ nextStep p words
-
--- A find as an answer.
-pub record AnswerOf (hit : Hit) (across : Bool) (r : Step) : Type 0 where
-  pub is : stepOf r ≡ hitOf across hit
-  pub sound : (c : Cluster) (words : List ℕ) → HitFound c words hit → Found c words r
+-- A find as the model's step.
+abbrev pub foundOf : Found → ModelStep
+foundOf found = hitOf (found .across) (found .hit)
 
 -- Whether n is of the kind: `low` is the first machine of m's rack.
 pub record KindAsked (low size : ℕ) : Type 0 where
@@ -76,11 +66,33 @@ rowOf p words swapping across m = first (machines p) (routeOf p words swapping a
 unfoldable pub kindStep : Plan → List ℕ → Bool → Bool → ModelStep
 kindStep p words swapping across = first (machines p) (rowOf p words swapping across)
 
--- A placement with its index, its loads and its copies.
-pub record SearchAsked (c : Cluster) (words profiles index loads copies : List ℕ) : Type 0 where
+-- A placement with its index, in which its loads stand, too.
+pub record SearchAsked (c : Cluster) (words profiles index : List ℕ) : Type 0 where
   pub fits : PlacementFits c words profiles
   pub indexed : Indexed c words profiles index
+  pub loads : List ℕ
+  pub copies : List ℕ
   pub loads-of : LoadsOf c words profiles loads copies
+  pub loads-in : (m : ℕ) → m < maxMachines → loadAt index m ≡ getD loads m 0
+
+-- With the copies on each machine.
+pub record FindAsked (c : Cluster) (words profiles index copies : List ℕ) : Type 0 where
+  pub all : SearchAsked c words profiles index
+  pub copies-are : copies ≡ all .copies
+
+-- Of the machines before `end` those with room are the set bits of r.
+pub record RoomTo (c : Cluster) (copies : List ℕ) (end r : ℕ) : Type 0 where
+  pub is : (n : ℕ) → n < end → (bit r n ≡ 1) ↔ (getD copies n 0 < c .capacity)
+  pub past : (n : ℕ) → end ≤ n → bit r n ≡ 0
+
+-- The machines that an exchange may lead to are all, and a move those with room.
+abbrev pub TargetsOf : Cluster → List ℕ → Bool → ℕ → Type 0
+TargetsOf c words swapping targets =
+    (n : ℕ) → n < machinesIn c → (bit targets n ≡ 1) ↔ (swapping ≡ false → copySum c words n < c .capacity)
+
+pub record KindSearchAsked (c : Cluster) (words profiles index : List ℕ) (kind targets : ℕ) : Type 0 where
+  pub all : SearchAsked c words profiles index
+  pub targets-are : TargetsOf c words (isExchange kind) targets
 
 -- A machine of the cluster, and where its rack starts.
 pub record RowIn (c : Cluster) (row : Row) : Type 0 where
@@ -100,13 +112,13 @@ pub record EndsAt (c : Cluster) (row : Row) (r : ℕ) : Type 0 where
   pub within : r ≤ machinesIn c
   pub past : (n : ℕ) → r ≤ n → n < machinesIn c → kindAt c row n ≡ false
 
-pub record RowAsked (c : Cluster) (words profiles index loads copies : List ℕ) (row : Row) : Type 0 where
-  pub all : SearchAsked c words profiles index loads copies
+pub record RowAsked (c : Cluster) (words profiles index : List ℕ) (row : Row) : Type 0 where
+  pub all : SearchAsked c words profiles index
   pub row-in : RowIn c row
+  pub targets-are : TargetsOf c words (row .swapping) (row .targets)
 
-pub record RouteAt (c : Cluster) (words profiles index loads copies : List ℕ) (row : Row) (n : ℕ) : Type 0 where
-  pub all : SearchAsked c words profiles index loads copies
-  pub row-in : RowIn c row
+pub record RouteAt (c : Cluster) (words profiles index : List ℕ) (row : Row) (n : ℕ) : Type 0 where
+  pub asked : RowAsked c words profiles index row
   pub n-below : n < machinesIn c
 
 -- The row's machine and n, and what it has more in load.
@@ -127,3 +139,7 @@ pub record OpenFound (c : Cluster) (words profiles : List ℕ) (row : Row) (n ma
 pub record HitIs (c : Cluster) (words profiles : List ℕ) (across : Bool) (wanted : Plan → ModelStep) (r : Hit) : Type 0 where
   pub sound : HitFound c words r
   pub is : (p : Plan) (count : ℕ → ℕ) → PlacementOf p count c words profiles → hitOf across r ≡ wanted p
+
+-- And that is the next step of the definition.
+abbrev pub NextFound : Cluster → List ℕ → List ℕ → Found → Type 0
+NextFound c words profiles r = HitIs c words profiles (r .across) (λ p. nextStep p words) (r .hit)

@@ -1,11 +1,15 @@
 // The next step of the definition: the first Move, Swap, RackMove or RackSwap, by machines and blocks lowest first.
 use cluster::Cluster;
+use index::LOADS_AT;
 use transfers::Hit;
 use transfers::Route;
 ghost use mathlib.Core.Path.{_≡_};
 ghost use Prim.Native.Nat.{_%_, _≤_};
-ghost use Rattle.cluster.specs.Cluster.{InRange};
-ghost use Rattle.search.specs.Scene.{isExchange, isAcross, NextFound, AnswerOf, KindAsked, OfKind, PartedOf, OpenAsked, OpenFound, routeOf, rowOf, kindStep, SearchAsked, RowIn, StartsAt, EndsAt, RowAsked, RouteAt, HitIs};
+ghost use lib.ListN.{length};
+ghost use Rattle.model.specs.Refusal.{maxMachines};
+ghost use Rattle.model.specs.Steps.{isStep};
+ghost use Rattle.cluster.specs.Cluster.{machinesIn, InRange};
+ghost use Rattle.search.specs.Scene.{isExchange, isAcross, stepOf, foundOf, NextFound, KindAsked, OfKind, PartedOf, OpenAsked, OpenFound, routeOf, rowOf, kindStep, FindAsked, RoomTo, KindSearchAsked, RowIn, StartsAt, EndsAt, RowAsked, RouteAt, HitIs};
 
 // A step, or rest. Block i goes from m to n, of an exchange block j from n to m; m and n of a RackMove or RackSwap lie in
 // different racks.
@@ -35,18 +39,31 @@ pub enum Step {
     },
 }
 
-// A kind of step and the machine m that it leaves, whose rack starts at `low`.
+// A kind of step and the machine m that it leaves, whose rack starts at `low`; the machines that the kind may lead to are the set bits of
+// `targets`.
 struct Row {
     swapping: bool,
     across: bool,
     low: usize,
     m: usize,
+    targets: u64,
 }
 
-// A find as an answer.
-fn as_step(hit: Hit, across: bool) -> Step
-    ensures { λ r. ⌜ AnswerOf hit across r ⌝ }
+// Every machine, as targets.
+const ALL: u64 = 18446744073709551615;
+
+// What was found, and whether its machines lie in different racks.
+pub struct Found {
+    pub across: bool,
+    pub hit: Hit,
+}
+
+// A find as the answer, with its kind.
+pub fn as_step(found: Found) -> Step
+    ensures { λ r. ⌜ stepOf r ≡ foundOf found ⌝ }
 {
+    let across = found.across;
+    let hit = found.hit;
     match hit {
         Hit::Nothing => Step::Rest,
         Hit::Move { m, n, i } => {
@@ -62,6 +79,14 @@ fn as_step(hit: Hit, across: bool) -> Step
             Step::Swap { m, n, i, j }
         }
     }
+}
+
+// Whether a step was found.
+fn is_step(found: Found) -> bool
+    ensures { λ r. ⌜ isStep (foundOf found) ≡ r ⌝ }
+{
+    let hit = found.hit;
+    transfers::is_found(hit)
 }
 
 // Whether n lies in another rack than the one that starts at `low`, or in that one, as the kind wants.
@@ -126,34 +151,32 @@ fn find_open(
     transfers::find(words, profiles, index, cluster, route, row.swapping)
 }
 
-// The first step of the row's kind from its machine to n.
+// The first step of the row's kind from its machine to n. The loads are compared first: they rule out half of all routes.
 fn find_route(
     words: &[u64],
     profiles: &[u64],
     index: &[u64],
-    loads: &[u64],
-    copies: &[usize],
     cluster: Cluster,
     row: Row,
     n: usize,
 ) -> Hit
-    requires { ⌜ RouteAt cluster (now words) (now profiles) (now index) (now loads) (now copies) row n ⌝ }
+    requires { ⌜ RouteAt cluster (now words) (now profiles) (now index) row n ⌝ }
     ensures { λ r. ⌜ HitIs cluster (now (words .entry)) (now (profiles .entry)) (row .across)
         (λ p. routeOf p (now (words .entry)) (row .swapping) (row .across) (row .m) n) r ⌝ }
 {
     let m = row.m;
+    let from = index[LOADS_AT + m];
+    let to = index[LOADS_AT + n];
+    if from <= to {
+        return Hit::Nothing;
+    }
     if !of_kind(row.low, cluster.rack_size, n, row.across) {
         return Hit::Nothing;
     }
-    if loads[m] <= loads[n] {
+    if bits::bit_at(row.targets, n) == 0 {
         return Hit::Nothing;
     }
-    if !row.swapping {
-        if cluster.capacity <= copies[n] {
-            return Hit::Nothing;
-        }
-    }
-    find_open(words, profiles, index, cluster, row, n, loads[m] - loads[n])
+    find_open(words, profiles, index, cluster, row, n, from - to)
 }
 
 // The first machine that a step of the row's kind can lead to: its rack's first one, or any.
@@ -178,23 +201,15 @@ fn row_end(cluster: Cluster, row: Row) -> usize
 }
 
 // The first step of the row's kind from its machine.
-fn find_row(
-    words: &[u64],
-    profiles: &[u64],
-    index: &[u64],
-    loads: &[u64],
-    copies: &[usize],
-    cluster: Cluster,
-    row: Row,
-) -> Hit
-    requires { ⌜ RowAsked cluster (now words) (now profiles) (now index) (now loads) (now copies) row ⌝ }
+fn find_row(words: &[u64], profiles: &[u64], index: &[u64], cluster: Cluster, row: Row) -> Hit
+    requires { ⌜ RowAsked cluster (now words) (now profiles) (now index) row ⌝ }
     ensures { λ r. ⌜ HitIs cluster (now (words .entry)) (now (profiles .entry)) (row .across)
         (λ p. rowOf p (now (words .entry)) (row .swapping) (row .across) (row .m)) r ⌝ }
 {
     let end = row_end(cluster, row);
     let mut n = row_start(row);
     while n < end {
-        let hit = find_route(words, profiles, index, loads, copies, cluster, row, n);
+        let hit = find_route(words, profiles, index, cluster, row, n);
         if transfers::is_found(hit) {
             return hit;
         }
@@ -203,19 +218,18 @@ fn find_row(
     Hit::Nothing
 }
 
-// The first step of the kind: 0 Move, 1 Swap, 2 RackMove, 3 RackSwap.
+// The first step of the kind, 0 Move, 1 Swap, 2 RackMove or 3 RackSwap, to one of the targets.
 fn find_kind(
     words: &[u64],
     profiles: &[u64],
     index: &[u64],
-    loads: &[u64],
-    copies: &[usize],
     cluster: Cluster,
     kind: u8,
-) -> Hit
-    requires { ⌜ SearchAsked cluster (now words) (now profiles) (now index) (now loads) (now copies) ⌝ }
-    ensures { λ r. ⌜ HitIs cluster (now (words .entry)) (now (profiles .entry)) (isAcross kind)
-        (λ p. kindStep p (now (words .entry)) (isExchange kind) (isAcross kind)) r ⌝ }
+    targets: u64,
+) -> Found
+    requires { ⌜ KindSearchAsked cluster (now words) (now profiles) (now index) kind targets ⌝ }
+    ensures { λ r. ⌜ HitIs cluster (now (words .entry)) (now (profiles .entry)) (r .across)
+        (λ p. kindStep p (now (words .entry)) (isExchange kind) (isAcross kind)) (r .hit) ⌝ }
 {
     let swapping = kind % 2 == 1;
     let across = 2 <= kind;
@@ -229,14 +243,35 @@ fn find_kind(
             across,
             low,
             m,
+            targets,
         };
-        let hit = find_row(words, profiles, index, loads, copies, cluster, row);
+        let hit = find_row(words, profiles, index, cluster, row);
         if transfers::is_found(hit) {
-            return hit;
+            return Found { across, hit };
         }
         m += 1;
     }
-    Hit::Nothing
+    Found {
+        across,
+        hit: Hit::Nothing,
+    }
+}
+
+// The machines with fewer copies than they can hold, as the set bits of a word.
+fn with_room(copies: &[usize], cluster: Cluster) -> u64
+    requires { ⌜ InRange cluster × (length (now copies) ≡ maxMachines) ⌝ }
+    ensures { λ r. ⌜ RoomTo cluster (now (copies .entry)) (machinesIn cluster) r ⌝ }
+{
+    let machines = cluster.machines();
+    let mut room: u64 = 0;
+    let mut n: usize = 0;
+    while n < machines {
+        if copies[n] < cluster.capacity {
+            room = bits::with_bit(room, n);
+        }
+        n += 1;
+    }
+    room
 }
 
 // The next step, the first by kind: Move, Swap, RackMove, RackSwap.
@@ -244,25 +279,24 @@ pub fn find(
     words: &[u64],
     profiles: &[u64],
     index: &[u64],
-    loads: &[u64],
     copies: &[usize],
     cluster: Cluster,
-) -> Step
-    requires { ⌜ SearchAsked cluster (now words) (now profiles) (now index) (now loads) (now copies) ⌝ }
+) -> Found
+    requires { ⌜ FindAsked cluster (now words) (now profiles) (now index) (now copies) ⌝ }
     ensures { λ r. ⌜ NextFound cluster (now (words .entry)) (now (profiles .entry)) r ⌝ }
 {
-    let near = find_kind(words, profiles, index, loads, copies, cluster, 0);
-    if transfers::is_found(near) {
-        return as_step(near, false);
+    let room = with_room(copies, cluster);
+    let near = find_kind(words, profiles, index, cluster, 0, room);
+    if is_step(near) {
+        return near;
     }
-    let swap = find_kind(words, profiles, index, loads, copies, cluster, 1);
-    if transfers::is_found(swap) {
-        return as_step(swap, false);
+    let swap = find_kind(words, profiles, index, cluster, 1, ALL);
+    if is_step(swap) {
+        return swap;
     }
-    let far = find_kind(words, profiles, index, loads, copies, cluster, 2);
-    if transfers::is_found(far) {
-        return as_step(far, true);
+    let far = find_kind(words, profiles, index, cluster, 2, room);
+    if is_step(far) {
+        return far;
     }
-    let last = find_kind(words, profiles, index, loads, copies, cluster, 3);
-    as_step(last, true)
+    find_kind(words, profiles, index, cluster, 3, ALL)
 }

@@ -2,10 +2,8 @@
 -- Assumes nothing.
 use borrow.Author.Needs.{needs}
 use mathlib.Core.Path.{ap, _∙_}
-use denote.Ref.{now}
 use Rattle.model.specs.Steps.{after}
 use Rattle.index.proofs.Laws.{blank-cleared}
-use Rattle.balance.proofs.Laws.{take-asked}
 use Rattle.balance.proofs.step.Statement.{statement}
 use Rattle.balance.proofs.step.Tie as tie
 
@@ -21,16 +19,21 @@ slice-aggregate-look c = search needs
 look-requires : tie.Need-look-requires
 look-requires c κs = search needs
 
-take-step-requires : tie.Need-take-step-requires
-take-step-requires c κs = take-asked (c .before .before .before .before .before .before .before .before .before .before .pre .fits) (c .before .before .look .ensures .0)
+follow-requires : tie.Need-follow-requires
+follow-requires c κs = search needs
+
+as-step-requires : tie.Need-as-step-requires
+as-step-requires c κs = search needs
 
 same-length : tie.Need-same-length
 same-length c = search needs
 
 returns : tie.Need-returns
 returns c p count at =
-    let step = c .before .before .before .before .before .look .ensures .0 .is p count at in
-    record { step-is = step; words-are = c .before .before .take-step .ensures ∙ ap (after (now (c .before .before .before .before .before .before .before .before .before .before .before .before .before .args .words))) step }
+    let looked = c .before .before .before .before .before .before in
+    let next = looked .look .ensures .0 .is p count at in
+    let followed = c .before .before .before .follow .ensures in
+    record { step-is = c .as-step .ensures ∙ next; words-are = followed .words-are _ ∙ ap (after _) next }
 
 pub step-spec : {M : Type 1} → statement M
 step-spec =
@@ -40,6 +43,7 @@ step-spec =
     start-requires
     slice-aggregate-look
     look-requires
-    take-step-requires
+    follow-requires
+    as-step-requires
     same-length
     returns)

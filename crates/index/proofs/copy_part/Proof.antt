@@ -9,10 +9,10 @@ use Rattle.index.proofs.copy_part.Statement.{statement}
 use Rattle.index.proofs.copy_part.Tie as tie
 
 abbrev Inv-loop : tie.InvT-loop
-Inv-loop index₀ part from blocks k₀ index k = (k ≤ blocks) × Written index₀ part (part + k) (λ j. getD from (j - part) 0) index
+Inv-loop index₀ part from count k₀ index k = (k ≤ count) × Written index₀ part (part + k) (λ j. getD from (j - part) 0) index
 
 abbrev μ-loop : tie.MeasureT-loop
-μ-loop index₀ part from blocks k₀ index k = blocks - k
+μ-loop index₀ part from count k₀ index k = count - k
 
 loop-holds : tie.Need-loop-holds Inv-loop μ-loop
 loop-holds c =

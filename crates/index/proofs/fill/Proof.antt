@@ -58,11 +58,11 @@ module _ {c : Cluster} {profiles entry words index : List ℕ} {i : ℕ} (few : 
       }
 
 -- with every block passed
-filling-done : {c : Cluster} {profiles entry words index : List ℕ} → Filling entry words index (c .blocks) → Ordered c profiles entry
+filling-done : {c : Cluster} {profiles entry words index : List ℕ} → c .blocks ≤ maxBlocks → Filling entry words index (c .blocks) → Ordered c profiles entry
     → Indexed c words profiles index
-filling-done past order =
+filling-done few past order =
     record {
-      ordered = ordered-kept (past .sized) (past .kept) order;
+      ordered = ordered-kept few (past .sized) (λ k l h. past .kept k l) order;
       by-number = past .number .is;
       by-rank = λ m i ml l. rw (past .kept (ranksAt + i) (omega arith)) (past .rank .is m i ml l);
     }
@@ -125,7 +125,7 @@ returns : tie.Need-returns Inv-loop μ-loop
 returns c =
     let at = c .before .before in
     let done : at .loop .i ≡ start at .args .cluster .blocks = omega arith in
-    λ profiles ordered. filling-done (rw done at (at .loop .inv .0)) ordered
+    λ profiles ordered. filling-done (start at .pre .in-range .blocks-max) (rw done at (at .loop .inv .0)) ordered
 
 pub fill-spec : {M : Type 1} → statement M
 fill-spec =

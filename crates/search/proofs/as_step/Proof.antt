@@ -14,43 +14,26 @@ enum-known-hit c = search needs
 
 returns : tie.Need-returns
 unfolding stepOf hitOf
-returns c =
-    record {
-      is = rw (c .before .before .hit .given .1, c .if1 .taken);
-      sound = λ cluster words h. rw (c .before .before .hit .given .1) at h;
-    }
+returns c = rw (c .before .before .hit .given .1, c .if1 .taken)
 
 enum-known-hit-2 : tie.Need-enum-known-hit-2
 enum-known-hit-2 c = search needs
 
 returns-2 : tie.Need-returns-2
 unfolding stepOf hitOf
-returns-2 c =
-    record {
-      is = rw (c .before .before .hit2 .given .1, c .if2 .taken);
-      sound = λ cluster words h. rw (c .before .before .hit2 .given .1) at h;
-    }
+returns-2 c = rw (c .before .before .hit2 .given .1, c .if2 .taken)
 
 returns-3 : tie.Need-returns-3
 unfolding stepOf hitOf
-returns-3 c =
-    record { is = rw (c .enum-told .given .1); sound = λ cluster words h. tt }
+returns-3 c = rw (c .enum-told .given .1)
 
 returns-4 : tie.Need-returns-4
 unfolding stepOf hitOf
-returns-4 c =
-    record {
-      is = rw (c .before .before .hit .given .1, c .if1 .left);
-      sound = λ cluster words h. rw (c .before .before .hit .given .1) at h;
-    }
+returns-4 c = rw (c .before .before .hit .given .1, c .if1 .left)
 
 returns-5 : tie.Need-returns-5
 unfolding stepOf hitOf
-returns-5 c =
-    record {
-      is = rw (c .before .before .hit2 .given .1, c .if2 .left);
-      sound = λ cluster words h. rw (c .before .before .hit2 .given .1) at h;
-    }
+returns-5 c = rw (c .before .before .hit2 .given .1, c .if2 .left)
 
 pub as-step-spec : {M : Type 1} → statement M
 as-step-spec =

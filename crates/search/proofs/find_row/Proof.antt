@@ -12,15 +12,15 @@ use Rattle.search.proofs.find_row.Statement.{statement}
 use Rattle.search.proofs.find_row.Tie as tie
 
 abbrev Inv-loop : tie.InvT-loop
-Inv-loop words profiles index loads copies cluster row end n₀ n =
+Inv-loop words profiles index cluster row end n₀ n =
     Passed cluster words profiles (λ p. routeOf p words (row .swapping) (row .across) (row .m)) n
 
 abbrev μ-loop : tie.MeasureT-loop
-μ-loop words profiles index loads copies cluster row end n₀ n = end - n
+μ-loop words profiles index cluster row end n₀ n = end - n
 
 row-end-requires : tie.Need-row-end-requires Inv-loop μ-loop
 row-end-requires c κs =
-    let asked = c .before .before .before .before .before .pre in
+    let asked = c .before .before .before .pre in
     (asked .all .fits .profiles-fit .in-range, asked .row-in)
 
 row-start-requires : tie.Need-row-start-requires Inv-loop μ-loop
@@ -29,21 +29,21 @@ row-start-requires c κs = search needs
 -- before the row's first machine none is of its kind
 loop-holds : tie.Need-loop-holds Inv-loop μ-loop
 loop-holds c =
-    let start = c .before .before .before .before .before .before .before in
-    let a = start .args in
-    let asked = start .pre in
+    let entry = c .before .before .before .before .before in
+    let a = entry .args in
+    let asked = entry .pre in
     let from = c .row-start .ensures (a .cluster) (asked .all .fits .profiles-fit .in-range) (asked .row-in) in
     record { within = from .0; none-at = λ k l. kindAt-other (a .cluster) _ _ (a .row) k (from .1 k l) }
 
 -- the machine in the loop is one of the cluster
 below : (c : tie.In-loop Inv-loop μ-loop)
-    → c .before .loop .n < machinesIn (c .before .before .before .before .before .before .before .before .before .args .cluster)
+    → let entry = c .before .before .before .before .before .before .before in c .before .loop .n < machinesIn (entry .args .cluster)
 below c = omega (arith, c .loop-test .taken, c .before .before .before .row-end .ensures .within)
 
 find-route-requires : tie.Need-find-route-requires Inv-loop μ-loop
 find-route-requires c κs =
-    let asked = c .before .before .before .before .before .before .before .before .before .pre in
-    record { all = asked .all; row-in = asked .row-in; n-below = below c }
+    let entry = c .before .before .before .before .before .before .before in
+    record { asked = entry .pre; n-below = below c }
 
 is-found-requires : tie.Need-is-found-requires Inv-loop μ-loop
 is-found-requires c κs = search needs
@@ -70,7 +70,8 @@ returns-2 : tie.Need-returns-2 Inv-loop μ-loop
 unfolding rowOf
 returns-2 c =
     let ends = c .before .before .before .row-end .ensures in
-    let a = c .before .before .before .before .before .before .before .before .before .args in
+    let entry = c .before .before .before .before .before .before .before in
+    let a = entry .args in
     passed-rest (c .before .loop .inv) _
     (λ k l h. kindAt-other (a .cluster) _ _ (a .row) k (ends .past k (omega (arith, c .loop-test .left)) h))
 
