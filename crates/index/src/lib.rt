@@ -41,11 +41,9 @@ pub fn start(index: &mut [u64], profiles: &[u64], cluster: Cluster)
     ensures { λ r. ⌜ Ordered cluster (now (profiles .entry)) (now (index .exit)) × Cleared (now (index .exit)) ⌝ }
 {
     let mut keys = [0u64; MAX_BLOCKS];
-    let mut ranks = [0u64; MAX_BLOCKS];
     ranking::rank(profiles, cluster, &mut keys[..]);
-    ranking::ranks(&keys[..], cluster, &mut ranks[..]);
     copy_part(index, KEYS_AT, &keys[..], cluster.blocks);
-    copy_part(index, RANKS_AT, &ranks[..], cluster.blocks);
+    ranking::ranks(&keys[..], cluster, &mut index[RANKS_AT..LOADS_AT]);
 }
 
 // The bit sets emptied; the order stays.
