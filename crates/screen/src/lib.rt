@@ -85,7 +85,7 @@ fn sweep_word(a: u64, b: u64, index: &[u64], base: usize, margin: u64, start: Sw
         sweep = sweep_block(
             sweep,
             own,
-            ranking::key_share(index[KEYS_AT + base + t]),
+            ranking::key_share(index[KEYS_AT + (base + t)]),
             margin,
         );
         if sweep.found {

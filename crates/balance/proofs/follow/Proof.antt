@@ -41,7 +41,8 @@ same-length c = search needs
 
 returns-2 : tie.Need-returns-2
 returns-2 c =
-    rw (c .before .before .before .before .before .hit .given .1) (c .before .before .shift .ensures)
+    let shifted = c .before .before in
+    rw (shifted .before .before .before .hit .given .1) (shifted .shift .ensures)
 
 same-length-2 : tie.Need-same-length-2
 same-length-2 c = search needs

@@ -73,8 +73,9 @@ loop-again c =
     let looked = passed .before .before .before .before in
     let at = looked .before .before .before .before .loop .inv in
     let found = looked .look .ensures in
-    let followed = c .before .before .before .before .before .before .follow .ensures in
-    let cleared = c .before .before .clear .ensures in (
+    let clearing = c .before .before in
+    let cleared = clearing .clear .ensures in
+    let followed = clearing .before .before .before .before .follow .ensures in (
       rw (followed .words-are (looked .look .result .across)) (along-more (at .0) (found .0) (looked .before .before .before .loop-test .taken) (passed .before .is-found .ensures _ ∙ not-false _ (passed .if1 .left))),
       record {
         asked = followed .loads-follow _ (at .1 .asked) (found .0 .sound);

@@ -12,15 +12,12 @@ use borrow.Author.Needs.{needs}
 use borrow.Author.Tests.{eqb-true, eqb-false}
 use denote.Ref.{now}
 use lib.Dec.{eqb}
-use lib.ListN.{getD}
 use lib.Pow.{pow-pos}
 use Rattle.order.proofs.Sums.{delta-same, delta-other}
 use Rattle.order.proofs.Booleans.{no-contradiction}
 use Rattle.model.specs.Placement.{bit}
 use Rattle.theory.proofs.Placement.{bit-le, bit-take, bit-zero}
 use Rattle.bits.specs.Words.{Lowest}
-use Rattle.ranking.specs.Ranks.{keyShare}
-use Rattle.index.specs.Index.{keysAt}
 use Rattle.ranking.proofs.Laws.{keyShare-narrow}
 use Rattle.screen.specs.declared.Sweep.{Sweep}
 use Rattle.screen.specs.Screen.{Side, SweptBelow, SharesRise, Bits}
@@ -125,7 +122,8 @@ mul-key-share c = search needs
 
 shared-slice-read-key-share : tie.Need-shared-slice-read-key-share Inv-loop μ-loop
 shared-slice-read-key-share c =
-    let asked = c .before .before .before .before .before .before .before .pre in
+    let entry = c .before .before .before .before .before .before .before in
+    let asked = entry .pre in
     omega (arith, asked .room, asked .sized, c .before .before .lowest .ensures .below)
 
 key-share-requires : tie.Need-key-share-requires Inv-loop μ-loop
@@ -143,11 +141,15 @@ returns : tie.Need-returns Inv-loop μ-loop
 returns c mine theirs blocks rises bits swept shut = no-contradiction (sym (c .if1 .taken) ∙ shut)
 
 without-bit-requires : tie.Need-without-bit-requires Inv-loop μ-loop
-without-bit-requires c κs = let low = c .before .before .before .before .before .lowest .ensures in (low .below, low .on)
+without-bit-requires c κs =
+    let turn = c .before .before .before .before .before in
+    let low = turn .lowest .ensures in
+    (low .below, low .on)
 
 loop-less : tie.Need-loop-less Inv-loop μ-loop
 loop-less c =
-    let low = c .before .before .before .before .before .before .lowest in
+    let turn = c .before .before .before .before .before .before in
+    let low = turn .lowest in
     let at = c .before .before .before .before .before .before .before .before in
     omega (arith, c .without-bit .ensures, bit-take (at .loop .rest) (low .result) (low .ensures .on) .0, pow-pos (low .result))
 
@@ -164,7 +166,7 @@ loop-again c =
     let left = inv .2 in
     let from = from-c (a .a) (a .b) (at .loop .rest) (inv .0) t left (low .ensures .on) in
     let odd : (bit (a .a) t + bit (a .b) t) % 2 ≡ 1 = sym (left .ahead t (low .ensures .below) from) ∙ low .ensures .on in
-    let at-rank = call .before .key-share .ensures ∙ ap (λ (k : ℕ). keyShare (getD index k 0)) (add-assoc keysAt (a .base) t) in (
+    let at-rank = call .before .key-share .ensures in (
       t + 1,
       omega (arith, low .ensures .below),
       cleared (a .a) (a .b) (at .loop .rest) (inv .0) t _ left (low .ensures) (c .without-bit .ensures),

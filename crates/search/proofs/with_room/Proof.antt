@@ -40,7 +40,9 @@ add-n : tie.Need-add-n Inv-loop μ-loop
 add-n c = omega (arith, c .before .before .before .loop-test .taken)
 
 loop-less : tie.Need-loop-less Inv-loop μ-loop
-loop-less c = omega (arith, c .before .before .before .loop-test .taken, c .before .before .before .before .before .machines .ensures)
+loop-less c =
+    let turn = c .before .before .before in
+    omega (arith, turn .loop-test .taken, turn .before .before .machines .ensures)
 
 loop-again : tie.Need-loop-again Inv-loop μ-loop
 loop-again c =
