@@ -30,7 +30,7 @@ pub record Prepared (p : Plan) (count : ℕ → ℕ) (c : Cluster) (profiles : L
 abbrev pub PreparedChosen : Plan → Cluster → List ℕ → ℕ → Type 0
 PreparedChosen p = Prepared p (chosen p)
 
--- A plan that passes rows 1 to 12 with so many items lent.
+-- A plan that passes rows 1 to 12, 17, 22 and 23 with so many items lent.
 pub record PlanReady (bytes : List ℕ) (lent : ℕ) (profiles : List ℕ) (r : Intake) : Type 0 where
   pub plan : Plan
   pub reads : judge bytes ≡ accepted plan

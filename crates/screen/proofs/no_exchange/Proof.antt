@@ -40,7 +40,7 @@ shared-slice-read-sweep-word c =
     omega (arith, asked .sized, asked .m-below, asked .in-range .blocks-max, c .before .if1 .taken)
 
 mul-sweep-word-3 : tie.Need-mul-sweep-word-3 Inv-loop μ-loop
-mul-sweep-word-3 c = omega (arith, c .before .before .before .before .before .pre .n-below)
+mul-sweep-word-3 c = let asked = c .before .before .before .before .before .pre in omega (arith, asked .n-below)
 
 add-sweep-word-2 : tie.Need-add-sweep-word-2 Inv-loop μ-loop
 add-sweep-word-2 c = let asked = c .before .before .before .before .before .pre in omega (arith, asked .n-below, asked .in-range .blocks-max, c .before .if1 .taken)

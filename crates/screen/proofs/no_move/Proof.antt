@@ -72,7 +72,8 @@ add-next c = search needs
 next-requires-2 : tie.Need-next-requires-2 Inv-loop μ-loop
 next-requires-2 c κs =
     let inside = c .before .before .before in
-    asked-from _ _ _ _ _ (inside .before .before .before .before .before .pre) _ (omega (arith, inside .if1 .taken))
+    let asked = inside .before .before .before .before .before .pre in
+    asked-from _ _ _ _ _ asked _ (omega (arith, inside .if1 .taken))
 
 loop-less : tie.Need-loop-less Inv-loop μ-loop
 loop-less c = omega (arith, c .before .before .before .before .if1 .taken, c .next2 .ensures .at-least)

@@ -85,9 +85,10 @@ mul-returnable-2 c = search needs
 
 shared-slice-read-returnable-2 : tie.Need-shared-slice-read-returnable-2
 shared-slice-read-returnable-2 c =
-    let start = c .before .before .before .before .before .before .before .before .before in
+    let linked = c .before .before .before .before .before in
+    let start = linked .before .before .before .before in
     let asked = start .pre in
-    omega (arith, c .before .before .before .before .before .linked-to .ensures, linked-below (asked .fits) _ (asked .i-below), asked .fits .profiles-fit .room)
+    omega (arith, linked .linked-to .ensures, linked-below (asked .fits) _ (asked .i-below), asked .fits .profiles-fit .room)
 
 returnable-requires : tie.Need-returnable-requires
 returnable-requires c κs =
