@@ -3,13 +3,9 @@
 use crate::optimised::State;
 use crate::plans::{Pairs, Size, LARGEST};
 use crate::reads::{full_list, tick_that_drops, Call};
-use crate::sides::{
-    compared, first_words, on_words_timed, run_timed, step_timed, written_timed, Answer, Side,
-    LIBRARY,
-};
+use crate::sides::{compared, first_words, run_timed, step_timed, Answer, Side, LIBRARY};
 use crate::table::Table;
 use crate::timing::{ratio, shown, timed};
-use placement_reference::changes::Entries;
 use placement_reference::gen::Draft;
 use placement_reference::plan::read;
 use placement_reference::samples::{h, y};
@@ -442,88 +438,6 @@ pub fn feeds(steps: u32) {
         for number in fewer {
             feeds_rows(&mut table, on_feeds(*number), steps);
         }
-    }
-    table.print();
-}
-
-/// A hall as a change leaves it: the next plan's bytes, and the words.
-type Left = (Vec<u8>, Vec<u64>);
-
-/// The deletion of block 0, with the other one of its pair where it has one, and the next plan's bytes.
-fn deletion_rows(add: &mut impl FnMut(&str, [f64; 3]), bytes: &[u8], words: &[u64]) -> Left {
-    let deletion = compared("deletion", |side| {
-        on_words_timed(words, |lent| (side.delete)(bytes, 0, lent))
-    });
-    add("deletion", deletion.0);
-    let without = compared("plan without", |side| {
-        written_timed(|buffer| (side.plan_without)(bytes, 0, buffer))
-    });
-    add("plan without", without.0);
-    (without.1, deletion.1 .1)
-}
-
-/// The arrival of a block with three copies on three racks, and the next plan's bytes.
-fn arrival_rows(add: &mut impl FnMut(&str, [f64; 3]), bytes: &[u8], words: &[u64]) -> Left {
-    let new = Entries {
-        popularity: 1 << 23,
-        least: 3,
-        spread: 3,
-    };
-    let arrival = compared("arrival", |side| {
-        on_words_timed(words, |lent| (side.arrive)(bytes, new, lent))
-    });
-    add("arrival", arrival.0);
-    let with = compared("plan with", |side| {
-        written_timed(|buffer| (side.plan_with)(bytes, new, buffer))
-    });
-    add("plan with", with.0);
-    (with.1, arrival.1 .1)
-}
-
-/// The check in either hall; then a block goes and one comes; then a short run as in a running hall.
-fn changes_rows(table: &mut Table, size: Size, steps: u32) {
-    let mut add = |call: &str, times: [f64; 3]| {
-        let version = size.version().to_string();
-        let own = [call, &version, size.pairing()].map(str::to_string);
-        row(table, &own, times);
-    };
-    let bytes = size.fine();
-    let words = first_words(&bytes, size.blocks);
-    let check = compared("check", |side| timed(|| (side.check)(&bytes, &words)));
-    add("check, as planned", check.0);
-    let check = compared("check", |side| {
-        timed(|| (side.check_running)(&bytes, &words))
-    });
-    add("check, running", check.0);
-    let (bytes, words) = deletion_rows(&mut add, &bytes, &words);
-    let (bytes, words) = arrival_rows(&mut add, &bytes, &words);
-    let run = compared("run", |side| {
-        on_words_timed(&words, |lent| (side.run_running)(&bytes, lent, steps))
-    });
-    let taken = f64::from(run.1 .0 .1.max(1));
-    add("step of a run, running", run.0.map(|time| time / taken));
-}
-
-/// Recordings come and go in the largest hall.
-pub fn changes(steps: u32) {
-    println!("## Recordings come and go\n");
-    println!("64 machines, 1,024 blocks, spreads mixed, popularities random in 24 bits, on the first placement. Block 0 goes, with");
-    println!("the other one of its pair where half of the blocks are in pairs, and then one with three copies on three racks comes. Each");
-    println!("change also reads the plan and judges the placement; before it the words are put in place, a copy of 8 KiB on all sides.");
-    println!("Last, time per step of a run of {steps} steps in the running hall.\n");
-    let mut table = table(&["call", "version", "pairs"]);
-    let mixed = Size {
-        mixed: true,
-        ..LARGEST
-    };
-    let on_feeds = Size {
-        pairs: Pairs::Half,
-        wide: true,
-        feeds: Some(LARGEST.racks),
-        ..mixed
-    };
-    for size in [mixed, on_feeds] {
-        changes_rows(&mut table, size, steps);
     }
     table.print();
 }

@@ -57,7 +57,6 @@ fn all(mode: &Mode) {
     comparison::versions();
     comparison::copies(mode.steps.min(1000));
     comparison::feeds(mode.steps.min(1000));
-    comparison::changes(mode.steps.min(1000));
     growth::growth();
     comparison::smallest();
     memory::memory(mode.program);

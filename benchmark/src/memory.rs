@@ -6,7 +6,6 @@ use crate::reads::{full_list, tick_that_drops, Call};
 use crate::sides::{Side, LIBRARY, SIDES};
 use crate::table::Table;
 use crate::timing::shown;
-use placement_reference::changes::Entries;
 use std::io::{Read, Write};
 use std::process::{Child, Command, Stdio};
 use std::time::{Duration, Instant};
@@ -106,37 +105,6 @@ fn of_program() -> (String, f64) {
     (peak.unwrap_or_else(|| "unknown".to_string()), seconds)
 }
 
-/// A block goes and one comes, with the next plans' bytes; and all of it as one script.
-fn on_changes(side: &Side, bytes: &[u8], words: &mut [u64]) {
-    let new = Entries {
-        popularity: 1,
-        least: 1,
-        spread: 1,
-    };
-    let mut next = vec![0; bpl::MAX_PLAN_BYTES];
-    let length = (side.plan_without)(bytes, 0, &mut next).expect("a block");
-    (side.delete)(bytes, 0, words).expect("words of this plan");
-    (side.arrive)(&next[..length], new, words).expect("a free place");
-    let mut last = vec![0; bpl::MAX_PLAN_BYTES];
-    let length = (side.plan_with)(&next[..length], new, &mut last).expect("a block that fits");
-    last.truncate(length);
-    (side.check_running)(&last, words).expect("words of this plan");
-    let arrival = bpl::Arrival {
-        popularity: new.popularity,
-        least: new.least,
-        spread: new.spread,
-    };
-    let day = [
-        bpl::Request::Delete(0),
-        bpl::Request::Arrive(arrival),
-        bpl::Request::Run(STEPS),
-        bpl::Request::Check,
-    ];
-    let script = day.map(|request| bpl::Call::new(request).running());
-    let said = bpl::play(&mut last, &[], words, &script);
-    assert_eq!(said, bpl::Reply::Checked, "a day of a hall");
-}
-
 /// Every call of the library on a thread with a small stack; an overflow would end the whole program.
 fn on_small_stack() {
     let calls = |side: Side| {
@@ -156,7 +124,6 @@ fn on_small_stack() {
         (side.read)(&read);
         (side.popularity)(&read);
         (side.convert)(&bytes, &mut [0; 7183]).expect("an accepted plan");
-        on_changes(&side, &bytes, &mut words);
         (side.listing)(&bytes, STEPS)
     };
     let thread = std::thread::Builder::new().stack_size(STACK);

@@ -3,15 +3,13 @@
 //! Loads and lists of blocks per machine are carried from step to step, pairs of machines with Lm <= Ln are passed
 //! over, and the feeds of a block are counted only where it changes feeds and its spread is above one; before version 4
 //! the feeds are the racks. The other block of a pair is looked up in a table. Reads are entered in place, and a
-//! converted plan's records are copied. An arrival sums loads and copies once, a deletion moves the words behind it, and
-//! the next plan's bytes are copied. Reading a plan, counts, the first placement and popularities are the reference's,
-//! which are quick already.
+//! converted plan's records are copied. Reading a plan, counts, the first placement and popularities are the
+//! reference's, which are quick already.
 
 use placement_reference::calls::Report;
-use placement_reference::changes::Entries;
-use placement_reference::counts::share;
-use placement_reference::placement::{copies_of, counts_let, first, holds};
-use placement_reference::plan::{most_copies, read, read_in, read_of, Plan, Refusal};
+use placement_reference::counts::{chosen, share};
+use placement_reference::placement::{copies_of, first, holds};
+use placement_reference::plan::{read, read_of, Plan, Refusal};
 use placement_reference::reads::{Entry, HALF_TURN, MOST_ENTRIES, WINDOW};
 use placement_reference::steps::{End, Kind, Step, KINDS};
 use std::fmt::Write;
@@ -231,8 +229,8 @@ impl<'a> State<'a> {
     }
 }
 
-/// The check of a placement handed in (rows 12 to 16, and 18), with the plan that was read for the hall.
-pub fn check(plan: &Plan, running: bool, lent: &[u64]) -> Result<(), Refusal> {
+/// The check of a placement handed in (rows 12 to 16, and 18).
+pub fn check(plan: &Plan, lent: &[u64]) -> Result<(), Refusal> {
     let number = plan.blocks.len();
     if lent.len() < number {
         return Err(12);
@@ -243,8 +241,11 @@ pub fn check(plan: &Plan, running: bool, lent: &[u64]) -> Result<(), Refusal> {
     if words.iter().any(|w| w & !all != 0) {
         return Err(13);
     }
-    let mut counts = counts_let(plan, running).into_iter().zip(words);
-    if counts.any(|(let_pass, w)| !let_pass.contains(&copies_of(*w))) {
+    if chosen(plan)
+        .iter()
+        .zip(words)
+        .any(|(c, w)| *c != copies_of(*w))
+    {
         return Err(14);
     }
     let mut blocks = plan.blocks.iter().zip(words);
@@ -265,9 +266,9 @@ pub fn check(plan: &Plan, running: bool, lent: &[u64]) -> Result<(), Refusal> {
 }
 
 /// Takes the next step on the lent words, or leaves them as they are at rest.
-pub fn enter_step(bytes: &[u8], running: bool, lent: &mut [u64]) -> Result<Option<Step>, Refusal> {
-    let plan = read_in(bytes, running)?;
-    check(&plan, running, lent)?;
+pub fn enter_step(bytes: &[u8], lent: &mut [u64]) -> Result<Option<Step>, Refusal> {
+    let plan = read(bytes)?;
+    check(&plan, lent)?;
     let number = plan.blocks.len();
     let mut state = State::new(&plan, &lent[..number]);
     let step = state.next_step();
@@ -279,14 +280,9 @@ pub fn enter_step(bytes: &[u8], running: bool, lent: &mut [u64]) -> Result<Optio
 }
 
 /// Takes next steps on the lent words until rest or until the budget is used.
-pub fn enter_run(
-    bytes: &[u8],
-    running: bool,
-    lent: &mut [u64],
-    budget: u32,
-) -> Result<(End, u32), Refusal> {
-    let plan = read_in(bytes, running)?;
-    check(&plan, running, lent)?;
+pub fn enter_run(bytes: &[u8], lent: &mut [u64], budget: u32) -> Result<(End, u32), Refusal> {
+    let plan = read(bytes)?;
+    check(&plan, lent)?;
     let number = plan.blocks.len();
     let mut state = State::new(&plan, &lent[..number]);
     let ended = state.run(budget);
@@ -295,163 +291,10 @@ pub fn enter_run(
 }
 
 /// Checks the lent words and reports on them.
-pub fn enter_report(bytes: &[u8], running: bool, lent: &[u64]) -> Result<Report, Refusal> {
-    let plan = read_in(bytes, running)?;
-    check(&plan, running, lent)?;
+pub fn enter_report(bytes: &[u8], lent: &[u64]) -> Result<Report, Refusal> {
+    let plan = read(bytes)?;
+    check(&plan, lent)?;
     Ok(State::new(&plan, &lent[..plan.blocks.len()]).report())
-}
-
-/// Checks the lent words.
-pub fn enter_check(bytes: &[u8], running: bool, lent: &[u64]) -> Result<(), Refusal> {
-    check(&read_in(bytes, running)?, running, lent)
-}
-
-/// The bytes of a popularity and of a record, and of the header.
-fn widths(version: u64) -> (usize, usize, usize) {
-    match version {
-        1 => (3, 5, 15),
-        2 => (3, 6, 15),
-        3 => (4, 7, 15),
-        _ => (4, 7, 16),
-    }
-}
-
-/// Row 24 of a new block.
-fn unfit(plan: &Plan, e: Entries) -> bool {
-    let most = most_copies(plan.version).min(plan.machines()) as u64;
-    plan.blocks.len() == 1024
-        || e.popularity >> (8 * widths(plan.version).0) != 0
-        || !(1..=most).contains(&e.least)
-        || !(1..=e.least.min(plan.feeds as u64)).contains(&e.spread)
-}
-
-/// Loads and numbers of copies of all machines.
-fn sums(plan: &Plan, words: &[u64]) -> (Vec<u64>, Vec<usize>) {
-    let (mut loads, mut copies) = (vec![0; plan.machines()], vec![0; plan.machines()]);
-    for (block, word) in plan.blocks.iter().zip(words) {
-        let share = share(block.popularity, copies_of(*word));
-        for m in machines_of(*word) {
-            loads[m] += share;
-            copies[m] += 1;
-        }
-    }
-    (loads, copies)
-}
-
-/// The word of a new block: the lightest free machine of each of the lightest feeds, then the lightest free machines. None
-/// where there are too few.
-fn word_of(plan: &Plan, words: &[u64], e: Entries) -> Option<u64> {
-    let (loads, copies) = sums(plan, words);
-    let mut free: Vec<usize> = (0..plan.machines())
-        .filter(|m| copies[*m] < plan.capacity)
-        .collect();
-    free.sort_by_key(|m| loads[*m]);
-    let mut feeds: Vec<(u64, Option<usize>)> = vec![(0, None); plan.feeds];
-    loads
-        .iter()
-        .enumerate()
-        .for_each(|(m, load)| feeds[plan.feed_of(m)].0 += load);
-    for m in free.iter().rev() {
-        feeds[plan.feed_of(*m)].1 = Some(*m);
-    }
-    feeds.retain(|feed| feed.1.is_some());
-    if free.len() < e.least as usize || feeds.len() < e.spread as usize {
-        return None;
-    }
-    feeds.sort_by_key(|feed| feed.0);
-    let spread = feeds[..e.spread as usize].iter().filter_map(|feed| feed.1);
-    let word = spread.fold(0, |word, m| word | 1 << m);
-    let others = free.into_iter().filter(|m| !holds(word, *m));
-    Some(
-        others
-            .take((e.least - e.spread) as usize)
-            .fold(word, |word, m| word | 1 << m),
-    )
-}
-
-/// A new block comes last; answers its word.
-pub fn enter_arrive(bytes: &[u8], e: Entries, lent: &mut [u64]) -> Result<u64, Refusal> {
-    let plan = read_in(bytes, true)?;
-    check(&plan, true, lent)?;
-    let number = plan.blocks.len();
-    if lent.len() == number {
-        return Err(12);
-    }
-    if unfit(&plan, e) {
-        return Err(24);
-    }
-    let word = word_of(&plan, &lent[..number], e).ok_or(25)?;
-    lent[number] = word;
-    Ok(word)
-}
-
-/// The blocks that go with a block: how many, and the first of them.
-fn going(plan: &Plan, block: u32) -> Result<(usize, usize), Refusal> {
-    let block = block as usize;
-    if block >= plan.blocks.len() {
-        return Err(26);
-    }
-    Ok(match plan.partner(block) {
-        Some(other) => (2, block.min(other)),
-        None => (1, block),
-    })
-}
-
-/// A block goes, with the other one of its pair; answers how many went and the first number removed.
-pub fn enter_delete(bytes: &[u8], block: u32, lent: &mut [u64]) -> Result<(usize, usize), Refusal> {
-    let plan = read_in(bytes, true)?;
-    check(&plan, true, lent)?;
-    let (number, first) = going(&plan, block)?;
-    let blocks = plan.blocks.len();
-    lent.copy_within(first + number..blocks, first);
-    lent[blocks - number..blocks].fill(0);
-    Ok((number, first))
-}
-
-/// Copies parts of a plan one after the other to the start of the lent bytes, with another number of blocks; answers
-/// their length.
-fn put_plan(
-    parts: [&[u8]; 3],
-    version: u64,
-    blocks: usize,
-    lent: &mut [u8],
-) -> Result<usize, Refusal> {
-    let length = parts.iter().map(|part| part.len()).sum();
-    if lent.len() < length {
-        return Err(12);
-    }
-    let mut at = 0;
-    for part in parts {
-        lent[at..at + part.len()].copy_from_slice(part);
-        at += part.len();
-    }
-    let header = widths(version).2;
-    lent[header - 2..header].copy_from_slice(&(blocks as u16).to_be_bytes());
-    Ok(length)
-}
-
-/// The next plan's bytes after an arrival; answers their length.
-pub fn enter_plan_with(bytes: &[u8], e: Entries, lent: &mut [u8]) -> Result<usize, Refusal> {
-    let plan = read_in(bytes, true)?;
-    if unfit(&plan, e) {
-        return Err(24);
-    }
-    let (width, length, _) = widths(plan.version);
-    let mut record = [0; 7];
-    record[..width].copy_from_slice(&e.popularity.to_be_bytes()[8 - width..]);
-    record[width..width + 2].copy_from_slice(&[e.least as u8, e.spread as u8]);
-    let parts = [bytes, &record[..length], &[]];
-    put_plan(parts, plan.version, plan.blocks.len() + 1, lent)
-}
-
-/// The next plan's bytes after a deletion; answers their length.
-pub fn enter_plan_without(bytes: &[u8], block: u32, lent: &mut [u8]) -> Result<usize, Refusal> {
-    let plan = read_in(bytes, true)?;
-    let (number, first) = going(&plan, block)?;
-    let (_, length, header) = widths(plan.version);
-    let at = header + length * first;
-    let parts = [&bytes[..at], &bytes[at + length * number..], &[]];
-    put_plan(parts, plan.version, plan.blocks.len() - number, lent)
 }
 
 /// Moves the entries that still count to the front; answers their number.
@@ -470,13 +313,12 @@ fn close_up(entries: &mut [Entry], tick: u32) -> usize {
 /// Enters a read in place; answers the new count.
 pub fn enter_read(
     bytes: &[u8],
-    running: bool,
     block: u32,
     tick: u32,
     list: &mut [Entry],
     count: u64,
 ) -> Result<u64, Refusal> {
-    let blocks = read_in(bytes, running)?.blocks.len();
+    let blocks = read(bytes)?.blocks.len();
     let usable = list.len().min(MOST_ENTRIES);
     let number = count.min(usable as u64) as usize;
     let age = |entry: &Entry| tick.wrapping_sub(entry.tick);

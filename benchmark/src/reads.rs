@@ -15,9 +15,9 @@ pub struct Call<'a> {
 /// What a call answers.
 type Answer = Result<u64, Refusal>;
 
-/// A side's two calls, told whether the hall is running, on records of its own form.
-type Read<E> = fn(&[u8], bool, u32, u32, &mut [E], u64) -> Answer;
-type Popularity<E> = fn(&[u8], bool, u32, &[E], u64) -> Answer;
+/// A side's two calls, on records of its own form.
+type Read<E> = fn(&[u8], u32, u32, &mut [E], u64) -> Answer;
+type Popularity<E> = fn(&[u8], u32, &[E], u64) -> Answer;
 
 /// The time between two entries of a full list, so that all are in the window.
 const GAP: u32 = WINDOW / MOST_ENTRIES as u32;
@@ -48,7 +48,7 @@ pub fn read_timed<E: Copy>(
     let (mut list, count) = (start.clone(), start.len() as u64);
     let (seconds, answer) = timed(|| {
         list.copy_from_slice(&start);
-        read(call.bytes, false, call.block, call.tick, &mut list, count)
+        read(call.bytes, call.block, call.tick, &mut list, count)
     });
     let count = answer.expect("a read that is accepted");
     (seconds, (count, list.iter().map(back).collect()))
@@ -61,7 +61,6 @@ pub fn popularity_timed<E>(
     popularity: Popularity<E>,
 ) -> (f64, u64) {
     let list: Vec<E> = call.list.iter().map(form).collect();
-    let count = list.len() as u64;
-    let (seconds, answer) = timed(|| popularity(call.bytes, false, call.block, &list, count));
+    let (seconds, answer) = timed(|| popularity(call.bytes, call.block, &list, list.len() as u64));
     (seconds, answer.expect("a block of the plan"))
 }

@@ -3,9 +3,7 @@
 use crate::optimised;
 use crate::reads::{popularity_timed, read_timed, Call};
 use crate::timing::timed;
-use bpl::Hall::{Planned, Running};
 use placement_reference::calls::{self, Report};
-use placement_reference::changes::{self, Entries};
 use placement_reference::convert::enter_convert;
 use placement_reference::listing;
 use placement_reference::plan::Refusal;
@@ -21,23 +19,16 @@ type Ended = (End, u32);
 /// A read's seconds, and the new count and the list after it.
 type ReadTimed = (f64, (u64, Vec<Entry>));
 
-/// The calls of one side; each takes the plan's bytes and makes all checks. Those on reads are timed. The hall is as
-/// planned, but for those that say otherwise, arrivals and deletions.
+/// The calls of one side; each takes the plan's bytes and makes all checks. Those on reads are timed.
 pub struct Side {
     pub name: &'static str,
     pub plan: fn(&[u8]) -> Answer<()>,
     pub counts: fn(&[u8], &mut [u8]) -> Answer<()>,
     pub first: fn(&[u8], &mut [u64]) -> Answer<()>,
     pub check: fn(&[u8], &[u64]) -> Answer<()>,
-    pub check_running: fn(&[u8], &[u64]) -> Answer<()>,
     pub report: fn(&[u8], &[u64]) -> Answer<Report>,
     pub step: fn(&[u8], &mut [u64]) -> Answer<Option<Step>>,
     pub run: fn(&[u8], &mut [u64], u32) -> Answer<Ended>,
-    pub run_running: fn(&[u8], &mut [u64], u32) -> Answer<Ended>,
-    pub arrive: fn(&[u8], Entries, &mut [u64]) -> Answer<u64>,
-    pub delete: fn(&[u8], u32, &mut [u64]) -> Answer<(usize, usize)>,
-    pub plan_with: fn(&[u8], Entries, &mut [u8]) -> Answer<usize>,
-    pub plan_without: fn(&[u8], u32, &mut [u8]) -> Answer<usize>,
     pub listing: fn(&[u8], u32) -> String,
     pub convert: fn(&[u8], &mut [u8]) -> Answer<usize>,
     pub read: fn(&Call) -> ReadTimed,
@@ -50,18 +41,10 @@ pub const REFERENCE: Side = Side {
     plan: |bytes| calls::enter_plan(bytes).map(|_| ()),
     counts: |bytes, lent| calls::enter_counts(bytes, lent).map(|_| ()),
     first: |bytes, lent| calls::enter_first(bytes, lent).map(|_| ()),
-    check: |bytes, lent| calls::enter_check(bytes, false, lent).map(|_| ()),
-    check_running: |bytes, lent| calls::enter_check(bytes, true, lent).map(|_| ()),
-    report: |bytes, lent| calls::enter_report(bytes, false, lent),
-    step: |bytes, lent| calls::enter_step(bytes, false, lent),
-    run: |bytes, lent, budget| calls::enter_run(bytes, false, lent, budget),
-    run_running: |bytes, lent, budget| calls::enter_run(bytes, true, lent, budget),
-    arrive: |bytes, e, lent| changes::enter_arrive(bytes, e.popularity, e.least, e.spread, lent),
-    delete: changes::enter_delete,
-    plan_with: |bytes, e, lent| {
-        changes::enter_plan_with(bytes, e.popularity, e.least, e.spread, lent)
-    },
-    plan_without: changes::enter_plan_without,
+    check: |bytes, lent| calls::enter_check(bytes, lent).map(|_| ()),
+    report: calls::enter_report,
+    step: calls::enter_step,
+    run: calls::enter_run,
     listing: listing::text,
     convert: enter_convert,
     read: |call| read_timed(call, Entry::clone, Entry::clone, enter_read),
@@ -71,16 +54,10 @@ pub const REFERENCE: Side = Side {
 /// The optimised version; plan, counts, first placement and popularity are the reference's.
 pub const OPTIMISED: Side = Side {
     name: "optimised",
-    check: |bytes, lent| optimised::enter_check(bytes, false, lent),
-    check_running: |bytes, lent| optimised::enter_check(bytes, true, lent),
-    report: |bytes, lent| optimised::enter_report(bytes, false, lent),
-    step: |bytes, lent| optimised::enter_step(bytes, false, lent),
-    run: |bytes, lent, budget| optimised::enter_run(bytes, false, lent, budget),
-    run_running: |bytes, lent, budget| optimised::enter_run(bytes, true, lent, budget),
-    arrive: optimised::enter_arrive,
-    delete: optimised::enter_delete,
-    plan_with: optimised::enter_plan_with,
-    plan_without: optimised::enter_plan_without,
+    check: |bytes, lent| optimised::check(&calls::enter_plan(bytes)?, lent),
+    report: optimised::enter_report,
+    step: optimised::enter_step,
+    run: optimised::enter_run,
     listing: optimised::listing,
     convert: optimised::enter_convert,
     read: |call| read_timed(call, Entry::clone, Entry::clone, optimised::enter_read),
@@ -93,36 +70,18 @@ pub const LIBRARY: Side = Side {
     plan: |bytes| bpl::plan(bytes).map_err(bpl::Refusal::number),
     counts: |bytes, lent| bpl::counts(bytes, lent).map_err(bpl::Refusal::number),
     first: |bytes, lent| bpl::first(bytes, lent).map_err(bpl::Refusal::number),
-    check: |bytes, lent| bpl::check(bytes, Planned, lent).map_err(bpl::Refusal::number),
-    check_running: |bytes, lent| bpl::check(bytes, Running, lent).map_err(bpl::Refusal::number),
+    check: |bytes, lent| bpl::check(bytes, lent).map_err(bpl::Refusal::number),
     report: |bytes, lent| {
-        let report = bpl::report(bytes, Planned, lent).map_err(bpl::Refusal::number)?;
+        let report = bpl::report(bytes, lent).map_err(bpl::Refusal::number)?;
         Ok(report_of(report))
     },
     step: |bytes, lent| {
-        let step = bpl::step(bytes, Planned, lent).map_err(bpl::Refusal::number)?;
+        let step = bpl::step(bytes, lent).map_err(bpl::Refusal::number)?;
         Ok(step.map(step_of))
     },
     run: |bytes, lent, budget| {
-        let end = bpl::run(bytes, Planned, lent, budget).map_err(bpl::Refusal::number)?;
+        let end = bpl::run(bytes, lent, budget).map_err(bpl::Refusal::number)?;
         Ok(end_of(end))
-    },
-    run_running: |bytes, lent, budget| {
-        let end = bpl::run(bytes, Running, lent, budget).map_err(bpl::Refusal::number)?;
-        Ok(end_of(end))
-    },
-    arrive: |bytes, entries, lent| {
-        bpl::arrive(bytes, arrival_of(entries), lent).map_err(bpl::Refusal::number)
-    },
-    delete: |bytes, block, lent| {
-        let went = bpl::delete(bytes, block, lent).map_err(bpl::Refusal::number)?;
-        Ok((went.count, went.first))
-    },
-    plan_with: |bytes, entries, lent| {
-        bpl::plan_with_into(bytes, arrival_of(entries), lent).map_err(bpl::Refusal::number)
-    },
-    plan_without: |bytes, block, lent| {
-        bpl::plan_without_into(bytes, block, lent).map_err(bpl::Refusal::number)
     },
     listing: |bytes, budget| match bpl::listing(bytes, budget) {
         Ok(text) => text,
@@ -134,39 +93,19 @@ pub const LIBRARY: Side = Side {
             call,
             own_entry,
             entry_of,
-            |bytes, running, block, tick, list, count| {
-                bpl::read(bytes, hall_of(running), block, tick, list, count)
-                    .map_err(bpl::Refusal::number)
+            |bytes, block, tick, list, count| {
+                bpl::read(bytes, block, tick, list, count).map_err(bpl::Refusal::number)
             },
         )
     },
     popularity: |call| {
-        popularity_timed(call, own_entry, |bytes, running, block, list, count| {
-            bpl::popularity(bytes, hall_of(running), block, list, count)
-                .map_err(bpl::Refusal::number)
+        popularity_timed(call, own_entry, |bytes, block, list, count| {
+            bpl::popularity(bytes, block, list, count).map_err(bpl::Refusal::number)
         })
     },
 };
 
 pub const SIDES: [Side; 3] = [REFERENCE, OPTIMISED, LIBRARY];
-
-/// The reference's flag in the library's form.
-fn hall_of(running: bool) -> bpl::Hall {
-    if running {
-        Running
-    } else {
-        Planned
-    }
-}
-
-/// The reference's entries of a new block in the library's form.
-fn arrival_of(entries: Entries) -> bpl::Arrival {
-    bpl::Arrival {
-        popularity: entries.popularity,
-        least: entries.least,
-        spread: entries.spread,
-    }
-}
 
 /// The library's report in the reference's form.
 fn report_of(report: bpl::Report) -> Report {
@@ -260,25 +199,4 @@ pub fn first_words(bytes: &[u8], blocks: u16) -> Vec<u64> {
     let mut words = vec![0; usize::from(blocks)];
     (LIBRARY.first)(bytes, &mut words).expect("an accepted plan");
     words
-}
-
-/// A call on words that are put in place before it: seconds, and its answer and the words after it.
-pub fn on_words_timed<T>(
-    start: &[u64],
-    call: impl Fn(&mut [u64]) -> Answer<T>,
-) -> (f64, (T, Vec<u64>)) {
-    let mut words = start.to_vec();
-    let (seconds, answer) = timed(|| {
-        words.copy_from_slice(start);
-        call(&mut words)
-    });
-    (seconds, (answer.expect("a change that is accepted"), words))
-}
-
-/// A call that writes a plan: seconds, and the plan written.
-pub fn written_timed(call: impl Fn(&mut [u8]) -> Answer<usize>) -> (f64, Vec<u8>) {
-    let mut buffer = vec![0; bpl::MAX_PLAN_BYTES];
-    let (seconds, length) = timed(|| call(&mut buffer));
-    buffer.truncate(length.expect("a plan that is written"));
-    (seconds, buffer)
 }

@@ -1,27 +1,20 @@
-//! The optimised version against the reference on random plans: step by step, whole runs, checks, listings, reads,
-//! conversions, and years of running halls.
+//! The optimised version against the reference on random plans: step by step, whole runs, checks, listings, reads and
+//! conversions.
 
 use placement_benchmark::optimised::{
-    check, enter_arrive, enter_convert, enter_delete, enter_plan_with, enter_plan_without,
-    enter_read, enter_report, enter_run, enter_step, listing, State,
+    check, enter_convert, enter_read, enter_report, enter_run, enter_step, listing, State,
 };
 use placement_reference::calls;
-use placement_reference::changes;
 use placement_reference::convert;
 use placement_reference::counts::chosen;
 use placement_reference::damage::{any_row, broken, flawed, mispaired, MISPAIRINGS};
 use placement_reference::gen::*;
-use placement_reference::histories::{history, manner, Caller, Event, Manner as Manners};
+use placement_reference::histories::{history, manner, Caller, Event};
 use placement_reference::listing::text;
-use placement_reference::lists::{Call, Hall, Request};
 use placement_reference::placement::{first, loads};
 use placement_reference::samples::*;
 use placement_reference::steps::{step_plain, End};
-use placement_reference::years::{hall, year, Manner};
-use placement_reference::{
-    placement,
-    plan::{read_in, Plan},
-};
+use placement_reference::{placement, plan::Plan};
 
 /// Both take the same steps from these words, with the same words and loads after each, until rest or `most` steps.
 fn same_steps(plan: &Plan, words: &[u64], most: usize) -> usize {
@@ -41,8 +34,8 @@ fn same_steps(plan: &Plan, words: &[u64], most: usize) -> usize {
 /// Both make the same of a run from these words.
 fn same_run(bytes: &[u8], words: &[u64], budget: u32) {
     let (mut ours, mut theirs) = (words.to_vec(), words.to_vec());
-    let answer = enter_run(bytes, false, &mut ours, budget);
-    assert_eq!(answer, calls::enter_run(bytes, false, &mut theirs, budget));
+    let answer = enter_run(bytes, &mut ours, budget);
+    assert_eq!(answer, calls::enter_run(bytes, &mut theirs, budget));
     assert_eq!(ours, theirs);
 }
 
@@ -177,23 +170,10 @@ fn rest_is_answered_at_rest() {
     let bytes = y().bytes();
     let mut words = [0; 3];
     calls::enter_first(&bytes, &mut words).expect("accepted");
-    assert_eq!(enter_run(&bytes, false, &mut words, 2), Ok((End::Rest, 2)));
+    assert_eq!(enter_run(&bytes, &mut words, 2), Ok((End::Rest, 2)));
     let before = words;
-    assert_eq!(enter_step(&bytes, false, &mut words), Ok(None));
+    assert_eq!(enter_step(&bytes, &mut words), Ok(None));
     assert_eq!(words, before);
-}
-
-/// Both make the same of a check, a report and a step, in a hall that is running or not.
-fn same_checks(bytes: &[u8], running: bool, words: &[u64]) {
-    let plan = read_in(bytes, running).expect("accepted");
-    let expected = placement::check(&plan, running, words).map(|_| ());
-    assert_eq!(check(&plan, running, words), expected);
-    let report = enter_report(bytes, running, words);
-    assert_eq!(report, calls::enter_report(bytes, running, words));
-    let (mut ours, mut theirs) = (words.to_vec(), words.to_vec());
-    let answer = enter_step(bytes, running, &mut ours);
-    assert_eq!(answer, calls::enter_step(bytes, running, &mut theirs));
-    assert_eq!(ours, theirs);
 }
 
 #[test]
@@ -207,10 +187,20 @@ fn checks_and_single_steps() {
         let Some(words) = broken(&mut rng, &plan, rows) else {
             continue;
         };
-        for running in [false, true] {
-            same_checks(&draft.bytes(), running, &words);
-        }
-        assert_eq!(check(&plan, false, &words[1..]), Err(12));
+        let (mut ours, mut theirs) = (words.clone(), words.clone());
+        assert_eq!(
+            check(&plan, &words),
+            placement::check(&plan, &words).map(|_| ())
+        );
+        assert_eq!(check(&plan, &words[1..]), Err(12));
+        let bytes = draft.bytes();
+        assert_eq!(
+            enter_report(&bytes, &words),
+            calls::enter_report(&bytes, &words)
+        );
+        let answer = enter_step(&draft.bytes(), &mut ours);
+        assert_eq!(answer, calls::enter_step(&draft.bytes(), &mut theirs));
+        assert_eq!(ours, theirs);
     }
 }
 
@@ -268,76 +258,16 @@ fn conversions() {
 fn histories_of_reads() {
     for seed in 0..5000 {
         let rng = &mut Rng::new(seed);
-        let manner = Manners {
-            running: rng.once_in(2),
-            ..manner(rng)
-        };
-        let mut theirs = Caller {
-            running: manner.running,
-            ..Caller::default()
-        };
+        let manner = manner(rng);
+        let mut theirs = Caller::default();
         for event in history(rng, manner) {
             let mut ours = theirs.clone();
             let said = theirs.does(&event);
             if let Event::Read { block, tick } = event {
-                let answer = enter_read(
-                    &ours.plan,
-                    manner.running,
-                    block,
-                    tick,
-                    &mut ours.list,
-                    ours.count,
-                );
+                let answer = enter_read(&ours.plan, block, tick, &mut ours.list, ours.count);
                 assert_eq!(Some(answer), said);
                 assert_eq!(ours.list, theirs.list);
             }
-        }
-    }
-}
-
-/// Both make the same of a change, and of the next plan's bytes, in a buffer that is at times too short.
-fn same_change(hall: &Hall, call: &Call, short: usize) {
-    let bytes = call.other.as_ref().unwrap_or(&hall.bytes);
-    let lent = call.lent.min(hall.words.len());
-    let (mut ours, mut theirs) = (hall.words[..lent].to_vec(), hall.words[..lent].to_vec());
-    let room = (bytes.len() + 7).saturating_sub(short);
-    let (mut buffer, mut expected) = (vec![0xEE; room], vec![0xEE; room]);
-    match call.request {
-        Request::Arrive(e) => {
-            let (popularity, least, spread) = (e.popularity, e.least, e.spread);
-            let word = changes::enter_arrive(bytes, popularity, least, spread, &mut theirs);
-            assert_eq!(enter_arrive(bytes, e, &mut ours), word);
-            let next = changes::enter_plan_with(bytes, popularity, least, spread, &mut expected);
-            assert_eq!(enter_plan_with(bytes, e, &mut buffer), next);
-        }
-        Request::Delete(block) => {
-            let went = changes::enter_delete(bytes, block, &mut theirs);
-            assert_eq!(enter_delete(bytes, block, &mut ours), went);
-            let next = changes::enter_plan_without(bytes, block, &mut expected);
-            assert_eq!(enter_plan_without(bytes, block, &mut buffer), next);
-        }
-        _ => {}
-    }
-    assert_eq!((ours, buffer), (theirs, expected));
-}
-
-/// Every arrival and deletion of random years, also refused ones.
-#[test]
-fn years_of_halls() {
-    for seed in 0..400 {
-        let rng = &mut Rng::new(seed);
-        let size = all_versions(SMALL)[(seed % 4) as usize];
-        let mut standing = hall(rng, size, 30);
-        let manner = Manner {
-            calls: 60,
-            blocks: 24,
-            untold: 0,
-            claimed: true,
-        };
-        for call in year(rng, &standing, manner) {
-            same_change(&standing, &call, rng.below(20) as usize);
-            standing.does(&call);
-            same_checks(&standing.bytes, true, &standing.words);
         }
     }
 }

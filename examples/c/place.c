@@ -9,14 +9,14 @@
  * it makes the steps anew as one script, and compares the placements. It converts an old plan to version 3 and, with
  * at most 8 machines, compares the listings. It writes a plan of version 3 as version 4, with a mains feed for each
  * rack and a budget that the machines have places for, and compares the listings. Last it counts reads of the blocks,
- * and makes the next plan file of their popularities. What comes after, while recordings come and go, is in day.c.
+ * and makes the next plan file of their popularities.
  * scripts/c-example compiles, runs and tests it. The status is 0 for a listing, 1 for a failure, 2 where there is more
  * than one argument, and 3 for a refused plan.
  *
  * How every call is used here:
  * - All memory is the caller's. A buffer is passed as a pointer and its number of items, not its size in bytes.
  * - The code that a call answers is looked at before anything else. Only with code 0 has the call written something;
- *   with a refusal, 1 to 26, every buffer is as it was.
+ *   with a refusal, 1 to 23, every buffer is as it was.
  * - BPL_SHORT_BUFFER is no property of the plan but a mistake of the caller: a buffer for results is too short.
  */
 #include "bpl.h"
@@ -67,9 +67,9 @@ static const char *reason(uint32_t code)
         [9] = "a block's spread is 0, above its least copies, or above R (in version 4 above F)",
         [10] = "the sum of least copies is above the budget",
         [11] = "the sum of least copies is above M * C",
-        [12] = "fewer than B counts or words are lent, or no word for a new block, or too few bytes for a plan",
+        [12] = "fewer than B counts or words are lent, or fewer bytes than a converted plan has",
         [13] = "a bit at or above M is set",
-        [14] = "a block's copies are not its chosen count, in a running hall not from its least copies to its limit",
+        [14] = "a block's copies are not its chosen count",
         [15] = "a block lies in fewer racks (in version 4 in fewer feeds) than its spread",
         [16] = "a machine holds more than C copies",
         [17] = "a pair byte is neither 0 nor 1, marks no pair, or marks two blocks that differ",
@@ -79,9 +79,6 @@ static const char *reason(uint32_t code)
         [21] = "the list is full of reads that still count",
         [22] = "F is 0 or does not divide R",
         [23] = "the budget is above M * C",
-        [24] = "there are 1,024 blocks already, or a new block's popularity, least copies or spread are not allowed",
-        [25] = "no lawful set of machines for the new block exists with all others unmoved",
-        [26] = "the block to delete does not exist",
     };
     if (code < sizeof reasons / sizeof reasons[0])
         return reasons[code];
@@ -247,8 +244,7 @@ static uint32_t take_steps(struct store *store, uint32_t step_limit, uint32_t *s
     for (*steps = 0; *steps < step_limit; ++*steps) {
         uint64_t step[BPL_STEP_NUMBERS];
         const uint32_t code =
-            bpl_step(store->plan, store->plan_len, BPL_HALL_PLANNED, store->words, BPL_MAX_BLOCKS, step,
-                     BPL_STEP_NUMBERS);
+            bpl_step(store->plan, store->plan_len, store->words, BPL_MAX_BLOCKS, step, BPL_STEP_NUMBERS);
         if (code != 0 || step[0] == 0) /* refused, or at rest */
             return code;
         /* The step is taken. step[1] is its kind, and a store would now copy block step[4] from machine step[2] to
@@ -277,12 +273,12 @@ static uint32_t list(struct store *store, struct text *text)
     if (code != 0)
         return code;
     uint64_t end[BPL_RUN_NUMBERS];
-    code = bpl_run(plan, plan_len, BPL_HALL_PLANNED, store->words, BPL_MAX_BLOCKS, 0, end, BPL_RUN_NUMBERS);
+    code = bpl_run(plan, plan_len, store->words, BPL_MAX_BLOCKS, 0, end, BPL_RUN_NUMBERS);
     if (code != 0)
         return code;
 
     uint64_t report[BPL_REPORT_NUMBERS];
-    code = bpl_report(plan, plan_len, BPL_HALL_PLANNED, store->words, BPL_MAX_BLOCKS, report, BPL_REPORT_NUMBERS);
+    code = bpl_report(plan, plan_len, store->words, BPL_MAX_BLOCKS, report, BPL_REPORT_NUMBERS);
     if (code != 0)
         return code;
 
@@ -319,27 +315,22 @@ static bool is_listing(const struct store *store, const struct text *text)
 }
 
 /* Whether a script from the first placement ends in the same one: a step, a call that is refused, a run for the other
- * steps, a check. The other bytes are empty here, with a pointer that is not null all the same. The plan stands in a
- * buffer with room for any plan, since calls of a script can bring blocks and take them away. */
+ * steps, a check. The other bytes are empty here, with a pointer that is not null all the same. */
 static bool plays_alike(const struct store *store)
 {
     static uint64_t words[BPL_MAX_BLOCKS];
-    static uint8_t standing[BPL_MAX_PLAN_BYTES];
-    static const uint8_t other[1];
     static const uint64_t script[] = {
-        BPL_ASK_STEP,                  BPL_LEND_ALL,   0,              0, 0,
-        BPL_ASK_STEP | BPL_WITH_OTHER, BPL_LEND_ALL,   0,              0, 0, /* refused with 1, and the words stay */
-        BPL_ASK_RUN,                   BPL_LEND_ALL,   STEP_LIMIT - 1, 0, 0,
-        BPL_ASK_CHECK,                 BPL_MAX_BLOCKS, 0,              0, 0,
+        BPL_ASK_STEP | BPL_LEND_ALL,
+        BPL_ASK_STEP | BPL_LEND_ALL | BPL_WITH_OTHER, /* refused with 1, and the words stay */
+        BPL_ASK_RUN(STEP_LIMIT - 1) | BPL_LEND_ALL,
+        BPL_ASK_CHECK | BPL_LEND(BPL_MAX_BLOCKS),
     };
     uint64_t reply[BPL_PLAY_NUMBERS];
     if (bpl_first(store->plan, store->plan_len, words, BPL_MAX_BLOCKS) != 0)
         return false;
-    memcpy(standing, store->plan, store->plan_len);
-    const uint32_t code = bpl_play(standing, sizeof standing, store->plan_len, other, 0, words, BPL_MAX_BLOCKS, script,
+    const uint32_t code = bpl_play(store->plan, store->plan_len, store->plan, 0, words, BPL_MAX_BLOCKS, script,
                                    sizeof script / sizeof script[0], reply, BPL_PLAY_NUMBERS);
-    return code == 0 && reply[0] == BPL_CHECKED && reply[7] == store->plan_len &&
-           memcmp(words, store->words, sizeof words) == 0;
+    return code == 0 && reply[0] == BPL_CHECKED && memcmp(words, store->words, sizeof words) == 0;
 }
 
 /* Whether the two texts are the same. */
@@ -392,8 +383,8 @@ struct reads {
 static uint32_t enter_read(const struct store *store, struct reads *reads, uint32_t block, uint32_t tick)
 {
     uint64_t count[BPL_READ_NUMBERS];
-    const uint32_t code = bpl_read(store->plan, store->plan_len, BPL_HALL_PLANNED, block, tick, reads->list,
-                                   BPL_MAX_ENTRIES, reads->count, count, BPL_READ_NUMBERS);
+    const uint32_t code = bpl_read(store->plan, store->plan_len, block, tick, reads->list, BPL_MAX_ENTRIES,
+                                   reads->count, count, BPL_READ_NUMBERS);
     if (code == 0)
         reads->count = count[0];
     return code;
@@ -416,8 +407,8 @@ static bool makes_next_plan(const struct store *store)
     memcpy(next, store->plan, store->plan_len);
     for (uint32_t i = 0; i < blocks; i++) {
         uint64_t popularity[BPL_POPULARITY_NUMBERS];
-        const uint32_t code = bpl_popularity(store->plan, store->plan_len, BPL_HALL_PLANNED, i, reads.list,
-                                             BPL_MAX_ENTRIES, reads.count, popularity, BPL_POPULARITY_NUMBERS);
+        const uint32_t code = bpl_popularity(store->plan, store->plan_len, i, reads.list, BPL_MAX_ENTRIES, reads.count,
+                                             popularity, BPL_POPULARITY_NUMBERS);
         if (code != 0 || popularity[0] < i % 3 + 1) /* above that where the other block of a pair is read more often */
             return false;
         put_field(next, record_at(next, i), popularity_bytes(next), (uint32_t)popularity[0]);
@@ -499,7 +490,7 @@ static bool show_refusals(void)
         return false;
 
     plan_len = make_plan_h(plan, 8);
-    code = bpl_check(plan, plan_len, BPL_HALL_PLANNED, words, 3);
+    code = bpl_check(plan, plan_len, words, 3);
     say_refused("plan H with block 1 on machine 0 alone", code);
 
     /* Neither call has written: the words are those from above. */

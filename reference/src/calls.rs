@@ -1,11 +1,9 @@
 //! The public calls: they take raw bytes and a lent buffer and make every check themselves.
 //! A refused call writes nothing, and words past the first B are never read or written.
-//! Check, report, step and run are told whether the hall is running. If so, the counts held are the words' own, and the
-//! copy budget does not apply.
 
 use crate::counts::{chosen, largest_share};
 use crate::placement::{check, copies_of, first, loads};
-use crate::plan::{read, read_in, Plan, Refusal};
+use crate::plan::{read, Plan, Refusal};
 use crate::steps::{run, step_plain, End, Step};
 
 /// What the report tells: hottest load, coolest load, sum of loads, largest share.
@@ -30,13 +28,9 @@ pub fn report(plan: &Plan, words: &[u64]) -> Report {
 }
 
 /// A plan and its B words out of the lent ones, if the placement passes the check.
-pub(crate) fn placed(
-    bytes: &[u8],
-    running: bool,
-    lent: &[u64],
-) -> Result<(Plan, Vec<u64>), Refusal> {
-    let plan = read_in(bytes, running)?;
-    let number = check(&plan, running, lent)?;
+fn placed(bytes: &[u8], lent: &[u64]) -> Result<(Plan, Vec<u64>), Refusal> {
+    let plan = read(bytes)?;
+    let number = check(&plan, lent)?;
     Ok((plan, lent[..number].to_vec()))
 }
 
@@ -70,20 +64,20 @@ pub fn enter_first(bytes: &[u8], lent: &mut [u64]) -> Result<usize, Refusal> {
 }
 
 /// Checks the lent words; answers the number of blocks.
-pub fn enter_check(bytes: &[u8], running: bool, lent: &[u64]) -> Result<usize, Refusal> {
-    let (plan, _) = placed(bytes, running, lent)?;
+pub fn enter_check(bytes: &[u8], lent: &[u64]) -> Result<usize, Refusal> {
+    let (plan, _) = placed(bytes, lent)?;
     Ok(plan.blocks.len())
 }
 
 /// Checks the lent words and reports on them.
-pub fn enter_report(bytes: &[u8], running: bool, lent: &[u64]) -> Result<Report, Refusal> {
-    let (plan, words) = placed(bytes, running, lent)?;
+pub fn enter_report(bytes: &[u8], lent: &[u64]) -> Result<Report, Refusal> {
+    let (plan, words) = placed(bytes, lent)?;
     Ok(report(&plan, &words))
 }
 
 /// Takes the next step on the lent words, or leaves them as they are at rest.
-pub fn enter_step(bytes: &[u8], running: bool, lent: &mut [u64]) -> Result<Option<Step>, Refusal> {
-    let (plan, words) = placed(bytes, running, lent)?;
+pub fn enter_step(bytes: &[u8], lent: &mut [u64]) -> Result<Option<Step>, Refusal> {
+    let (plan, words) = placed(bytes, lent)?;
     let step = step_plain(&plan, &words);
     if let Some(step) = step {
         lent[..words.len()].copy_from_slice(&step.taken(&words));
@@ -92,13 +86,8 @@ pub fn enter_step(bytes: &[u8], running: bool, lent: &mut [u64]) -> Result<Optio
 }
 
 /// Takes next steps on the lent words until rest or until the budget is used.
-pub fn enter_run(
-    bytes: &[u8],
-    running: bool,
-    lent: &mut [u64],
-    budget: u32,
-) -> Result<(End, u32), Refusal> {
-    let (plan, words) = placed(bytes, running, lent)?;
+pub fn enter_run(bytes: &[u8], lent: &mut [u64], budget: u32) -> Result<(End, u32), Refusal> {
+    let (plan, words) = placed(bytes, lent)?;
     let (end, taken, after) = run(&plan, &words, budget);
     lent[..after.len()].copy_from_slice(&after);
     Ok((end, taken))

@@ -1,7 +1,5 @@
-//! Damaged plans (rows 1 to 11, 17, 22 and 23), damaged placements (rows 13 to 16, and 18), and damaged entries of new
-//! blocks (row 24).
+//! Damaged plans (rows 1 to 11, 17, 22 and 23) and damaged placements (rows 13 to 16, and 18).
 
-use crate::changes::Entries;
 use crate::gen::{draft, filled, placement, Draft, Record, Rng, Size};
 use crate::placement::{broken_rows, copies_of, held_by, holds};
 use crate::plan::{most_copies, Plan};
@@ -392,45 +390,6 @@ fn fill_up(draft: &mut Draft) {
     }
 }
 
-/// The numbers for each entry of a new block with which row 24 refuses it, whatever the others are, at the edge and past
-/// it: popularities past the version's field, least copies of 0 and above the limit of an unpaired block, spreads of 0,
-/// above these least copies and above the feeds.
-pub fn unfit_numbers(plan: &Plan, least: u64) -> [Vec<u64>; 3] {
-    let past = if plan.version >= 3 { 1 << 32 } else { 1 << 24 };
-    let most = plan.machines().min(most_copies(plan.version)) as u64;
-    let feeds = plan.feeds as u64;
-    let far = |low: u64| {
-        [
-            low + 256,
-            low + (1 << 16),
-            low + (1 << 32),
-            low + (1 << 63),
-            u64::MAX,
-        ]
-    };
-    let from = |first: Vec<u64>, low: u64| [first, far(low).to_vec()].concat();
-    [
-        from(vec![past, past + 5, 3 * past], past),
-        from(vec![0, most + 1, most + 2], most),
-        from(
-            vec![0, least.min(feeds) + 1, least + 1, feeds + 1],
-            least.min(feeds),
-        ),
-    ]
-}
-
-/// The entries with one number that row 24 refuses.
-pub fn unfit(rng: &mut Rng, plan: &Plan, entries: Entries) -> Entries {
-    let numbers = unfit_numbers(plan, entries.least);
-    let mut damaged = entries;
-    match rng.below(3) {
-        0 => damaged.popularity = rng.one_of(&numbers[0]),
-        1 => damaged.least = rng.one_of(&numbers[1]),
-        _ => damaged.spread = rng.one_of(&numbers[2]),
-    }
-    damaged
-}
-
 /// Sets a bit at or above M, in place of a copy or beside it.
 fn set_outside(rng: &mut Rng, plan: &Plan, words: &mut [u64]) {
     if plan.machines() == 64 {
@@ -524,11 +483,6 @@ fn collide(rng: &mut Rng, plan: &Plan, words: &mut [u64]) {
 
 /// Words that break exactly the rows marked (13 to 16, and 18), if some are found soon.
 pub fn broken(rng: &mut Rng, plan: &Plan, rows: [bool; 5]) -> Option<Vec<u64>> {
-    broken_in(rng, plan, false, rows)
-}
-
-/// The same for a hall that is running or not, with the plan that was read for it.
-pub fn broken_in(rng: &mut Rng, plan: &Plan, running: bool, rows: [bool; 5]) -> Option<Vec<u64>> {
     if plan.blocks.is_empty() {
         return None;
     }
@@ -543,7 +497,7 @@ pub fn broken_in(rng: &mut Rng, plan: &Plan, running: bool, rows: [bool; 5]) -> 
                 _ => collide(rng, plan, &mut words),
             }
         }
-        if broken_rows(plan, running, &words) == rows {
+        if broken_rows(plan, &words) == rows {
             return Some(words);
         }
     }

@@ -4,7 +4,6 @@ use crate::placement::{feasible, first, holds};
 use crate::plan::{most_copies, read, Plan};
 
 /// A small generator of numbers (splitmix).
-#[derive(Clone)]
 pub struct Rng(u64);
 
 impl Rng {
@@ -579,28 +578,6 @@ pub fn placement(rng: &mut Rng, plan: &Plan) -> Vec<u64> {
     for _ in 0..(words.len() * 20).min(1000) {
         let after = shuffled(rng, plan, &words);
         if after != words && feasible(plan, &after) {
-            words = after;
-        }
-    }
-    words
-}
-
-/// The word with a copy more on some machine, or one less.
-fn recounted(rng: &mut Rng, plan: &Plan, word: u64) -> u64 {
-    word ^ 1 << rng.below(plan.machines() as u64)
-}
-
-/// A lawful placement of a running hall's plan, at any counts from least to upper; those of a pair may differ. The copies
-/// that blocks have above their least are many in some placements and few in others.
-pub fn loose(rng: &mut Rng, plan: &Plan) -> Vec<u64> {
-    let mut words = placement(rng, plan);
-    let fewer = rng.once_in(2);
-    for _ in 0..(words.len() * 12).min(3000) {
-        let i = rng.below(words.len() as u64) as usize;
-        let mut after = words.clone();
-        after[i] = recounted(rng, plan, words[i]);
-        let drops = after[i] < words[i];
-        if (drops == fewer || rng.once_in(3)) && feasible(plan, &after) {
             words = after;
         }
     }

@@ -23,10 +23,9 @@ pub enum Event {
     Popularity { block: u32 },
 }
 
-/// What a caller has in hand, and whether its hall is running. At first the plan and the list are empty.
+/// What a caller has in hand. At first the plan and the list are empty.
 #[derive(Clone, Debug, Default, PartialEq, Eq)]
 pub struct Caller {
-    pub running: bool,
     pub plan: Vec<u8>,
     pub list: Vec<Entry>,
     pub count: u64,
@@ -42,8 +41,7 @@ impl Caller {
             Event::Count(count) => self.count = *count,
             Event::Read { block, tick } => return Some(self.reads(*block, *tick)),
             Event::Popularity { block } => {
-                let (plan, list) = (&self.plan, &self.list);
-                let said = enter_popularity(plan, self.running, *block, list, self.count);
+                let said = enter_popularity(&self.plan, *block, &self.list, self.count);
                 return Some(said);
             }
         }
@@ -51,8 +49,7 @@ impl Caller {
     }
 
     fn reads(&mut self, block: u32, tick: u32) -> Result<u64, Refusal> {
-        let (plan, list) = (&self.plan, &mut self.list);
-        let answer = enter_read(plan, self.running, block, tick, list, self.count)?;
+        let answer = enter_read(&self.plan, block, tick, &mut self.list, self.count)?;
         self.count = answer;
         Ok(answer)
     }
@@ -76,8 +73,6 @@ pub struct Manner {
     pub dense: bool,
     /// The versions of the plans.
     pub versions: &'static [u16],
-    /// The hall is running.
-    pub running: bool,
 }
 
 /// A manner at random. The list is mostly short, so that it is soon full; some have 4,096 records or about, of which many
@@ -96,7 +91,6 @@ pub fn manner(rng: &mut Rng) -> Manner {
         damaged: long || rng.once_in(2),
         dense: long || rng.once_in(3),
         versions: &[1, 2, 3, 4],
-        running: false,
     }
 }
 
@@ -271,10 +265,7 @@ pub fn history(rng: &mut Rng, manner: Manner) -> Vec<Event> {
     let mut author = Author {
         rng,
         manner,
-        caller: Caller {
-            running: manner.running,
-            ..Caller::default()
-        },
+        caller: Caller::default(),
         last,
         sound: Vec::new(),
         events: Vec::new(),

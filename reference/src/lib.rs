@@ -4,7 +4,6 @@
 //! nested loops over kind, m, n, i and j. It serves to make the stored trials and to be compared with the program.
 
 pub mod calls;
-pub mod changes;
 pub mod convert;
 pub mod counts;
 pub mod damage;
@@ -19,4 +18,3 @@ pub mod samples;
 pub mod steps;
 pub mod stream;
 pub mod trials;
-pub mod years;

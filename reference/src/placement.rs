@@ -2,7 +2,6 @@
 
 use crate::counts::{chosen, share};
 use crate::plan::{Plan, Refusal};
-use std::ops::RangeInclusive;
 
 /// Machine m holds a copy of the block with this word.
 pub fn holds(word: u64, machine: usize) -> bool {
@@ -94,26 +93,13 @@ pub fn first(plan: &Plan) -> Vec<u64> {
 /// The rows for a placement handed in, in order, each over all blocks or machines before the next.
 pub const ROWS: [Refusal; 5] = [13, 14, 15, 16, 18];
 
-/// The counts with which row 14 lets each block pass: its chosen count alone, in a running hall those from its least to
-/// its upper count.
-pub fn counts_let(plan: &Plan, running: bool) -> Vec<RangeInclusive<usize>> {
-    if running {
-        let blocks = plan.blocks.iter().enumerate();
-        blocks.map(|(i, b)| b.least..=plan.upper(i)).collect()
-    } else {
-        chosen(plan).into_iter().map(|c| c..=c).collect()
-    }
-}
-
 /// Which of these rows the words break, each for itself.
-pub fn broken_rows(plan: &Plan, running: bool, words: &[u64]) -> [bool; 5] {
-    let counts = counts_let(plan, running);
+pub fn broken_rows(plan: &Plan, words: &[u64]) -> [bool; 5] {
+    let counts = chosen(plan);
     let blocks = 0..plan.blocks.len();
     [
         words.iter().any(|w| outside(plan, *w)),
-        blocks
-            .clone()
-            .any(|i| !counts[i].contains(&copies_of(words[i]))),
+        blocks.clone().any(|i| copies_of(words[i]) != counts[i]),
         blocks
             .clone()
             .any(|i| feeds_of(plan, words[i]) < plan.blocks[i].spread),
@@ -122,14 +108,13 @@ pub fn broken_rows(plan: &Plan, running: bool, words: &[u64]) -> [bool; 5] {
     ]
 }
 
-/// The check of a placement handed in (rows 12 to 16 and 18): the number of blocks, or the first row broken. The plan is
-/// the one that was read for a hall that is running or not.
-pub fn check(plan: &Plan, running: bool, lent: &[u64]) -> Result<usize, Refusal> {
+/// The check of a placement handed in (rows 12 to 16 and 18): the number of blocks, or the first row broken.
+pub fn check(plan: &Plan, lent: &[u64]) -> Result<usize, Refusal> {
     let number = plan.blocks.len();
     if lent.len() < number {
         return Err(12);
     }
-    let broken = broken_rows(plan, running, &lent[..number]);
+    let broken = broken_rows(plan, &lent[..number]);
     match broken.iter().position(|b| *b) {
         Some(at) => Err(ROWS[at]),
         None => Ok(number),

@@ -92,12 +92,6 @@ impl Plan {
         self.budget.min(self.places())
     }
 
-    /// The plan of a running hall: M × C for its budget.
-    pub fn unbudgeted(self) -> Plan {
-        let budget = self.places();
-        Plan { budget, ..self }
-    }
-
     /// The sum of least copies.
     pub fn least_sum(&self) -> u64 {
         self.blocks.iter().map(|b| b.least as u64).sum()
@@ -112,7 +106,7 @@ fn field(bytes: &[u8], first: usize, last: usize) -> u64 {
 }
 
 /// The bytes before the records: in version 4 there is one more.
-pub(crate) fn header_length(version: u64) -> usize {
+fn header_length(version: u64) -> usize {
     match version {
         1..=3 => 15,
         _ => 16,
@@ -128,7 +122,7 @@ fn feeds_in(bytes: &[u8], version: u64, racks: usize) -> usize {
 }
 
 /// The bytes of a record: in version 2 there is a sixth, and from version 3 on the popularity has one more.
-pub(crate) fn record_length(version: u64) -> usize {
+fn record_length(version: u64) -> usize {
     match version {
         1 => 5,
         2 => 6,
@@ -227,33 +221,17 @@ pub fn read(bytes: &[u8]) -> Result<Plan, Refusal> {
     read_of(bytes, &[1, 2, 3, 4])
 }
 
-/// Reads a plan of one of these versions; all others are refused 3.
+/// Reads a plan of one of these versions; all others are refused 3. After rows 8 and 9 of all blocks come 17, 23, 10 and
+/// 11. Row 23 is for version 4 alone, and leaves 11 none of its plans.
 pub fn read_of(bytes: &[u8], versions: &[u64]) -> Result<Plan, Refusal> {
-    judged(bytes, versions, false)
-}
-
-/// Reads a plan for a call that is told whether the hall is running.
-pub fn read_in(bytes: &[u8], running: bool) -> Result<Plan, Refusal> {
-    if running {
-        judged(bytes, &[1, 2, 3, 4], true)
-    } else {
-        read(bytes)
-    }
-}
-
-/// After rows 8 and 9 of all blocks come 17, 23, 10 and 11. Row 23 is for version 4 alone, and leaves 11 none of its
-/// plans. In a running hall the copy budget, 10 and 23 do not apply: the plan is held with M × C for its budget.
-fn judged(bytes: &[u8], versions: &[u64], running: bool) -> Result<Plan, Refusal> {
     let plan = read_header(bytes, versions)?;
     for i in 0..plan.blocks.len() {
         judge_block(&plan, i)?;
     }
     refuse_if(mispaired(&plan), 17)?;
     let places = plan.places();
-    if !running {
-        refuse_if(plan.version == 4 && plan.budget > places, 23)?;
-        refuse_if(plan.least_sum() > plan.budget, 10)?;
-    }
+    refuse_if(plan.version == 4 && plan.budget > places, 23)?;
+    refuse_if(plan.least_sum() > plan.budget, 10)?;
     refuse_if(plan.least_sum() > places, 11)?;
-    Ok(if running { plan.unbudgeted() } else { plan })
+    Ok(plan)
 }

@@ -1,8 +1,7 @@
 //! Reads counted over two hours, for the next plan file (rows 19 to 21). The entries stand in a lent list of records;
-//! how many there are is handed in, and answered anew for an accepted read. A refused call writes nothing. Both calls are
-//! told whether the hall is running; if so, the plan is judged without the copy budget.
+//! how many there are is handed in, and answered anew for an accepted read. A refused call writes nothing.
 
-use crate::plan::{read_in, refuse_if, Plan, Refusal};
+use crate::plan::{read, refuse_if, Plan, Refusal};
 
 /// The records of a list that are used at most; those past them are never read or written.
 pub const MOST_ENTRIES: usize = 4096;
@@ -62,13 +61,12 @@ fn reads_of(entries: &[Entry], block: usize) -> u64 {
 /// follows, and later usable records become 0. Answers the new count.
 pub fn enter_read(
     bytes: &[u8],
-    running: bool,
     block: u32,
     tick: u32,
     list: &mut [Entry],
     count: u64,
 ) -> Result<u64, Refusal> {
-    let plan = read_in(bytes, running)?;
+    let plan = read(bytes)?;
     let usable = usable(list);
     let before = entries(list, count);
     refuse_if(is_unknown(&plan, block), 19)?;
@@ -85,12 +83,11 @@ pub fn enter_read(
 /// The popularity of a block: the number of its entries, for both blocks of a pair the larger of their numbers.
 pub fn enter_popularity(
     bytes: &[u8],
-    running: bool,
     block: u32,
     list: &[Entry],
     count: u64,
 ) -> Result<u64, Refusal> {
-    let plan = read_in(bytes, running)?;
+    let plan = read(bytes)?;
     let entries = entries(list, count);
     refuse_if(is_unknown(&plan, block), 19)?;
     let block = block as usize;

@@ -304,11 +304,3 @@ pub const NO_SWAP_WORDS: [u64; 9] = [3, 3, 9, 4, 2, 4, 4, 8, 8];
 pub fn largest_fed() -> Draft {
     plan_of((16, 4), 1024, 10_240, &[(u32::MAX, 10, 8); 1024]).fed(8)
 }
-
-/// A running hall in which the two blocks of a pair have one copy and two: from its words exchanging them is the only
-/// step. Block 2 may not leave machine 0 for its spread, and block 3 makes machine 1 the hottest.
-pub fn unequal_pair() -> (Draft, [u64; 4]) {
-    let pair = [(12, 1, 1, 1), (12, 1, 1, 0)];
-    let records = [&pair[..], &[(4, 2, 2, 0), (30, 1, 1, 0)]].concat();
-    (paired_plan((2, 2), 9, 0, &records), [1, 12, 5, 2])
-}

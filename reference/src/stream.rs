@@ -1,23 +1,6 @@
 //! The stream of trials: records that a trials program reads, and what it has to print.
-//!
-//! A record is a letter, a zero byte, a length n of 16 bits, a number of 32 bits, and the payload, all high byte first. A
-//! line ends in a digest of the whole buffer that the call was lent, or could have been. Of running halls:
-//!
-//! - `H`, number 0 or 1: whether the later calls `k`, `r`, `s`, `u`, `d` and `o` are told that the hall is running. It is 0
-//!   at the beginning of a stream.
-//! - `A`, n 24, payload three numbers of 64 bits: popularity, least copies and spread of later new blocks, 0 at the beginning.
-//! - `a`: an arrival with these entries on the lent words; line `arrive WORD DIGEST`.
-//! - `x`, number the block: a deletion on the lent words; line `delete COUNT FIRST DIGEST`, how many blocks went and the
-//!   first number removed.
-//! - `w`, n the bytes of the lent buffer, number 0 or 1: the bytes of the plan with a block of these entries; line
-//!   `with LENGTH DIGEST`. With 1 the result, if there is one, is the current plan from then on.
-//! - `y`, n the same, number the block below 2 to the power 31: the bytes of the plan without it; line
-//!   `without LENGTH DIGEST`. With 2 to the power 31 added to the number the result is the current plan from then on.
-//!
-//! For a refused call `refused` and its number stand in place of what it answers.
 
 use crate::calls::*;
-use crate::changes::{enter_arrive, enter_delete, enter_plan_with, enter_plan_without, Entries};
 use crate::convert::enter_convert;
 use crate::reads::{enter_popularity, enter_read, Entry};
 use crate::steps::{End, Kind, Step};
@@ -34,11 +17,8 @@ pub const RECORDS: usize = 4200;
 /// The most records of the list in one record of the stream.
 const RECORDS_AT_ONCE: usize = 1100;
 
-/// Every byte of the counts' buffer before a call, of the converter's, and of the next plan's.
+/// Every byte of the counts' buffer before a call, and of the converter's.
 pub const UNTOUCHED: u8 = 238;
-
-/// Added to the number of a block where the plan without it is the current plan from then on.
-const KEPT: u32 = 1 << 31;
 
 /// 64-bit FNV-1a, as 16 hexadecimal digits.
 pub fn digest(bytes: impl Iterator<Item = u8>) -> String {
@@ -154,40 +134,6 @@ impl Writer {
         self.record(b'o', 0, 0, &[]);
     }
 
-    /// Whether the later calls are told that the hall is running.
-    pub fn running(&mut self, running: bool) {
-        self.record(b'H', 0, running.into(), &[]);
-    }
-
-    /// The entries of later new blocks.
-    pub fn entries(&mut self, entries: Entries) {
-        let numbers = [entries.popularity, entries.least, entries.spread];
-        self.record(b'A', 24, 0, &numbers.map(u64::to_be_bytes).concat());
-    }
-
-    /// An arrival with the current entries.
-    pub fn arrive(&mut self) {
-        self.record(b'a', 0, 0, &[]);
-    }
-
-    /// The deletion of a block.
-    pub fn delete(&mut self, block: u32) {
-        self.record(b'x', 0, block, &[]);
-    }
-
-    /// The bytes of the plan with a block of the current entries, into a buffer of so many bytes; kept as the current
-    /// plan or not.
-    pub fn plan_with(&mut self, number: usize, kept: bool) {
-        self.record(b'w', number, kept.into(), &[]);
-    }
-
-    /// The bytes of the plan without a block, into a buffer of so many bytes; kept as the current plan or not.
-    pub fn plan_without(&mut self, block: u32, number: usize, kept: bool) {
-        assert!(block < KEPT);
-        let flag = if kept { KEPT } else { 0 };
-        self.record(b'y', number, block | flag, &[]);
-    }
-
     /// A run with a step budget.
     pub fn run(&mut self, budget: u32) {
         self.record(b'u', 0, budget, &[]);
@@ -211,8 +157,6 @@ struct Memory {
     records_lent: usize,
     count: u64,
     block: u32,
-    running: bool,
-    entries: Entries,
 }
 
 /// An answer in words, or `refused` and its number.
@@ -241,11 +185,6 @@ fn step_text(step: Option<Step>) -> String {
     };
     let partner = s.j.map_or(String::new(), |j| format!(" {j}"));
     format!("{name} {} {} {}{partner}", s.m, s.n, s.i)
-}
-
-/// How many blocks went, and the first number removed.
-fn gone_text((number, first): (usize, usize)) -> String {
-    format!("{number} {first}")
 }
 
 /// The words for a run's end.
@@ -293,83 +232,29 @@ impl Memory {
         format!("convert {said} {}\n", digest(buffer.into_iter()))
     }
 
-    /// What a call on the lent words answers: its name, and what it says. The number is a run's step budget, or the
-    /// block to delete.
-    fn call(&mut self, op: u8, number: u32) -> (&'static str, String) {
+    /// What a call on the lent words answers: its name, and what it says.
+    fn call(&mut self, op: u8, budget: u32) -> (&'static str, String) {
         let lent = &mut self.words[..self.lent];
-        let (plan, running) = (&self.plan, self.running);
-        let text = |n: usize| n.to_string();
+        let plan = &self.plan;
         match op {
-            b'f' => ("first", answer(enter_first(plan, lent), text)),
-            b'k' => ("check", answer(enter_check(plan, running, lent), text)),
-            b'r' => (
-                "report",
-                answer(enter_report(plan, running, lent), report_text),
-            ),
-            b's' => ("step", answer(enter_step(plan, running, lent), step_text)),
-            b'a' => ("arrive", self.arrival()),
-            b'x' => (
-                "delete",
-                answer(enter_delete(plan, number, lent), gone_text),
-            ),
-            _ => (
-                "run",
-                answer(enter_run(plan, running, lent, number), run_text),
-            ),
+            b'f' => ("first", answer(enter_first(plan, lent), |b| b.to_string())),
+            b'k' => ("check", answer(enter_check(plan, lent), |b| b.to_string())),
+            b'r' => ("report", answer(enter_report(plan, lent), report_text)),
+            b's' => ("step", answer(enter_step(plan, lent), step_text)),
+            _ => ("run", answer(enter_run(plan, lent, budget), run_text)),
         }
-    }
-
-    /// What an arrival with the current entries says.
-    fn arrival(&mut self) -> String {
-        let lent = &mut self.words[..self.lent];
-        let Entries {
-            popularity,
-            least,
-            spread,
-        } = self.entries;
-        let answered = enter_arrive(&self.plan, popularity, least, spread, lent);
-        answer(answered, |word| word.to_string())
     }
 
     /// The line for a call on the lent words.
-    fn words_line(&mut self, op: u8, number: u32) -> String {
-        let (name, said) = self.call(op, number);
+    fn words_line(&mut self, op: u8, budget: u32) -> String {
+        let (name, said) = self.call(op, budget);
         format!("{name} {said} {}\n", self.digest())
-    }
-
-    /// What is said of the next plan's bytes in this buffer, which are the current plan from now on if they are kept.
-    fn next_plan(&mut self, answered: Result<usize, u8>, buffer: Vec<u8>, kept: bool) -> String {
-        if let (Ok(length), true) = (answered, kept) {
-            self.plan = buffer[..length].to_vec();
-        }
-        let said = answer(answered, |length| length.to_string());
-        format!("{said} {}\n", digest(buffer.into_iter()))
-    }
-
-    /// The line for the plan with a block of the current entries, into a buffer of so many bytes.
-    fn with_line(&mut self, number: usize, kept: bool) -> String {
-        let mut buffer = vec![UNTOUCHED; number];
-        let Entries {
-            popularity,
-            least,
-            spread,
-        } = self.entries;
-        let answered = enter_plan_with(&self.plan, popularity, least, spread, &mut buffer);
-        format!("with {}", self.next_plan(answered, buffer, kept))
-    }
-
-    /// The line for the plan without a block, into a buffer of so many bytes.
-    fn without_line(&mut self, number: usize, block: u32, kept: bool) -> String {
-        let mut buffer = vec![UNTOUCHED; number];
-        let answered = enter_plan_without(&self.plan, block, &mut buffer);
-        format!("without {}", self.next_plan(answered, buffer, kept))
     }
 
     /// The line for a read of the current block. The count that it answers is handed in from now on.
     fn read_line(&mut self, tick: u32) -> String {
         let lent = &mut self.list[..self.records_lent];
-        let (plan, running) = (&self.plan, self.running);
-        let answered = enter_read(plan, running, self.block, tick, lent, self.count);
+        let answered = enter_read(&self.plan, self.block, tick, lent, self.count);
         self.count = answered.unwrap_or(self.count);
         let said = answer(answered, |n| n.to_string());
         format!("read {said} {}\n", self.list_digest())
@@ -378,8 +263,7 @@ impl Memory {
     /// The line for the popularity of the current block.
     fn popularity_line(&self) -> String {
         let lent = &self.list[..self.records_lent];
-        let (plan, running) = (&self.plan, self.running);
-        let answered = enter_popularity(plan, running, self.block, lent, self.count);
+        let answered = enter_popularity(&self.plan, self.block, lent, self.count);
         let said = answer(answered, |n| n.to_string());
         format!("popularity {said} {}\n", self.list_digest())
     }
@@ -398,7 +282,7 @@ pub fn next_record<'a>(stream: &mut &'a [u8]) -> Record<'a> {
     let (head, behind) = stream.split_at(8);
     let length = usize::from(u16::from_be_bytes([head[2], head[3]]));
     let size = match head[0] {
-        b'T' | b'P' | b'A' => length,
+        b'T' | b'P' => length,
         b'W' | b'R' => length * 8,
         _ => 0,
     };
@@ -426,16 +310,6 @@ fn take_words(memory: &mut Memory, record: &Record) {
     memory.lent = record.length;
 }
 
-/// Takes the payload's numbers for the entries of later new blocks.
-fn take_entries(memory: &mut Memory, record: &Record) {
-    let numbers: Vec<u64> = words_in(record).collect();
-    memory.entries = Entries {
-        popularity: numbers[0],
-        least: numbers[1],
-        spread: numbers[2],
-    };
-}
-
 /// Puts the payload's records of the list in place.
 fn take_records(memory: &mut Memory, record: &Record) {
     let at = record.number as usize;
@@ -453,11 +327,6 @@ fn obey(memory: &mut Memory, record: &Record) -> String {
         b'v' => return memory.convert_line(record.length),
         b'd' => return memory.read_line(record.number),
         b'o' => return memory.popularity_line(),
-        b'w' => return memory.with_line(record.length, record.number == 1),
-        b'y' => {
-            let block = record.number & !KEPT;
-            return memory.without_line(record.length, block, record.number >= KEPT);
-        }
         b'E' => return "end\n".to_string(),
         b'P' => memory.plan = record.payload.to_vec(),
         b'W' => take_words(memory, record),
@@ -466,8 +335,6 @@ fn obey(memory: &mut Memory, record: &Record) -> String {
         b'M' => memory.records_lent = record.length,
         b'N' => memory.count = (record.length as u64) << 32 | u64::from(record.number),
         b'B' => memory.block = record.number,
-        b'H' => memory.running = record.number == 1,
-        b'A' => take_entries(memory, record),
         op => return memory.words_line(op, record.number),
     }
     String::new()
@@ -483,8 +350,6 @@ pub fn play(mut stream: &[u8], mut print: impl FnMut(&str)) {
         records_lent: 0,
         count: 0,
         block: 0,
-        running: false,
-        entries: Entries::default(),
     };
     loop {
         let record = next_record(&mut stream);

@@ -1,6 +1,6 @@
 //! The stored trials: the specification's plans and examples first, generated ones after them; then the same for
-//! version 2, for reads, for version 3, for the converter, for the most copies of a block, for version 4, for budgets
-//! about M × C, and for running halls.
+//! version 2, for reads, for version 3, for the converter, for the most copies of a block, for version 4, and for budgets
+//! about M × C.
 
 mod budgets;
 mod conversions;
@@ -8,9 +8,7 @@ mod copies;
 mod feeds;
 mod pairs;
 mod reads;
-mod running;
 mod wide;
-mod years;
 
 use crate::damage::{broken, flawed, over_budget, over_capacity, over_feeds, two_records};
 use crate::damage::{PLAN_ROWS, ROWS_BEFORE_FEEDS};
@@ -489,8 +487,6 @@ pub fn stream() -> Vec<u8> {
     copies::all(&mut w, &mut Rng::new(6));
     feeds::all(&mut w, &mut Rng::new(7));
     budgets::all(&mut w, &mut Rng::new(8));
-    running::all(&mut w, &mut Rng::new(9));
-    years::all(&mut w, &mut Rng::new(10));
     w.calls("E");
     w.bytes
 }

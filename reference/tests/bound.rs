@@ -43,13 +43,13 @@ fn full(plan: &Plan, words: &[u64]) -> usize {
 fn bound(bytes: &[u8], words: &[u64], other: &[u64]) -> (Plan, Bound) {
     let plan = read(bytes).expect("an accepted plan");
     assert!(plan.blocks.iter().any(|b| b.spread > 1));
-    assert_eq!(enter_check(bytes, false, words), Ok(words.len()));
+    assert_eq!(enter_check(bytes, words), Ok(words.len()));
     let mut after = words.to_vec();
-    assert_eq!(enter_step(bytes, false, &mut after), Ok(None));
+    assert_eq!(enter_step(bytes, &mut after), Ok(None));
     assert_eq!(after, words);
     assert_eq!(step_literal(&plan, words), None);
     assert!(feasible(&plan, other));
-    let report = enter_report(bytes, false, words).expect("an accepted placement");
+    let report = enter_report(bytes, words).expect("an accepted placement");
     let bound = Bound {
         machines: plan.machines() as u64,
         at_rest: report.maximum,

@@ -20,7 +20,7 @@ fn in_version(version: u64, verdict: Result<Plan, u8>) -> Result<Plan, u8> {
 }
 
 fn check_row(draft: &Draft, words: &[u64]) -> Option<u8> {
-    enter_check(&draft.bytes(), false, words).err()
+    enter_check(&draft.bytes(), words).err()
 }
 
 #[test]
@@ -164,9 +164,9 @@ fn row_eighteen() {
     assert_eq!(check_row(&k(), &[3, 3, 1, 4]), Some(15));
     assert_eq!(check_row(&k(), &[5, 5, 1, 1]), Some(16));
     let mut words = [5, 9, 1, 4];
-    assert_eq!(enter_report(&K, false, &words).err(), Some(18));
-    assert_eq!(enter_step(&K, false, &mut words).err(), Some(18));
-    assert_eq!(enter_run(&K, false, &mut words, 9).err(), Some(18));
+    assert_eq!(enter_report(&K, &words).err(), Some(18));
+    assert_eq!(enter_step(&K, &mut words).err(), Some(18));
+    assert_eq!(enter_run(&K, &mut words, 9).err(), Some(18));
     assert_eq!(words, [5, 9, 1, 4]);
 }
 
@@ -243,7 +243,7 @@ fn wider_popularity() {
     assert_eq!(plan.blocks[1023].popularity, 4_294_967_295);
     let mut words = [0; 1024];
     enter_first(&bytes, &mut words).unwrap();
-    let report = enter_report(&bytes, false, &words).unwrap();
+    let report = enter_report(&bytes, &words).unwrap();
     assert_eq!(report.largest_share, 4_294_967_295 * 252);
     assert_eq!(report.maximum, 160 * report.largest_share);
     assert_eq!(report.sum, 2520 * 1024 * 4_294_967_295);
@@ -321,8 +321,8 @@ fn a_conversion_with_more_copies() {
     enter_first(&old, &mut words[0]).unwrap();
     enter_first(&new, &mut words[1]).unwrap();
     assert_eq!(words.map(|w| copies_of(w[0])), [8, 9]);
-    assert_eq!(enter_check(&new, false, &words[0]).err(), Some(14));
-    assert_eq!(enter_check(&old, false, &words[1]).err(), Some(14));
+    assert_eq!(enter_check(&new, &words[0]).err(), Some(14));
+    assert_eq!(enter_check(&old, &words[1]).err(), Some(14));
     let listings = [
         "plan 3 3 1\nblock 0 8 2205 0 1 2 3 4 5 6 7\nrest 0 2205 0 17640 2205\n",
         "plan 3 3 1\nblock 0 9 1960 0 1 2 3 4 5 6 7 8\nrest 0 1960 1960 17640 1960\n",
@@ -745,23 +745,20 @@ fn plan_y() {
     assert_eq!(begin, [1, 2, 1]);
     assert_eq!(loads(&plan, &begin), [15_120, 2520]);
     let mut words = begin.clone();
-    let taken = enter_step(&bytes, false, &mut words).unwrap();
+    let taken = enter_step(&bytes, &mut words).unwrap();
     assert_eq!(taken, Some(step(Kind::Move, 0, 1, 0, None)));
     assert_eq!(loads(&plan, &words), [5040, 12_600]);
-    let taken = enter_step(&bytes, false, &mut words).unwrap();
+    let taken = enter_step(&bytes, &mut words).unwrap();
     assert_eq!(taken, Some(step(Kind::Move, 1, 0, 1, None)));
     assert_eq!(loads(&plan, &words), [7560, 10_080]);
-    assert_eq!(enter_step(&bytes, false, &mut words), Ok(None));
+    assert_eq!(enter_step(&bytes, &mut words), Ok(None));
     for (budget, said) in [
         (0, (End::Spent, 0)),
         (1, (End::Spent, 1)),
         (2, (End::Rest, 2)),
         (u32::MAX, (End::Rest, 2)),
     ] {
-        assert_eq!(
-            enter_run(&bytes, false, &mut begin.clone(), budget),
-            Ok(said)
-        );
+        assert_eq!(enter_run(&bytes, &mut begin.clone(), budget), Ok(said));
     }
 }
 
@@ -770,13 +767,13 @@ fn plan_z() {
     let plan = z().plan().unwrap();
     let bytes = z().bytes();
     let mut words = Z_WORDS;
-    let taken = enter_step(&bytes, false, &mut words).unwrap();
+    let taken = enter_step(&bytes, &mut words).unwrap();
     assert_eq!(taken, Some(step(Kind::Swap, 0, 1, 0, Some(2))));
-    let taken = enter_step(&bytes, false, &mut words).unwrap();
+    let taken = enter_step(&bytes, &mut words).unwrap();
     assert_eq!(taken, Some(step(Kind::Swap, 1, 0, 0, Some(1))));
     assert_eq!(words, [1, 2, 1, 2]);
     assert_eq!(loads(&plan, &words), [15_120, 15_120]);
-    assert_eq!(enter_step(&bytes, false, &mut words), Ok(None));
+    assert_eq!(enter_step(&bytes, &mut words), Ok(None));
 }
 
 #[test]
@@ -804,14 +801,14 @@ fn order_puts_kind_first_and_n_before_i() {
 fn ties_come_to_four_each() {
     let plan = ties().plan().unwrap();
     let mut words = TIES_WORDS;
-    enter_run(&ties().bytes(), false, &mut words, u32::MAX).unwrap();
+    enter_run(&ties().bytes(), &mut words, u32::MAX).unwrap();
     assert_eq!(loads(&plan, &words), [10_080; 3]);
 }
 
 #[test]
 fn words_past_the_blocks_stay() {
     let mut words = [1, 2, 1, 77, u64::MAX];
-    enter_run(&y().bytes(), false, &mut words, 9).unwrap();
+    enter_run(&y().bytes(), &mut words, 9).unwrap();
     assert_eq!(words[3..], [77, u64::MAX]);
     let mut counts = [9; 5];
     enter_counts(&H, &mut counts).unwrap();

@@ -2,33 +2,17 @@
 
 use placement_reference::damage::over_capacity;
 use placement_reference::gen::{draft, leaning, placement, Draft, Rng, Size, SMALL, TINY};
-use placement_reference::lists::{play, within_bounds, Call, Hall, Reply, Request};
+use placement_reference::lists::{play, within_bounds, Call, Reply, Request};
 use placement_reference::placement::{check, feasible, first};
 use placement_reference::plan::Plan;
 use placement_reference::samples::{full_machines, h, h_budget, y, z, Z_WORDS};
 use placement_reference::steps::{step_literal, step_plain, End, Kind, Step};
 
-fn call(lent: usize, request: Request) -> Call {
+fn call(bytes: &[u8], lent: usize, request: Request) -> Call<'_> {
     Call {
-        other: None,
-        running: false,
+        bytes,
         lent,
         request,
-    }
-}
-
-/// A call that gets other bytes.
-fn with(other: &[u8], lent: usize, request: Request) -> Call {
-    Call {
-        other: Some(other.to_vec()),
-        ..call(lent, request)
-    }
-}
-
-fn hall(draft: &Draft, words: &[u64]) -> Hall {
-    Hall {
-        bytes: draft.bytes(),
-        words: words.to_vec(),
     }
 }
 
@@ -38,24 +22,25 @@ fn step(kind: Kind, m: usize, n: usize, i: usize, j: Option<usize>) -> Reply {
 
 #[test]
 fn the_list_may_be_empty() {
-    let mut hall = hall(&y(), &[1, 2, 3]);
-    assert_eq!(play(&[], &mut hall), []);
-    assert_eq!(hall.words, [1, 2, 3]);
+    let mut words = [1, 2, 3];
+    assert_eq!(play(&[], &mut words), []);
+    assert_eq!(words, [1, 2, 3]);
 }
 
 /// Plan Y step by step, with calls between that are refused: other bytes, and two words lent.
 #[test]
 fn plan_y_with_refused_calls_between() {
-    let mut hall = hall(&y(), &[1, 2, 1, 77]);
+    let (plan, other) = (y().bytes(), h_budget(3).bytes());
+    let mut words = [1, 2, 1, 77];
     let calls = [
-        call(3, Request::Check),
-        with(&h_budget(3).bytes(), 3, Request::Step),
-        call(3, Request::Step),
-        call(2, Request::Run(9)),
-        call(usize::MAX, Request::Run(1)),
-        with(&[], 3, Request::Check),
-        call(4, Request::Step),
-        call(4, Request::Run(0)),
+        call(&plan, 3, Request::Check),
+        call(&other, 3, Request::Step),
+        call(&plan, 3, Request::Step),
+        call(&plan, 2, Request::Run(9)),
+        call(&plan, usize::MAX, Request::Run(1)),
+        call(&[], 3, Request::Check),
+        call(&plan, 4, Request::Step),
+        call(&plan, 4, Request::Run(0)),
     ];
     let replies = [
         Reply::Checked,
@@ -67,40 +52,41 @@ fn plan_y_with_refused_calls_between() {
         Reply::Stepped(None),
         Reply::Ran(End::Rest, 0),
     ];
-    assert_eq!(play(&calls, &mut hall), replies);
-    assert_eq!(hall.words, [2, 1, 1, 77]);
+    assert_eq!(play(&calls, &mut words), replies);
+    assert_eq!(words, [2, 1, 1, 77]);
     let rest: Vec<bool> = replies.iter().map(|reply| reply.says_rest()).collect();
     assert_eq!(rest, [false, false, false, false, true, false, true, true]);
-    let stand = |(c, r): (&Call, &Reply)| c.stands(*r, &y().bytes(), 3);
+    let stand = |(c, r): (&Call, &Reply)| c.stands(*r, &plan, 3);
     assert!(calls.iter().zip(&replies).all(stand));
 }
 
 /// Plan Z by a run of one step and a step.
 #[test]
 fn plan_z() {
-    let mut hall = hall(&z(), &Z_WORDS);
+    let plan = z().bytes();
+    let mut words = Z_WORDS;
     let calls = [
-        call(4, Request::Run(1)),
-        call(4, Request::Step),
-        call(4, Request::Check),
+        call(&plan, 4, Request::Run(1)),
+        call(&plan, 4, Request::Step),
+        call(&plan, 4, Request::Check),
     ];
     let replies = [
         Reply::Ran(End::Spent, 1),
         step(Kind::Swap, 1, 0, 0, Some(1)),
         Reply::Checked,
     ];
-    assert_eq!(play(&calls, &mut hall), replies);
-    assert_eq!(hall.words, [1, 2, 1, 2]);
+    assert_eq!(play(&calls, &mut words), replies);
+    assert_eq!(words, [1, 2, 1, 2]);
 }
 
 /// Another plan that is accepted and passes the placement's check does not share the list's plan.
 #[test]
 fn an_accepted_other_plan_does_not_stand() {
-    let mut hall = hall(&h(), &[15, 5, 2]);
-    let other = Draft { capacity: 4, ..h() }.bytes();
-    let strange = with(&other, 3, Request::Check);
-    assert_eq!(hall.does(&strange), Reply::Checked);
-    assert!(!strange.stands(Reply::Checked, &hall.bytes, 3));
+    let (plan, other) = (h().bytes(), Draft { capacity: 4, ..h() }.bytes());
+    let mut words = [15, 5, 2];
+    let strange = call(&other, 3, Request::Check);
+    assert_eq!(play(&[strange], &mut words), [Reply::Checked]);
+    assert!(!strange.stands(Reply::Checked, &plan, 3));
 }
 
 /// Full machines with larger spreads, of which nothing is claimed: the bound does not hold of these loads.
@@ -113,8 +99,8 @@ fn nothing_is_claimed_of_full_machines() {
     assert!(!within_bounds(&plan, &rest, &even));
 }
 
-/// A list over a plan: some calls get other bytes or too few words, and some are told that the hall is running.
-fn calls(rng: &mut Rng, other: &[u8], blocks: usize) -> Vec<Call> {
+/// A list over the plan: some calls get other bytes or too few words.
+fn calls<'a>(rng: &mut Rng, plan: &'a [u8], other: &'a [u8], blocks: usize) -> Vec<Call<'a>> {
     let number = rng.below(7);
     let one = |rng: &mut Rng| {
         let request = match rng.below(4) {
@@ -122,13 +108,9 @@ fn calls(rng: &mut Rng, other: &[u8], blocks: usize) -> Vec<Call> {
             1 | 2 => Request::Step,
             _ => Request::Run(rng.one_of(&[0, 1, 2, 5, u32::MAX])),
         };
+        let bytes = if rng.once_in(6) { other } else { plan };
         let lent = rng.below(blocks as u64 + 3) as usize;
-        Call {
-            other: rng.once_in(6).then(|| other.to_vec()),
-            running: rng.once_in(2),
-            lent: if rng.once_in(4) { lent } else { blocks },
-            request,
-        }
+        call(bytes, if rng.once_in(4) { lent } else { blocks }, request)
     };
     (0..number).map(|_| one(rng)).collect()
 }
@@ -136,7 +118,7 @@ fn calls(rng: &mut Rng, other: &[u8], blocks: usize) -> Vec<Call> {
 /// After a list, whatever its calls were: lawful with the chosen counts, at rest if the last call says so, and at
 /// rest within the bounds.
 fn claimed(plan: &Plan, words: &[u64], last: Option<Reply>, others: &[Vec<u64>]) {
-    assert_eq!(check(plan, false, words), Ok(words.len()));
+    assert_eq!(check(plan, words), Ok(words.len()));
     let rests = step_plain(plan, words).is_none();
     assert!(rests || !last.is_some_and(Reply::says_rest));
     for other in others.iter().filter(|_| rests) {
@@ -150,17 +132,17 @@ fn lists(seed: u64, number: u64, size: Size) {
     let mut rested = 0;
     for _ in 0..number {
         let draft = draft(rng, size);
-        let plan = draft.plan().expect("an accepted plan");
+        let (bytes, plan) = (draft.bytes(), draft.plan().expect("an accepted plan"));
         let version = size.version;
         let other = over_capacity(rng, Size { version, ..TINY }).bytes();
-        let list = calls(rng, &other, plan.blocks.len());
-        let mut hall = hall(&draft, &leaning(rng, &plan));
-        let replies = play(&list, &mut hall);
+        let list = calls(rng, &bytes, &other, plan.blocks.len());
+        let mut words = leaning(rng, &plan);
+        let replies = play(&list, &mut words);
         let others = [first(&plan), placement(rng, &plan)];
-        claimed(&plan, &hall.words, replies.last().copied(), &others);
-        let stand = |(c, r): (&Call, &Reply)| c.stands(*r, &hall.bytes, plan.blocks.len());
+        claimed(&plan, &words, replies.last().copied(), &others);
+        let stand = |(c, r): (&Call, &Reply)| c.stands(*r, &bytes, plan.blocks.len());
         assert!(list.iter().zip(&replies).all(stand));
-        rested += u64::from(step_plain(&plan, &hall.words).is_none());
+        rested += u64::from(step_plain(&plan, &words).is_none());
     }
     assert!(rested > number / 4 && rested < number, "{rested}");
 }
@@ -184,16 +166,16 @@ fn a_run_is_the_steps_of_a_list() {
     for number in 0..800 {
         let size = [TINY, TINY.paired(), TINY.wide(), TINY.fed()][number / 200];
         let draft = draft(rng, size);
-        let plan = draft.plan().expect("an accepted plan");
-        let mut at_once = hall(&draft, &leaning(rng, &plan));
-        let mut one_by_one = at_once.clone();
+        let (bytes, plan) = (draft.bytes(), draft.plan().expect("an accepted plan"));
+        let begin = leaning(rng, &plan);
+        let (mut at_once, mut one_by_one) = (begin.clone(), begin);
         let budget = rng.below(6) as u32;
         let blocks = plan.blocks.len();
-        at_once.does(&call(blocks, Request::Run(budget)));
+        play(&[call(&bytes, blocks, Request::Run(budget))], &mut at_once);
         for _ in 0..budget {
-            let next = step_literal(&plan, &one_by_one.words);
-            let reply = one_by_one.does(&call(blocks, Request::Step));
-            assert_eq!(reply, Reply::Stepped(next));
+            let next = step_literal(&plan, &one_by_one);
+            let reply = play(&[call(&bytes, blocks, Request::Step)], &mut one_by_one);
+            assert_eq!(reply, [Reply::Stepped(next)]);
         }
         assert_eq!(at_once, one_by_one);
     }

@@ -1,8 +1,5 @@
 //! Claims of the specification on random plans, against brute force where the plans are tiny.
 
-mod common;
-
-use common::{all_placements, maximum, PAIRED_QUARTER, QUARTER};
 use placement_reference::calls::enter_run;
 use placement_reference::convert::converted;
 use placement_reference::counts::{chosen, largest_share, share};
@@ -12,6 +9,20 @@ use placement_reference::listing::text;
 use placement_reference::placement::*;
 use placement_reference::plan::{read, Block, Plan};
 use placement_reference::steps::{run, step_literal, step_plain, End};
+
+const QUARTER: Size = Size {
+    machines: 4,
+    blocks: 3,
+    coarse: true,
+    version: 1,
+};
+
+/// The same with one block more, in version 2, so that there are two pairs at times.
+const PAIRED_QUARTER: Size = Size {
+    blocks: 4,
+    version: 2,
+    ..QUARTER
+};
 
 /// Few blocks on machines enough for ten copies, of pairs too.
 const ROOMY: Size = Size {
@@ -83,7 +94,7 @@ fn first_and_random_placements_are_feasible() {
                 leaning(&mut rng, &plan),
             ] {
                 assert!(feasible(&plan, &words));
-                assert_eq!(check(&plan, false, &words), Ok(plan.blocks.len()));
+                assert_eq!(check(&plan, &words), Ok(plan.blocks.len()));
             }
         }
     }
@@ -166,6 +177,26 @@ fn chosen_counts_by_brute_force() {
     assert_eq!(largest, [8, 8, 10, 10]);
 }
 
+/// Every lawful placement, at any lawful counts.
+fn all_placements(plan: &Plan) -> Vec<Vec<u64>> {
+    let mut lists: Vec<Vec<u64>> = vec![vec![]];
+    for (i, b) in plan.blocks.iter().enumerate() {
+        let counted = |w: &u64| (b.least..=plan.upper(i)).contains(&copies_of(*w));
+        let words: Vec<u64> = (1..1_u64 << plan.machines()).filter(counted).collect();
+        let longer = |list: &Vec<u64>| {
+            let list = list.clone();
+            words.iter().map(move |w| [list.clone(), vec![*w]].concat())
+        };
+        lists = lists.iter().flat_map(longer).collect();
+    }
+    lists.retain(|l| feasible(plan, l));
+    lists
+}
+
+fn maximum(plan: &Plan, words: &[u64]) -> u64 {
+    *loads(plan, words).iter().max().unwrap()
+}
+
 /// The plan with fewer feeds than racks and more than one, if the racks can have them, and the largest spreads.
 fn stretched(rng: &mut Rng, mut draft: Draft) -> Draft {
     let feeds = divisors(draft.racks);
@@ -221,7 +252,7 @@ fn bound_at_rest_by_brute_force() {
         let one = plan.blocks.iter().all(|b| b.spread == 1);
         let shares = if one { 1 } else { 3 };
         let machines = plan.machines() as u64;
-        for words in all.iter().filter(|w| check(&plan, false, w).is_ok()) {
+        for words in all.iter().filter(|w| check(&plan, w).is_ok()) {
             let full = (0..plan.machines()).any(|m| held_by(words, m) == plan.capacity);
             if step_plain(&plan, words).is_none() && (one || !full) {
                 let bound = machines * best + shares * (machines - 1) * s;
@@ -536,7 +567,7 @@ fn damaged_placements_get_the_first_row() {
                 continue;
             };
             let row = ROWS[set.trailing_zeros() as usize];
-            assert_eq!(check(&plan, false, &words), Err(row));
+            assert_eq!(check(&plan, &words), Err(row));
             found[set] += 1;
         }
     }
@@ -606,8 +637,8 @@ fn same_answers(rng: &mut Rng, plan: &Plan, old: &[u8], new: &[u8]) {
     words[1] = words[0].clone();
     let budget = rng.below(9) as u32;
     let ends = [
-        enter_run(old, false, &mut words[0], budget),
-        enter_run(new, false, &mut words[1], budget),
+        enter_run(old, &mut words[0], budget),
+        enter_run(new, &mut words[1], budget),
     ];
     assert_eq!(ends[0], ends[1]);
     assert_eq!(words[0], words[1]);
@@ -663,7 +694,7 @@ fn same_everywhere(rng: &mut Rng, one: &Draft, other: &Draft) {
     let rows = [0, 1, 2, 3, 4].map(|r| set >> r & 1 == 1);
     if let Some(words) = broken(rng, &plan, rows) {
         let other = other.plan().expect("accepted");
-        assert_eq!(check(&plan, false, &words), check(&other, false, &words));
+        assert_eq!(check(&plan, &words), check(&other, &words));
     }
 }
 
@@ -768,7 +799,7 @@ fn row_15_counts_feeds() {
             let mut blocks = plan.blocks.iter().zip(&words);
             blocks.any(|(b, w)| feeds_by_words(plan, *w) < b.spread)
         };
-        let row = check(&plan, false, &words).err();
+        let row = check(&plan, &words).err();
         assert_eq!(row == Some(15), too_few(&plan));
         let by_rack = Plan {
             feeds: plan.racks,
@@ -826,10 +857,7 @@ fn feeds_stand_for_racks() {
                     assert_eq!(after[renumbered(&plan, m)], *load);
                 }
             }
-            assert_eq!(
-                check(&fed, false, &all(&damaged)),
-                check(&plan, false, &damaged)
-            );
+            assert_eq!(check(&fed, &all(&damaged)), check(&plan, &damaged));
         }
     }
     assert!(several > 100, "{several}");

@@ -22,7 +22,7 @@ fn refused(list: &[Entry], count: u64, tick: u32) -> u8 {
 
 fn refused_for(bytes: &[u8], block: u32, list: &[Entry], count: u64, tick: u32) -> u8 {
     let mut after = list.to_vec();
-    let row = enter_read(bytes, false, block, tick, &mut after, count).expect_err("a refusal");
+    let row = enter_read(bytes, block, tick, &mut after, count).expect_err("a refusal");
     assert_eq!(after, list, "a refused read wrote");
     row
 }
@@ -30,7 +30,7 @@ fn refused_for(bytes: &[u8], block: u32, list: &[Entry], count: u64, tick: u32) 
 /// A read of block 1 that is accepted: the new count, and the list afterwards.
 fn accepted(list: &[Entry], count: u64, tick: u32) -> (u64, Vec<Entry>) {
     let mut after = list.to_vec();
-    let answer = enter_read(&H, false, 1, tick, &mut after, count).expect("an accepted read");
+    let answer = enter_read(&H, 1, tick, &mut after, count).expect("an accepted read");
     (answer, after)
 }
 
@@ -38,7 +38,7 @@ fn accepted(list: &[Entry], count: u64, tick: u32) -> (u64, Vec<Entry>) {
 fn from_an_empty_list() {
     let mut list = [NONE; 3];
     for (count, (block, tick)) in (0..).zip([(2, 100), (0, 100), (2, 7_200_099)]) {
-        let answer = enter_read(&H, false, block, tick, &mut list, count);
+        let answer = enter_read(&H, block, tick, &mut list, count);
         assert_eq!(answer, Ok(count + 1));
     }
     assert_eq!(
@@ -46,9 +46,9 @@ fn from_an_empty_list() {
         [entry(2, 100), entry(0, 100), entry(2, 7_200_099)],
         "in order"
     );
-    let popularity = |block| enter_popularity(&H, false, block, &list, 3);
+    let popularity = |block| enter_popularity(&H, block, &list, 3);
     assert_eq!([0, 1, 2, 3].map(popularity), [Ok(1), Ok(0), Ok(2), Err(19)]);
-    assert_eq!(enter_read(&H, false, 1, 7_200_100, &mut list, 3), Ok(2));
+    assert_eq!(enter_read(&H, 1, 7_200_100, &mut list, 3), Ok(2));
     assert_eq!(list, [entry(2, 7_200_099), entry(1, 7_200_100), NONE]);
 }
 
@@ -125,7 +125,7 @@ fn a_count_above_the_length() {
         assert_eq!(answer, 3);
         assert_eq!(after, [list[1], list[2], entry(1, 7_200_000)]);
         assert_eq!(refused(&list, count, 7_199_999), 20);
-        assert_eq!(enter_popularity(&H, false, 2, &list, count), Ok(1));
+        assert_eq!(enter_popularity(&H, 2, &list, count), Ok(1));
     }
 }
 
@@ -150,7 +150,7 @@ fn lists_longer_than_4096() {
         assert_eq!(after[..4095], list[1..4096]);
         assert_eq!(after[4095], entry(1, 7_200_000));
         assert_eq!(after[4096..], list[4096..]);
-        let reads = [0, 1, 2].map(|block| enter_popularity(&H, false, block, &list, count));
+        let reads = [0, 1, 2].map(|block| enter_popularity(&H, block, &list, count));
         assert_eq!(reads, [Ok(1366), Ok(1365), Ok(1365)]);
     }
     let (answer, after) = accepted(&list, 7, 1 << 31);
@@ -173,16 +173,16 @@ fn order_of_the_rows() {
         (h().fed(2).with_budget(13).bytes(), 23),
     ] {
         assert_eq!(refused_for(&bytes, 3, &full, 2, 0), row);
-        assert_eq!(enter_popularity(&bytes, false, 3, &full, 2), Err(row));
+        assert_eq!(enter_popularity(&bytes, 3, &full, 2), Err(row));
     }
     let mut mispaired = K;
     mispaired[20] = 2;
     assert_eq!(refused_for(&mispaired, 4, &full, 2, 0), 17);
-    assert_eq!(enter_popularity(&mispaired, false, 4, &full, 2), Err(17));
+    assert_eq!(enter_popularity(&mispaired, 4, &full, 2), Err(17));
     for block in [3, 4, 1 << 16, 1 << 31, u32::MAX] {
         assert_eq!(refused_for(&H, block, &full, 2, 0), 19, "19 before 20");
         assert_eq!(refused_for(&H, block, &full, 2, 9), 19, "19 before 21");
-        assert_eq!(enter_popularity(&H, false, block, &full, 2), Err(19));
+        assert_eq!(enter_popularity(&H, block, &full, 2), Err(19));
     }
     assert_eq!(refused_for(&empty().bytes(), 0, &full, 0, 9), 19);
     assert_eq!(refused(&full, 2, 8), 20, "20 before 21");
@@ -195,12 +195,11 @@ fn order_of_the_rows() {
 fn popularity_of_a_pair_is_the_larger() {
     let blocks = [1, 2, 1, 0, 1, 2, 0, 9, 3];
     let list = blocks.map(|block| entry(block, 7));
-    let popularity =
-        |count| [0, 1, 2, 3].map(|block| enter_popularity(&K, false, block, &list, count));
+    let popularity = |count| [0, 1, 2, 3].map(|block| enter_popularity(&K, block, &list, count));
     assert_eq!(popularity(9), [3, 3, 2, 1].map(Ok));
     assert_eq!(popularity(4), [2, 2, 1, 0].map(Ok));
     assert_eq!(popularity(0), [Ok(0); 4]);
     let first = [entry(0, 1)];
-    assert_eq!(enter_popularity(&K, false, 1, &first, 1), Ok(1));
-    assert_eq!(enter_popularity(&K_4, false, 1, &first, 1), Ok(1));
+    assert_eq!(enter_popularity(&K, 1, &first, 1), Ok(1));
+    assert_eq!(enter_popularity(&K_4, 1, &first, 1), Ok(1));
 }

@@ -1,10 +1,8 @@
 //! The stream of trials: digests, records, and the stored stream's bounds.
 
-use placement_reference::changes::Entries;
-use placement_reference::lists::{plan_with, plan_without};
 use placement_reference::reads::Entry;
 use placement_reference::samples::{y, H, H_3};
-use placement_reference::stream::{digest, replay, Writer, PLAN_ROOM, RECORDS, UNTOUCHED, WORDS};
+use placement_reference::stream::{digest, replay, Writer, PLAN_ROOM, RECORDS, UNTOUCHED};
 use placement_reference::trials::stream;
 use std::iter::repeat_n;
 
@@ -125,113 +123,11 @@ fn a_short_stream_of_reads() {
     assert_eq!(output.lines().collect::<Vec<_>>(), expected);
 }
 
-/// The digest of all words, of which these are the first and the others 0.
-fn words_digest(words: &[u64]) -> String {
-    let all = words
-        .iter()
-        .copied()
-        .chain(std::iter::repeat(0))
-        .take(WORDS);
-    digest(all.flat_map(u64::to_le_bytes))
-}
-
-/// The digest of a buffer of so many bytes with this plan at its beginning.
-fn buffer_digest(plan: &[u8], number: usize) -> String {
-    let all = plan.iter().copied().chain(std::iter::repeat(UNTOUCHED));
-    digest(all.take(number))
-}
-
-/// The records of running halls, byte for byte, and their lines.
-#[test]
-fn records_of_running_halls() {
-    let entries = Entries {
-        popularity: 0x0102_0304_0506_0708,
-        least: 1 << 63,
-        spread: 258,
-    };
-    let mut w = Writer::default();
-    w.running(true);
-    w.running(false);
-    w.entries(entries);
-    w.arrive();
-    w.delete(0x8000_0001);
-    w.plan_with(300, false);
-    w.plan_with(300, true);
-    w.plan_without(5, 300, false);
-    w.plan_without(5, 300, true);
-    let expected = [
-        &b"H\0\0\0\0\0\0\x01H\0\0\0\0\0\0\0"[..],
-        b"A\0\0\x18\0\0\0\0\x01\x02\x03\x04\x05\x06\x07\x08\x80\0\0\0\0\0\0\0\0\0\0\0\0\0\x01\x02",
-        b"a\0\0\0\0\0\0\0x\0\0\0\x80\0\0\x01",
-        b"w\0\x01\x2C\0\0\0\0w\0\x01\x2C\0\0\0\x01",
-        b"y\0\x01\x2C\0\0\0\x05y\0\x01\x2C\x80\0\0\x05",
-    ];
-    assert_eq!(w.bytes, expected.concat());
-}
-
-const ONE: Entries = Entries {
-    popularity: 1,
-    least: 1,
-    spread: 1,
-};
-
-/// Plan Y with a block more and one less.
-fn stream_of_a_hall() -> Vec<u8> {
-    let mut w = Writer::default();
-    w.plan(&y().bytes());
-    w.words(&[1, 2, 1]);
-    w.arrive();
-    w.entries(ONE);
-    w.arrive();
-    w.lend(4);
-    w.arrive();
-    w.plan_with(40, false);
-    w.calls("k");
-    w.plan_with(34, true);
-    w.plan_with(40, true);
-    w.calls("k");
-    w.running(true);
-    w.calls("k");
-    w.delete(4);
-    w.delete(0);
-    w.plan_without(4, 30, true);
-    w.plan_without(0, 30, true);
-    w.calls("kE");
-    w.bytes
-}
-
-/// The plan follows where it is kept, and digests are of whole buffers.
-#[test]
-fn a_short_stream_of_a_running_hall() {
-    let grown = plan_with(&y().bytes(), ONE).unwrap();
-    let shrunk = plan_without(&grown, 0).unwrap();
-    let [before, after, gone] = [&[1, 2, 1][..], &[1, 2, 1, 2], &[2, 1, 2]].map(words_digest);
-    let expected = [
-        format!("arrive refused 12 {before}"),
-        format!("arrive refused 12 {before}"),
-        format!("arrive 2 {after}"),
-        format!("with 35 {}", buffer_digest(&grown, 40)),
-        format!("check 3 {after}"),
-        format!("with refused 12 {}", buffer_digest(&[], 34)),
-        format!("with 35 {}", buffer_digest(&grown, 40)),
-        format!("check refused 10 {after}"),
-        format!("check 4 {after}"),
-        format!("delete refused 26 {after}"),
-        format!("delete 1 0 {gone}"),
-        format!("without refused 26 {}", buffer_digest(&[], 30)),
-        format!("without 30 {}", buffer_digest(&shrunk, 30)),
-        format!("check 3 {gone}"),
-        "end".to_string(),
-    ];
-    let output = replay(&stream_of_a_hall());
-    assert_eq!(output.lines().collect::<Vec<_>>(), expected);
-}
-
 #[test]
 fn the_stored_stream_keeps_its_bounds() {
     let once = stream();
     assert_eq!(once, stream());
-    assert!(once.len() < 1_850_000);
+    assert!(once.len() < 1_430_000);
     assert!(once.ends_with(b"E\0\0\0\0\0\0\0"));
 }
 

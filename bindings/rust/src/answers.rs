@@ -1,11 +1,11 @@
 //! What the calls answer, made from the archive's numbers.
 
-use crate::raw::{DELETE_NUMBERS, REPORT_NUMBERS, RUN_NUMBERS, STEP_NUMBERS};
+use crate::raw::{PLAY_NUMBERS, REPORT_NUMBERS, RUN_NUMBERS, STEP_NUMBERS};
 use std::error::Error;
 use std::fmt;
 
-/// Why a plan, a placement, a read, an arrival or a deletion is turned back: the number of the check, 1 to 26. `Display`
-/// and `Debug` tell it with the reason in words.
+/// Why a plan, a placement or a read is turned back: the number of the check, 1 to 23. `Display` and `Debug` tell it
+/// with the reason in words.
 #[derive(Clone, Copy, PartialEq, Eq, Hash)]
 pub struct Refusal(u8);
 
@@ -33,13 +33,9 @@ impl Refusal {
             9 => "a spread of 0, above the least copies, or above the racks (in version 4 the feeds)",
             10 => "the sum of least copies is above the budget",
             11 => "the sum of least copies is above what the machines hold",
-            12 => {
-                "a lent buffer is too short for the plan's blocks, for a new one, or for the plan to be written"
-            }
+            12 => "a lent buffer is too short for the plan's blocks",
             13 => "a bit at or above the number of machines is set",
-            14 => {
-                "a block's copies are not its chosen count, in a running hall not from its least to its upper count"
-            }
+            14 => "a block's copies are not its chosen count",
             15 => "a block lies in fewer racks (in version 4 in fewer feeds) than its spread",
             16 => "a machine holds more copies than its capacity",
             17 => "a pair byte is neither 0 nor 1, marks no pair, or marks two blocks that differ",
@@ -49,11 +45,6 @@ impl Refusal {
             21 => "the list is full of reads that still count",
             22 => "the number of feeds is 0 or does not divide the number of racks",
             23 => "the budget, in version 4, is above what the machines hold",
-            24 => {
-                "1,024 blocks stand, or a new block's popularity, least copies or spread are not allowed"
-            }
-            25 => "no lawful set of machines for the new block exists with all others unmoved",
-            26 => "the block to delete does not exist",
             _ => "no check has this number",
         }
     }
@@ -167,30 +158,14 @@ impl RunEnd {
     }
 }
 
-/// Which blocks a deletion took away: `count` of them, 1 or the 2 of a pair, from the number `first` on.
-#[derive(Clone, Copy, Debug, PartialEq, Eq, Hash)]
-pub struct Deleted {
-    pub count: usize,
-    pub first: usize,
-}
-
-impl Deleted {
-    pub(crate) fn from_numbers(out: [u64; DELETE_NUMBERS]) -> Deleted {
-        let [count, first] = out.map(|number| number as usize);
-        Deleted { count, first }
-    }
-}
-
-/// What a call of a script answered: its refusal, that the check passed, the step taken (`None` at rest), how the run
-/// ended, the word of the block that came, or which blocks went.
+/// What a call of a script answered: its refusal, that the check passed, the step taken (`None` at rest), or how the run
+/// ended.
 #[derive(Clone, Copy, Debug, PartialEq, Eq, Hash)]
 pub enum Reply {
     Refused(Refusal),
     Checked,
     Stepped(Option<Step>),
     Ran(RunEnd),
-    Arrived(u64),
-    Deleted(Deleted),
 }
 
 impl Reply {
@@ -199,16 +174,13 @@ impl Reply {
         matches!(self, Reply::Stepped(None) | Reply::Ran(RunEnd::Rest(_)))
     }
 
-    /// The reply of the archive's first seven numbers.
-    pub(crate) fn from_numbers(out: [u64; 7]) -> Reply {
+    pub(crate) fn from_numbers(out: [u64; PLAY_NUMBERS]) -> Reply {
         let [kind, a, b, c, d, e, f] = out;
         match kind {
             0 => Reply::Refused(Refusal(a as u8)),
             1 => Reply::Checked,
             2 => Reply::Stepped(Step::from_numbers([a, b, c, d, e, f])),
-            3 => Reply::Ran(RunEnd::from_numbers([a, b])),
-            4 => Reply::Arrived(a),
-            _ => Reply::Deleted(Deleted::from_numbers([a, b])),
+            _ => Reply::Ran(RunEnd::from_numbers([a, b])),
         }
     }
 }
@@ -222,7 +194,7 @@ mod tests {
     #[test]
     fn refusals_tell_their_reasons() {
         let mut reasons = HashSet::new();
-        for number in 1..=26 {
+        for number in 1..=23 {
             let refusal = Refusal(number);
             let reason = refusal.reason();
             assert!(reasons.insert(reason), "{number}: {reason}");
@@ -232,7 +204,7 @@ mod tests {
                 format!("Refusal({number}: {reason})")
             );
         }
-        assert!(!reasons.contains(Refusal(27).reason()));
+        assert!(!reasons.contains(Refusal(24).reason()));
         assert!(reasons.contains("the sum of least copies is above the budget"));
     }
 }

@@ -5,30 +5,24 @@
 //! counted in a lent list of entries, for the next plan file. A refused call writes nothing, and answers the number of
 //! the check that refused it.
 //!
-//! Recordings come and go in a running hall: `arrive` and `delete` change the placement, and `plan_with` and
-//! `plan_without` make the bytes of the next plan, which all later calls need. The calls on placements and on reads are
-//! told by `Hall` whether the hall is running.
-//!
 //! ```
-//! use bpl::Hall;
-//!
 //! // One rack of two machines, three blocks of one copy.
 //! let mut plan = vec![0x42, 0x50, 0x4C, 0, 1, 1, 2, 0, 2, 0, 0, 0, 3, 0, 3];
 //! plan.extend([0, 0, 4, 1, 1, 0, 0, 1, 1, 1, 0, 0, 2, 1, 1]);
 //! let mut words = [0; 3];
 //! bpl::first(&plan, &mut words)?;
 //! assert_eq!(words, [1, 2, 1]);
-//! assert_eq!(bpl::run(&plan, Hall::Planned, &mut words, 100)?, bpl::RunEnd::Rest(2));
-//! assert_eq!(bpl::report(&plan, Hall::Planned, &words)?.max_load, 10_080);
-//! assert_eq!(bpl::check(&plan, Hall::Planned, &words[..2]).unwrap_err().number(), 12);
+//! assert_eq!(bpl::run(&plan, &mut words, 100)?, bpl::RunEnd::Rest(2));
+//! assert_eq!(bpl::report(&plan, &words)?.max_load, 10_080);
+//! assert_eq!(bpl::check(&plan, &words[..2]).unwrap_err().number(), 12);
 //!
 //! // In version 2 a sixth byte of 1 pairs a block with the next one: no machine ever holds both.
 //! let mut plan = vec![0x42, 0x50, 0x4C, 0, 2, 1, 2, 0, 2, 0, 0, 0, 3, 0, 3];
 //! plan.extend([0, 0, 4, 1, 1, 1, 0, 0, 4, 1, 1, 0, 0, 0, 9, 1, 1, 0]);
 //! bpl::first(&plan, &mut words)?;
 //! assert_eq!(words, [1, 2, 1]);
-//! assert_eq!(bpl::run(&plan, Hall::Planned, &mut words, 100)?, bpl::RunEnd::Rest(0));
-//! assert_eq!(bpl::check(&plan, Hall::Planned, &[1, 1, 2]).unwrap_err().number(), 18);
+//! assert_eq!(bpl::run(&plan, &mut words, 100)?, bpl::RunEnd::Rest(0));
+//! assert_eq!(bpl::check(&plan, &[1, 1, 2]).unwrap_err().number(), 18);
 //!
 //! // Version 3 has four bytes for the popularity, so that it may be above 16,777,215, and allows ten copies of a block.
 //! let mut wide = [0; 15 + 7 * 3];
@@ -36,7 +30,7 @@
 //! assert_eq!(wide[15..22], [0, 0, 0, 4, 1, 1, 1]);
 //! assert_eq!(bpl::listing(&wide[..length], 100)?, bpl::listing(&plan, 100)?);
 //! wide[29] = 1;
-//! assert_eq!(bpl::report(&wide, Hall::Planned, &words)?.max_share, 2520 * (9 + (1 << 24)));
+//! assert_eq!(bpl::report(&wide, &words)?.max_share, 2520 * (9 + (1 << 24)));
 //!
 //! // Version 4 has the number of mains feeds behind the machines per rack. Here racks 0 and 2 hang on feed 0, and racks
 //! // 1 and 3 on feed 1: a block with spread 2 may not lie in racks 0 and 2 alone.
@@ -44,7 +38,7 @@
 //! plan.extend([0, 0, 0, 7, 2, 2, 0]);
 //! bpl::first(&plan, &mut words)?;
 //! assert_eq!(words[0], 0b0011);
-//! assert_eq!(bpl::check(&plan, Hall::Planned, &[0b0101]).unwrap_err().number(), 15);
+//! assert_eq!(bpl::check(&plan, &[0b0101]).unwrap_err().number(), 15);
 //!
 //! // The machines hold four copies. Version 4 refuses a larger budget.
 //! plan[13] = 4;
@@ -58,15 +52,11 @@
 #![deny(unsafe_op_in_unsafe_fn)]
 
 mod answers;
-mod hall;
 pub mod raw;
 mod reads;
 mod script;
 
-pub use answers::{Deleted, Refusal, Reply, Report, RunEnd, Step};
-pub use hall::{
-    arrive, delete, plan_with, plan_with_into, plan_without, plan_without_into, Arrival, Hall,
-};
+pub use answers::{Refusal, Reply, Report, RunEnd, Step};
 pub use reads::{popularity, read, Entry, MAX_ENTRIES, READ_WINDOW_MS};
 pub use script::{Call, Request, Source};
 
@@ -74,9 +64,6 @@ use answers::settled;
 
 /// The blocks that a plan has at most: so many counts or words are enough for every plan.
 pub const MAX_BLOCKS: usize = 1024;
-
-/// The bytes of the largest plan of any version: so many are enough for a buffer that a plan is written to.
-pub const MAX_PLAN_BYTES: usize = 16 + 7 * MAX_BLOCKS;
 
 /// Judges a plan: refusals 1 to 11, 17, 22 and 23.
 pub fn plan(plan: &[u8]) -> Result<(), Refusal> {
@@ -100,29 +87,20 @@ pub fn first(plan: &[u8], words: &mut [u64]) -> Result<(), Refusal> {
     settled(unsafe { raw::bpl_first(plan.as_ptr(), plan.len(), words.as_mut_ptr(), words.len()) })
 }
 
-/// Checks a placement: refusals 1 to 18, 22 and 23, in a running hall without 10 and 23.
-pub fn check(plan: &[u8], hall: Hall, words: &[u64]) -> Result<(), Refusal> {
+/// Checks a placement: refusals 1 to 18, 22 and 23.
+pub fn check(plan: &[u8], words: &[u64]) -> Result<(), Refusal> {
     // SAFETY: as in `plan`; neither slice is written.
-    settled(unsafe {
-        raw::bpl_check(
-            plan.as_ptr(),
-            plan.len(),
-            hall.number(),
-            words.as_ptr(),
-            words.len(),
-        )
-    })
+    settled(unsafe { raw::bpl_check(plan.as_ptr(), plan.len(), words.as_ptr(), words.len()) })
 }
 
-/// Reports on a placement: refusals 1 to 18, 22 and 23, in a running hall without 10 and 23.
-pub fn report(plan: &[u8], hall: Hall, words: &[u64]) -> Result<Report, Refusal> {
+/// Reports on a placement: refusals 1 to 18, 22 and 23.
+pub fn report(plan: &[u8], words: &[u64]) -> Result<Report, Refusal> {
     let mut out = [0; raw::REPORT_NUMBERS];
     // SAFETY: as in `check`; `out` is a local of its own with the length that is passed.
     settled(unsafe {
         raw::bpl_report(
             plan.as_ptr(),
             plan.len(),
-            hall.number(),
             words.as_ptr(),
             words.len(),
             out.as_mut_ptr(),
@@ -132,16 +110,14 @@ pub fn report(plan: &[u8], hall: Hall, words: &[u64]) -> Result<Report, Refusal>
     Ok(Report::from_numbers(out))
 }
 
-/// Takes the next step of a placement, or leaves it as it is and answers `None` at rest: refusals 1 to 18, 22 and 23, in a
-/// running hall without 10 and 23.
-pub fn step(plan: &[u8], hall: Hall, words: &mut [u64]) -> Result<Option<Step>, Refusal> {
+/// Takes the next step of a placement, or leaves it as it is and answers `None` at rest: refusals 1 to 18, 22 and 23.
+pub fn step(plan: &[u8], words: &mut [u64]) -> Result<Option<Step>, Refusal> {
     let mut out = [0; raw::STEP_NUMBERS];
     // SAFETY: as in `first`; `out` is a local of its own with the length that is passed.
     settled(unsafe {
         raw::bpl_step(
             plan.as_ptr(),
             plan.len(),
-            hall.number(),
             words.as_mut_ptr(),
             words.len(),
             out.as_mut_ptr(),
@@ -151,16 +127,14 @@ pub fn step(plan: &[u8], hall: Hall, words: &mut [u64]) -> Result<Option<Step>, 
     Ok(Step::from_numbers(out))
 }
 
-/// Takes next steps of a placement until rest or until the step limit is used: refusals 1 to 18, 22 and 23, in a running
-/// hall without 10 and 23.
-pub fn run(plan: &[u8], hall: Hall, words: &mut [u64], step_limit: u32) -> Result<RunEnd, Refusal> {
+/// Takes next steps of a placement until rest or until the step limit is used: refusals 1 to 18, 22 and 23.
+pub fn run(plan: &[u8], words: &mut [u64], step_limit: u32) -> Result<RunEnd, Refusal> {
     let mut out = [0; raw::RUN_NUMBERS];
     // SAFETY: as in `first`; `out` is a local of its own with the length that is passed.
     settled(unsafe {
         raw::bpl_run(
             plan.as_ptr(),
             plan.len(),
-            hall.number(),
             words.as_mut_ptr(),
             words.len(),
             step_limit,
@@ -212,50 +186,37 @@ pub fn convert(plan: &[u8], buffer: &mut [u8]) -> Result<usize, Refusal> {
     Ok(out[0] as usize)
 }
 
-/// Plays a script: checks, steps, runs, arrivals and deletions, one after the other over the same words, each with the
-/// standing plan's bytes or the other ones. Answers the last call's reply, `Reply::Checked` where there is no call.
+/// Plays a script: checks, steps and runs, one after the other over the same words, each with the plan's bytes or the
+/// other ones. Answers the last call's reply, `Reply::Checked` where there is no call.
 ///
-/// `plan` is the standing plan: after each accepted arrival or deletion it becomes the next plan, made from the bytes that
-/// the call got. A refused call writes nothing, and the next one is made all the same. Of all functions here this is the
-/// one whose contract in the archive is the claim about lists of calls, about code that has run; `include/bpl.h` says what
-/// it is.
+/// A refused call writes nothing, and the next one is made all the same. Of all functions here this is the one whose
+/// contract in the archive is the claim about lists of calls, about code that has run; `include/bpl.h` says what it is.
 ///
 /// ```
-/// use bpl::{Arrival, Call, Reply, Request, RunEnd};
+/// use bpl::{Call, Reply, Request, RunEnd};
 ///
 /// // One rack of two machines, three blocks of one copy.
 /// let mut plan = vec![0x42, 0x50, 0x4C, 0, 1, 1, 2, 0, 2, 0, 0, 0, 3, 0, 3];
 /// plan.extend([0, 0, 4, 1, 1, 0, 0, 1, 1, 1, 0, 0, 2, 1, 1]);
-/// let mut words = [1, 2, 1, 0];
+/// let mut words = [1, 2, 1];
 /// let calls = [
 ///     Call::new(Request::Step),
 ///     Call::new(Request::Check).with_other(), // refused with 1: the other bytes are no plan
 ///     Call::new(Request::Step).lending(2),    // refused with 12
 ///     Call::new(Request::Run(100)),
 /// ];
-/// let said = bpl::play(&mut plan, &[], &mut words, &calls);
-/// assert_eq!(said, Reply::Ran(RunEnd::Rest(1)));
-/// assert_eq!(words, [2, 1, 1, 0]);
-///
-/// let arrival = Arrival { popularity: 9, least: 1, spread: 1 };
-/// let calls = [Request::Arrive(arrival), Request::Delete(1), Request::Run(100)];
-/// let said = bpl::play(&mut plan, &[], &mut words, &calls.map(|asked| Call::new(asked).running()));
-/// assert_eq!(said, Reply::Ran(RunEnd::Rest(1)));
-/// assert_eq!(words, [1, 1, 2, 0]);
-/// assert_eq!(plan[13..], [0, 3, 0, 0, 4, 1, 1, 0, 0, 2, 1, 1, 0, 0, 9, 1, 1]);
+/// assert_eq!(bpl::play(&plan, &[], &mut words, &calls), Reply::Ran(RunEnd::Rest(1)));
+/// assert_eq!(words, [2, 1, 1]);
 /// ```
-pub fn play(plan: &mut Vec<u8>, other: &[u8], words: &mut [u64], calls: &[Call]) -> Reply {
-    let script: Vec<u64> = calls.iter().flat_map(|call| call.item()).collect();
-    let length = plan.len();
-    plan.resize(length.max(MAX_PLAN_BYTES), 0);
+pub fn play(plan: &[u8], other: &[u8], words: &mut [u64], calls: &[Call]) -> Reply {
+    let script: Vec<u64> = calls.iter().map(|call| call.item()).collect();
     let mut out = [0; raw::PLAY_NUMBERS];
-    // SAFETY: as in `first`, and for `other` as for the plan. The plan is borrowed alone, as it is written too, and the
-    // length passed beside its own is within it. `script` and `out` are locals of their own with the lengths passed.
+    // SAFETY: as in `first`, and for `other` as for the plan; neither is written, so the two may overlap. `script` and
+    // `out` are locals of their own with the lengths that are passed.
     let code = unsafe {
         raw::bpl_play(
-            plan.as_mut_ptr(),
+            plan.as_ptr(),
             plan.len(),
-            length as u64,
             other.as_ptr(),
             other.len(),
             words.as_mut_ptr(),
@@ -266,11 +227,6 @@ pub fn play(plan: &mut Vec<u8>, other: &[u8], words: &mut [u64], calls: &[Call])
             out.len(),
         )
     };
-    assert_eq!(
-        code, 0,
-        "a play with room for its plan and its reply has one"
-    );
-    let [reply @ .., standing] = out;
-    plan.truncate(standing as usize);
-    Reply::from_numbers(reply)
+    assert_eq!(code, 0, "a play with room for its reply has one");
+    Reply::from_numbers(out)
 }

@@ -7,16 +7,13 @@
 
 use crate::reads::Entry;
 
-/// Words of `out` that a call writes, and has to be lent.
+/// Words of `out` that a report, a step, a run, a listing, a play, a read, a popularity and a conversion write, and have
+/// to be lent.
 pub const REPORT_NUMBERS: usize = 4;
 pub const STEP_NUMBERS: usize = 6;
 pub const RUN_NUMBERS: usize = 2;
 pub const LISTING_NUMBERS: usize = 1;
-pub const PLAY_NUMBERS: usize = 8;
-pub const ARRIVE_NUMBERS: usize = 1;
-pub const DELETE_NUMBERS: usize = 2;
-pub const PLAN_WITH_NUMBERS: usize = 1;
-pub const PLAN_WITHOUT_NUMBERS: usize = 1;
+pub const PLAY_NUMBERS: usize = 7;
 pub const READ_NUMBERS: usize = 1;
 pub const POPULARITY_NUMBERS: usize = 1;
 pub const CONVERT_NUMBERS: usize = 1;
@@ -24,10 +21,7 @@ pub const CONVERT_NUMBERS: usize = 1;
 /// Bytes of text that a listing has to be lent.
 pub const LISTING_ROOM: usize = 65536;
 
-/// The words of an item of a script.
-pub const ITEM_WORDS: usize = 5;
-
-/// The result for an `out`, a text or a buffer of a standing plan that is too short.
+/// The result for an `out` or a text that is too short.
 pub const SHORT_BUFFER: u32 = 255;
 
 extern "C" {
@@ -37,18 +31,11 @@ extern "C" {
 
     pub fn bpl_first(plan: *const u8, plan_len: usize, words: *mut u64, words_len: usize) -> u32;
 
-    pub fn bpl_check(
-        plan: *const u8,
-        plan_len: usize,
-        running: u32,
-        words: *const u64,
-        words_len: usize,
-    ) -> u32;
+    pub fn bpl_check(plan: *const u8, plan_len: usize, words: *const u64, words_len: usize) -> u32;
 
     pub fn bpl_report(
         plan: *const u8,
         plan_len: usize,
-        running: u32,
         words: *const u64,
         words_len: usize,
         out: *mut u64,
@@ -58,7 +45,6 @@ extern "C" {
     pub fn bpl_step(
         plan: *const u8,
         plan_len: usize,
-        running: u32,
         words: *mut u64,
         words_len: usize,
         out: *mut u64,
@@ -68,54 +54,9 @@ extern "C" {
     pub fn bpl_run(
         plan: *const u8,
         plan_len: usize,
-        running: u32,
         words: *mut u64,
         words_len: usize,
         step_limit: u32,
-        out: *mut u64,
-        out_len: usize,
-    ) -> u32;
-
-    pub fn bpl_arrive(
-        plan: *const u8,
-        plan_len: usize,
-        popularity: u64,
-        least: u64,
-        spread: u64,
-        words: *mut u64,
-        words_len: usize,
-        out: *mut u64,
-        out_len: usize,
-    ) -> u32;
-
-    pub fn bpl_delete(
-        plan: *const u8,
-        plan_len: usize,
-        block: u32,
-        words: *mut u64,
-        words_len: usize,
-        out: *mut u64,
-        out_len: usize,
-    ) -> u32;
-
-    pub fn bpl_plan_with(
-        plan: *const u8,
-        plan_len: usize,
-        popularity: u64,
-        least: u64,
-        spread: u64,
-        buffer: *mut u8,
-        buffer_len: usize,
-        out: *mut u64,
-        out_len: usize,
-    ) -> u32;
-
-    pub fn bpl_plan_without(
-        plan: *const u8,
-        plan_len: usize,
-        block: u32,
-        buffer: *mut u8,
-        buffer_len: usize,
         out: *mut u64,
         out_len: usize,
     ) -> u32;
@@ -131,9 +72,8 @@ extern "C" {
     ) -> u32;
 
     pub fn bpl_play(
-        plan: *mut u8,
-        plan_room: usize,
-        plan_len: u64,
+        plan: *const u8,
+        plan_len: usize,
         other: *const u8,
         other_len: usize,
         words: *mut u64,
@@ -147,7 +87,6 @@ extern "C" {
     pub fn bpl_read(
         plan: *const u8,
         plan_len: usize,
-        running: u32,
         block: u32,
         tick: u32,
         list: *mut Entry,
@@ -160,7 +99,6 @@ extern "C" {
     pub fn bpl_popularity(
         plan: *const u8,
         plan_len: usize,
-        running: u32,
         block: u32,
         list: *const Entry,
         list_len: usize,

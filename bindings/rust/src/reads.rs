@@ -1,7 +1,6 @@
 //! Reads of blocks, counted over two hours in a lent list.
 
 use crate::answers::{settled, Refusal};
-use crate::hall::Hall;
 use crate::raw;
 
 /// The records of a list that are used at most.
@@ -19,7 +18,7 @@ pub struct Entry {
 }
 
 /// Enters a read of a block at a millisecond tick, which starts over after 32 bits, and answers the new count of
-/// entries: refusals 1 to 11, 17 and 19 to 23, in a running hall without 10 and 23.
+/// entries: refusals 1 to 11, 17 and 19 to 23.
 ///
 /// The entries are the first `count` records of `list`; start with a count of 0, and hand in the list and the count
 /// that the last accepted read left. Entries of two hours and more are dropped, those kept move to the front in order,
@@ -28,30 +27,27 @@ pub struct Entry {
 ///
 /// A tick behind that of the last entry is refused with 20: take ticks from a monotonic clock. After 2^31 ms (24.8
 /// days) without an accepted read every read is refused with 20 until the tick has gone round: pass a count of 0 to
-/// begin anew. Do so after a deletion, too: later blocks have closed up, and a number no longer keeps its block. An
-/// arrival keeps every number.
+/// begin anew.
 ///
 /// ```
-/// use bpl::{Entry, Hall};
+/// use bpl::Entry;
 ///
 /// // One rack of two machines, three blocks of one copy.
 /// let mut plan = vec![0x42, 0x50, 0x4C, 0, 1, 1, 2, 0, 2, 0, 0, 0, 3, 0, 3];
 /// plan.extend([0, 0, 4, 1, 1, 0, 0, 1, 1, 1, 0, 0, 2, 1, 1]);
 /// let mut list = [Entry::default(); 2];
-/// let mut count = bpl::read(&plan, Hall::Planned, 2, 5_000, &mut list, 0)?;
-/// count = bpl::read(&plan, Hall::Planned, 2, 6_000, &mut list, count)?;
-/// assert_eq!(bpl::popularity(&plan, Hall::Planned, 2, &list, count)?, 2);
+/// let mut count = bpl::read(&plan, 2, 5_000, &mut list, 0)?;
+/// count = bpl::read(&plan, 2, 6_000, &mut list, count)?;
+/// assert_eq!(bpl::popularity(&plan, 2, &list, count)?, 2);
 /// // The list is full until the first read is two hours old.
-/// let full = bpl::read(&plan, Hall::Planned, 0, 7_204_999, &mut list, count);
-/// assert_eq!(full.unwrap_err().number(), 21);
-/// count = bpl::read(&plan, Hall::Planned, 0, 7_205_000, &mut list, count)?;
+/// assert_eq!(bpl::read(&plan, 0, 7_204_999, &mut list, count).unwrap_err().number(), 21);
+/// count = bpl::read(&plan, 0, 7_205_000, &mut list, count)?;
 /// assert_eq!(count, 2);
-/// assert_eq!(bpl::popularity(&plan, Hall::Planned, 2, &list, count)?, 1);
+/// assert_eq!(bpl::popularity(&plan, 2, &list, count)?, 1);
 /// # Ok::<(), bpl::Refusal>(())
 /// ```
 pub fn read(
     plan: &[u8],
-    hall: Hall,
     block: u32,
     tick: u32,
     list: &mut [Entry],
@@ -64,7 +60,6 @@ pub fn read(
         raw::bpl_read(
             plan.as_ptr(),
             plan.len(),
-            hall.number(),
             block,
             tick,
             list.as_mut_ptr(),
@@ -78,21 +73,14 @@ pub fn read(
 }
 
 /// The popularity of a block: the number of its entries, for both blocks of a pair the larger of their numbers.
-/// Refusals 1 to 11, 17, 19, 22 and 23, in a running hall without 10 and 23. Entries are dropped by reads alone.
-pub fn popularity(
-    plan: &[u8],
-    hall: Hall,
-    block: u32,
-    list: &[Entry],
-    count: u64,
-) -> Result<u64, Refusal> {
+/// Refusals 1 to 11, 17, 19, 22 and 23. Entries are dropped by reads alone.
+pub fn popularity(plan: &[u8], block: u32, list: &[Entry], count: u64) -> Result<u64, Refusal> {
     let mut out = [0; raw::POPULARITY_NUMBERS];
     // SAFETY: as in `read`; the list is not written.
     settled(unsafe {
         raw::bpl_popularity(
             plan.as_ptr(),
             plan.len(),
-            hall.number(),
             block,
             list.as_ptr(),
             list.len(),

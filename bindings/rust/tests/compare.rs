@@ -1,29 +1,28 @@
 //! Every entry on a plan or a placement against the independent reference, on random ones and over random lists of
-//! calls; those on reads are in reads.rs, more of conversions is in convert.rs, and more of arrivals and deletions in
-//! hall.rs. BPL_CASES sets the number of cases.
+//! calls; those on reads are in reads.rs, more of conversions is in convert.rs. BPL_CASES sets the number of cases.
 
 mod common;
 #[path = "common/entries.rs"]
 mod entries;
 
-use bpl::Hall::{Planned, Running};
-use bpl::{Hall, RunEnd, Step};
+use bpl::{RunEnd, Step};
 use common::*;
 use placement_reference::gen::{coarse, divisors, largest, leaning, sized, Draft, Rng, LARGE};
 use placement_reference::placement;
 use placement_reference::plan::{read, Plan};
 use placement_reference::steps::step_plain;
 
-/// What the cases met: checks by number (0 is passed) as planned and running, arrivals, deletions and next plans by
-/// number, steps by kind, ends of runs. And of accepted plans of version 4: one feed for several racks, several feeds for
-/// more racks, and a feed for each rack; placements that 15 refuses though the racks suffice; steps that are others than
-/// with a feed for each rack.
+/// The number of blocks that the bytes tell, if they are a plan.
+fn blocks_of(bytes: &[u8]) -> usize {
+    read(bytes).map_or(0, |plan| plan.blocks.len())
+}
+
+/// What the cases met: checks by number (0 is passed), steps by kind, ends of runs. And of accepted plans of version 4:
+/// one feed for several racks, several feeds for more racks, and a feed for each rack; placements that 15 refuses though
+/// the racks suffice; steps that are others than with a feed for each rack.
 #[derive(Debug, Default)]
 struct Met {
-    checks: [[u64; 24]; 2],
-    arrivals: [u64; 27],
-    deletions: [u64; 27],
-    next_plans: [u64; 27],
+    checks: [u64; 24],
     steps: [u64; 5],
     ends: [u64; 2],
     feeds: [u64; 3],
@@ -45,7 +44,7 @@ impl Met {
             feeds: racks,
             ..plan.clone()
         };
-        let said = [plan, &by_rack].map(|plan| placement::check(plan, false, words));
+        let said = [plan, &by_rack].map(|plan| placement::check(plan, words));
         self.too_few_feeds += u64::from(said[0] == Err(15) && said[1] != Err(15));
         if let [Ok(number), Ok(_)] = said {
             let [next, other] = [plan, &by_rack].map(|plan| step_plain(plan, &words[..number]));
@@ -53,14 +52,8 @@ impl Met {
         }
     }
 
-    fn check(&mut self, hall: Hall, said: Result<(), u8>) {
-        let row = usize::from(said.err().unwrap_or(0));
-        self.checks[usize::from(is_running(hall))][row] += 1;
-        assert!(!is_running(hall) || row != 10 && row != 23, "{row}");
-    }
-
-    fn change<T>(met: &mut [u64; 27], said: Result<T, u8>) {
-        met[usize::from(said.err().unwrap_or(0))] += 1;
+    fn check(&mut self, said: Result<(), u8>) {
+        self.checks[said.err().unwrap_or(0) as usize] += 1;
     }
 
     fn step(&mut self, said: Result<Option<Step>, u8>) {
@@ -83,55 +76,13 @@ impl Met {
         }
     }
 
-    /// A report, a step and a run in either hall.
-    fn in_halls(&mut self, rng: &mut Rng, bytes: &[u8], words: &[u64]) {
-        for hall in HALLS {
-            entries::report(bytes, hall, words);
-            self.step(entries::step(bytes, hall, &mut words.to_vec()));
-            let limit = step_limit(rng);
-            self.run(entries::run(bytes, hall, &mut words.to_vec(), limit));
-        }
-    }
-
-    /// An arrival, a deletion, and the next plans' bytes.
-    fn changes(&mut self, rng: &mut Rng, bytes: &[u8], words: &[u64]) {
-        let (arrival, block) = (any_arrival(rng, bytes), any_block(rng, bytes));
-        let arrived = entries::arrive(bytes, arrival, &mut words.to_vec());
-        Met::change(&mut self.arrivals, arrived);
-        let deleted = entries::delete(bytes, block, &mut words.to_vec());
-        Met::change(&mut self.deletions, deleted);
-        for lent in next_lengths(rng, bytes) {
-            let with = entries::plan_with(bytes, arrival, lent);
-            Met::change(&mut self.next_plans, with);
-            let without = entries::plan_without(bytes, block, lent);
-            Met::change(&mut self.next_plans, without);
-        }
-    }
-
-    /// Every check, kind and end was met, and all of feeds. 19 to 21 are of reads; 10 and 23 are not of a running hall.
+    /// Every check, kind and end was met, and all of feeds. 19 to 21 are of reads.
     fn all(&self) -> bool {
-        let [planned, running] = &self.checks;
-        let checks = planned[..=18].iter().chain(&planned[22..]);
-        let in_running = running[..=9].iter().chain(&running[11..=18]);
-        let others = [self.too_few_feeds, self.other_steps, running[22]];
-        let mut numbers = checks
-            .chain(in_running)
-            .chain(&self.steps)
-            .chain(&self.ends);
+        let checks = self.checks[..=18].iter().chain(&self.checks[22..]);
+        let others = [self.too_few_feeds, self.other_steps];
+        let mut numbers = checks.chain(&self.steps).chain(&self.ends);
         let of_feeds = self.feeds.iter().chain(&others).all(|number| *number > 0);
-        numbers.all(|number| *number > 0) && of_feeds && self.all_changes()
-    }
-
-    /// Every row of arrivals, of deletions and of the next plan's bytes was met.
-    fn all_changes(&self) -> bool {
-        let placed = [
-            0, 1, 2, 3, 4, 22, 5, 6, 7, 8, 9, 17, 11, 12, 13, 14, 15, 16, 18,
-        ];
-        let judged = [0, 1, 2, 3, 4, 22, 5, 6, 7, 8, 9, 17, 11, 12, 24, 26];
-        let met = |met: &[u64; 27], rows: &[usize]| rows.iter().all(|row| met[*row] > 0);
-        let changed = [&self.arrivals, &self.deletions].map(|rows| met(rows, &placed));
-        let arrivals = met(&self.arrivals, &[24, 25]) && met(&self.deletions, &[26]);
-        changed == [true; 2] && arrivals && met(&self.next_plans, &judged)
+        numbers.all(|number| *number > 0) && of_feeds
     }
 }
 
@@ -148,14 +99,13 @@ fn each_entry() {
         entries::counts(&bytes, blocks);
         entries::counts(&bytes, blocks + 3);
         entries::counts(&bytes, blocks.saturating_sub(1));
-        for hall in HALLS {
-            met.check(hall, entries::check(&bytes, hall, &words));
-        }
+        met.check(entries::check(&bytes, &words));
         if let Some(plan) = read(&bytes).ok().filter(|plan| plan.version == 4) {
             met.on_feeds(&plan, &words);
         }
-        met.in_halls(rng, &bytes, &words);
-        met.changes(rng, &bytes, &words);
+        entries::report(&bytes, &words);
+        met.step(entries::step(&bytes, &mut words.clone()));
+        met.run(entries::run(&bytes, &mut words.clone(), step_limit(rng)));
         entries::first(&bytes, &mut patterned(words.len()));
         entries::first(&bytes, &mut patterned(blocks.saturating_sub(1)));
         entries::listing(&bytes, step_limit(rng));
@@ -181,16 +131,15 @@ fn call(rng: &mut Rng, bytes: &[u8], words: &mut [u64]) {
         most
     };
     let part = &mut words[..lent as usize];
-    let hall = any_hall(rng);
     match rng.below(10) {
-        0 => drop(entries::check(bytes, hall, part)),
-        1 => entries::report(bytes, hall, part),
+        0 => drop(entries::check(bytes, part)),
+        1 => entries::report(bytes, part),
         2 => entries::counts(bytes, part.len()),
         3 if rng.once_in(4) => entries::first(bytes, part),
-        4 | 5 => drop(entries::run(bytes, hall, part, step_limit(rng))),
+        4 | 5 => drop(entries::run(bytes, part, step_limit(rng))),
         6 => entries::listing(bytes, 3),
         7 => drop(entries::convert(bytes, part.len())),
-        _ => drop(entries::step(bytes, hall, part)),
+        _ => drop(entries::step(bytes, part)),
     }
 }
 
@@ -230,44 +179,14 @@ fn large_plan(rng: &mut Rng, draft: &Draft) {
     entries::plan(&bytes);
     entries::counts(&bytes, draft.records.len() + 5);
     entries::first(&bytes, &mut words);
-    assert!(entries::check(&bytes, Planned, &words).is_ok());
-    assert!(entries::step(&bytes, Planned, &mut words).is_ok());
-    assert!(entries::run(&bytes, Planned, &mut words, 2).is_ok());
-    entries::report(&bytes, Planned, &words);
-    assert!(entries::step(&bytes, Running, &mut words).is_ok());
-    entries::report(&bytes, Running, &words);
-    large_changes(rng, &bytes, &words);
+    assert!(entries::check(&bytes, &words).is_ok());
+    assert!(entries::step(&bytes, &mut words).is_ok());
+    assert!(entries::run(&bytes, &mut words, 2).is_ok());
+    entries::report(&bytes, &words);
     entries::listing(&bytes, 1);
     entries::listing(&bytes[..bytes.len() - 1], 1);
     for lent in buffer_lengths(rng, &bytes) {
         let _ = entries::convert(&bytes, lent);
-    }
-}
-
-/// Where 1,024 blocks stand none may come; one goes, and then there is room again.
-fn large_changes(rng: &mut Rng, bytes: &[u8], words: &[u64]) {
-    let mut words = words.to_vec();
-    let one = bpl::Arrival {
-        popularity: 1,
-        least: 1,
-        spread: 1,
-    };
-    let blocks = blocks_of(bytes);
-    if blocks == bpl::MAX_BLOCKS {
-        assert_eq!(entries::arrive(bytes, one, &mut words), Err(24));
-        assert_eq!(entries::plan_with(bytes, one, bytes.len() + 7), Err(24));
-    }
-    let block = rng.below(blocks as u64) as u32;
-    let next = entries::plan_without(bytes, block, bytes.len()).expect("a block");
-    assert!(entries::delete(bytes, block, &mut words).is_ok());
-    assert_eq!(entries::check(bytes, Running, &words), Err(14));
-    assert!(entries::check(&next, Running, &words).is_ok());
-    let arrival = any_arrival(rng, &next);
-    let came = entries::arrive(&next, arrival, &mut words);
-    let again = entries::plan_with(&next, arrival, bytes.len());
-    if let (Ok(_), Ok(again)) = (came, again) {
-        assert!(entries::check(&again, Running, &words).is_ok());
-        assert!(entries::step(&again, Running, &mut words).is_ok());
     }
 }
 

@@ -7,7 +7,7 @@ mod common;
 #[allow(dead_code)]
 mod entries;
 
-use bpl::{Arrival, Call, Deleted, Entry, Hall, Refusal, Reply, Report, Request, RunEnd, Step};
+use bpl::{Call, Entry, Refusal, Reply, Report, Request, RunEnd, Step};
 use common::*;
 use placement_reference::gen::{sized, Rng, LARGE};
 use placement_reference::plan::read;
@@ -16,28 +16,23 @@ use placement_reference::samples::{H, K};
 /// With so many machines or fewer a plan answers alike in version 3. With more, a block may have more copies there.
 const MACHINES_ALIKE: usize = 8;
 
-/// A call's answer, with the buffer as it left it.
-type Left<A, T> = (Result<A, Refusal>, Vec<T>);
-
-/// What those entries answer and leave of a plan that do not look at its counts; the last with a running hall alone.
+/// What those entries answer and leave of a plan that do not look at its counts.
 #[derive(Debug, PartialEq)]
 struct OfTheFields {
     plan: Result<(), Refusal>,
-    reads: [Left<u64, Entry>; 2],
-    popularities: [Result<u64, Refusal>; 2],
-    deletion: Left<Deleted, u64>,
+    read: (Result<u64, Refusal>, Vec<Entry>),
+    popularity: Result<u64, Refusal>,
 }
 
 /// What the others answer and leave of a plan and words that are lent with it.
 #[derive(Debug, PartialEq)]
 struct OfTheCounts {
-    counts: Left<(), u8>,
-    first: Left<(), u64>,
-    checks: [Result<(), Refusal>; 2],
-    reports: [Result<Report, Refusal>; 2],
-    steps: [Left<Option<Step>, u64>; 2],
-    runs: [Left<RunEnd, u64>; 2],
-    arrival: Left<u64, u64>,
+    counts: (Result<(), Refusal>, Vec<u8>),
+    first: (Result<(), Refusal>, Vec<u64>),
+    check: Result<(), Refusal>,
+    report: Result<Report, Refusal>,
+    step: (Result<Option<Step>, Refusal>, Vec<u64>),
+    run: (Result<RunEnd, Refusal>, Vec<u64>),
     play: (Reply, Vec<u64>),
     listing: Result<String, Refusal>,
 }
@@ -49,38 +44,27 @@ fn with_buffer<T: Clone, A>(before: &[T], call: impl FnOnce(&mut [T]) -> A) -> (
     (said, buffer)
 }
 
-/// The entries on the plan alone and on reads, with the same list; and the deletion of a block that is not there, which
-/// needs no placement to compare.
+/// The entries on the plan alone and on reads, with the same list.
 fn of_the_fields(bytes: &[u8]) -> OfTheFields {
     let list = [Entry { block: 1, tick: 7 }; 3];
     OfTheFields {
         plan: bpl::plan(bytes),
-        reads: HALLS.map(|hall| with_buffer(&list, |b| bpl::read(bytes, hall, 1, 9, b, 2))),
-        popularities: HALLS.map(|hall| bpl::popularity(bytes, hall, 1, &list, 2)),
-        deletion: with_buffer(&[], |b| bpl::delete(bytes, u32::MAX, b)),
+        read: with_buffer(&list, |b| bpl::read(bytes, 1, 9, b, 2)),
+        popularity: bpl::popularity(bytes, 1, &list, 2),
     }
 }
 
 /// Every other entry but the conversion, on the same words.
 fn of_the_counts(bytes: &[u8], words: &[u64], step_limit: u32) -> OfTheCounts {
     let script = [Request::Step, Request::Run(step_limit)].map(Call::new);
-    let arrival = Arrival {
-        popularity: 5,
-        least: 1,
-        spread: 1,
-    };
-    let played = |words: &mut [u64]| bpl::play(&mut bytes.to_vec(), bytes, words, &script);
-    let step = |hall: Hall| with_buffer(words, |b| bpl::step(bytes, hall, b));
-    let run = |hall: Hall| with_buffer(words, |b| bpl::run(bytes, hall, b, step_limit));
     OfTheCounts {
         counts: with_buffer(&vec![0xEE; words.len()], |b| bpl::counts(bytes, b)),
         first: with_buffer(words, |b| bpl::first(bytes, b)),
-        checks: HALLS.map(|hall| bpl::check(bytes, hall, words)),
-        reports: HALLS.map(|hall| bpl::report(bytes, hall, words)),
-        steps: HALLS.map(step),
-        runs: HALLS.map(run),
-        arrival: with_buffer(words, |b| bpl::arrive(bytes, arrival, b)),
-        play: with_buffer(words, played),
+        check: bpl::check(bytes, words),
+        report: bpl::report(bytes, words),
+        step: with_buffer(words, |b| bpl::step(bytes, b)),
+        run: with_buffer(words, |b| bpl::run(bytes, b, step_limit)),
+        play: with_buffer(words, |b| bpl::play(bytes, bytes, b, &script)),
         listing: bpl::listing(bytes, step_limit),
     }
 }
@@ -89,12 +73,10 @@ fn of_the_counts(bytes: &[u8], words: &[u64], step_limit: u32) -> OfTheCounts {
 fn as_the_reference(bytes: &[u8], words: &[u64], step_limit: u32) {
     entries::counts(bytes, words.len());
     entries::first(bytes, &mut words.to_vec());
-    for hall in HALLS {
-        let _ = entries::check(bytes, hall, words);
-        entries::report(bytes, hall, words);
-        let _ = entries::step(bytes, hall, &mut words.to_vec());
-        let _ = entries::run(bytes, hall, &mut words.to_vec(), step_limit);
-    }
+    let _ = entries::check(bytes, words);
+    entries::report(bytes, words);
+    let _ = entries::step(bytes, &mut words.to_vec());
+    let _ = entries::run(bytes, &mut words.to_vec(), step_limit);
     entries::listing(bytes, step_limit);
 }
 

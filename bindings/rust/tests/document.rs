@@ -1,7 +1,6 @@
 //! The specification's own examples, and the repository's stored ones.
 
-use bpl::Hall::{Planned, Running};
-use bpl::{Arrival, Call, Deleted, Entry, Reply, Report, Request, RunEnd, Step};
+use bpl::{Call, Entry, Reply, Report, Request, RunEnd, Step};
 use placement_reference::gen::Draft;
 use placement_reference::samples;
 use std::fs;
@@ -17,15 +16,15 @@ fn plan_h() {
     assert_eq!(counts, [4, 2, 1]);
     assert_eq!(bpl::first(&bytes, &mut words), Ok(()));
     assert_eq!(words, [15, 5, 2]);
-    assert_eq!(bpl::check(&bytes, Planned, &words), Ok(()));
+    assert_eq!(bpl::check(&bytes, &words), Ok(()));
     let report = Report {
         max_load: 15_120,
         min_load: 7560,
         total_load: 50_400,
         max_share: 7560,
     };
-    assert_eq!(bpl::report(&bytes, Planned, &words), Ok(report));
-    assert_eq!(bpl::step(&bytes, Planned, &mut words), Ok(None));
+    assert_eq!(bpl::report(&bytes, &words), Ok(report));
+    assert_eq!(bpl::step(&bytes, &mut words), Ok(None));
     let listing = "plan 2 2 3\nblock 0 4 7560 0 1 2 3\nblock 1 2 7560 0 2\nblock 2 1 5040 1\nrest 0 15120 7560 50400 7560\n";
     assert_eq!(bpl::listing(&bytes, 100_000).as_deref(), Ok(listing));
 }
@@ -38,16 +37,13 @@ fn plan_y() {
     assert_eq!(bpl::first(&bytes, &mut words), Ok(()));
     assert_eq!(words, [1, 2, 1]);
     let mut spent = words;
-    assert_eq!(
-        bpl::run(&bytes, Planned, &mut spent, 1),
-        Ok(RunEnd::Spent(1))
-    );
+    assert_eq!(bpl::run(&bytes, &mut spent, 1), Ok(RunEnd::Spent(1)));
     let first = Step::Move { m: 0, n: 1, i: 0 };
-    assert_eq!(bpl::step(&bytes, Planned, &mut words), Ok(Some(first)));
+    assert_eq!(bpl::step(&bytes, &mut words), Ok(Some(first)));
     assert_eq!(words, spent);
     let second = Step::Move { m: 1, n: 0, i: 1 };
-    assert_eq!(bpl::step(&bytes, Planned, &mut words), Ok(Some(second)));
-    assert_eq!(bpl::step(&bytes, Planned, &mut words), Ok(None));
+    assert_eq!(bpl::step(&bytes, &mut words), Ok(Some(second)));
+    assert_eq!(bpl::step(&bytes, &mut words), Ok(None));
 }
 
 /// Plan Z: two swaps, then rest with words 1, 2, 1, 2.
@@ -61,18 +57,15 @@ fn plan_z() {
         i: 0,
         j: 2,
     };
-    assert_eq!(bpl::step(&bytes, Planned, &mut words), Ok(Some(first)));
+    assert_eq!(bpl::step(&bytes, &mut words), Ok(Some(first)));
     let second = Step::Swap {
         m: 1,
         n: 0,
         i: 0,
         j: 1,
     };
-    assert_eq!(bpl::step(&bytes, Planned, &mut words), Ok(Some(second)));
-    assert_eq!(
-        bpl::run(&bytes, Planned, &mut words, 9),
-        Ok(RunEnd::Rest(0))
-    );
+    assert_eq!(bpl::step(&bytes, &mut words), Ok(Some(second)));
+    assert_eq!(bpl::run(&bytes, &mut words, 9), Ok(RunEnd::Rest(0)));
     assert_eq!(words, [1, 2, 1, 2]);
 }
 
@@ -116,7 +109,7 @@ fn conversions_refused() {
     let short = bpl::convert(&samples::H, &mut buffer[..35]).unwrap_err();
     assert_eq!(
         short.to_string(),
-        "refused 12: a lent buffer is too short for the plan's blocks, for a new one, or for the plan to be written"
+        "refused 12: a lent buffer is too short for the plan's blocks"
     );
     assert_eq!(buffer, [0xEE; 36]);
 }
@@ -131,7 +124,7 @@ fn widest_popularity() {
         format!("plan 1 1 1\nblock 0 1 {share} 0\nrest 0 {share} {share} {share} {share}\n");
     assert_eq!(bpl::listing(&bytes, 9), Ok(listing));
     assert_eq!(
-        bpl::report(&bytes, Planned, &[1]).map(|report| report.max_load),
+        bpl::report(&bytes, &[1]).map(|report| report.max_load),
         Ok(share)
     );
 }
@@ -222,7 +215,7 @@ fn one_copy_more_when_converted() {
         assert_eq!(bpl::counts(bytes, &mut counts), Ok(()));
         assert_eq!(bpl::first(bytes, &mut words), Ok(()));
         assert_eq!((counts, words), ([count], [word]));
-        let report = bpl::report(bytes, Planned, &words);
+        let report = bpl::report(bytes, &words);
         assert_eq!(report.map(|report| report.max_share), Ok(max_share));
     }
 }
@@ -240,12 +233,12 @@ fn plan_h_on_two_feeds() {
     assert_eq!(counts, [4, 2, 1]);
     assert_eq!(bpl::first(&samples::H_4, &mut words), Ok(()));
     assert_eq!(words, [15, 5, 2]);
-    assert_eq!(bpl::check(&samples::H_4, Planned, &words), Ok(()));
+    assert_eq!(bpl::check(&samples::H_4, &words), Ok(()));
     assert_eq!(
-        bpl::report(&samples::H_4, Planned, &words),
-        bpl::report(&samples::H, Planned, &words)
+        bpl::report(&samples::H_4, &words),
+        bpl::report(&samples::H, &words)
     );
-    assert_eq!(bpl::step(&samples::H_4, Planned, &mut words), Ok(None));
+    assert_eq!(bpl::step(&samples::H_4, &mut words), Ok(None));
     let listing = bpl::listing(&samples::H_4, 100_000);
     assert_eq!(listing.as_deref(), Ok(samples::H_LISTING));
     let listing = bpl::listing(&samples::K_4, 100_000);
@@ -268,15 +261,12 @@ fn plan_on_two_feeds() {
         total_load: 209_160,
         max_share: 21_000,
     };
-    assert_eq!(
-        bpl::report(&bytes, Planned, &words),
-        Ok(report(36_120, 15_120))
-    );
+    assert_eq!(bpl::report(&bytes, &words), Ok(report(36_120, 15_120)));
     let near = [17, 68, 10, 161, 4, 82];
-    assert_eq!(bpl::check(&bytes, Planned, &near).unwrap_err().number(), 15);
+    assert_eq!(bpl::check(&bytes, &near).unwrap_err().number(), 15);
     let by_rack = samples::feeds().fed(4).bytes();
-    assert_eq!(bpl::check(&by_rack, Planned, &near), Ok(()));
-    let steps = [0; 4].map(|_| bpl::step(&bytes, Planned, &mut words).expect("a placement"));
+    assert_eq!(bpl::check(&by_rack, &near), Ok(()));
+    let steps = [0; 4].map(|_| bpl::step(&bytes, &mut words).expect("a placement"));
     assert_eq!(
         steps,
         [
@@ -287,10 +277,7 @@ fn plan_on_two_feeds() {
         ]
     );
     assert_eq!(words, [5, 40, 10, 161, 4, 82]);
-    assert_eq!(
-        bpl::report(&bytes, Planned, &words),
-        Ok(report(36_120, 15_960))
-    );
+    assert_eq!(bpl::report(&bytes, &words), Ok(report(36_120, 15_960)));
 }
 
 /// A step between racks is a `RackMove` also where both hang on one feed.
@@ -299,7 +286,7 @@ fn step_on_one_feed() {
     let bytes = samples::two_feeds().bytes();
     let mut words = samples::TWO_FEEDS_WORDS;
     let step = Step::RackMove { m: 0, n: 2, i: 0 };
-    assert_eq!(bpl::step(&bytes, Planned, &mut words), Ok(Some(step)));
+    assert_eq!(bpl::step(&bytes, &mut words), Ok(Some(step)));
     assert_eq!(words, [6, 3]);
 }
 
@@ -320,10 +307,10 @@ fn steps_that_feeds_forbid() {
         ),
     ] {
         let mut words = before.to_vec();
-        assert_eq!(bpl::step(&draft.bytes(), Planned, &mut words), Ok(None));
+        assert_eq!(bpl::step(&draft.bytes(), &mut words), Ok(None));
         let by_rack = draft.fed(draft.racks).bytes();
-        assert_eq!(bpl::step(&by_rack, Planned, &mut words), Ok(Some(next)));
-        let near = bpl::check(&draft.bytes(), Planned, &words).unwrap_err();
+        assert_eq!(bpl::step(&by_rack, &mut words), Ok(Some(next)));
+        let near = bpl::check(&draft.bytes(), &words).unwrap_err();
         assert_eq!(near.number(), 15);
     }
 }
@@ -474,10 +461,10 @@ fn steps_that_a_pair_forbids() {
         ),
     ] {
         let mut words = samples::PAIR_WORDS;
-        assert_eq!(bpl::step(&draft.bytes(), Planned, &mut words), Ok(None));
+        assert_eq!(bpl::step(&draft.bytes(), &mut words), Ok(None));
         let without = draft.unpaired().bytes();
-        assert_eq!(bpl::step(&without, Planned, &mut words), Ok(Some(next)));
-        let together = bpl::check(&draft.bytes(), Planned, &words).unwrap_err();
+        assert_eq!(bpl::step(&without, &mut words), Ok(Some(next)));
+        let together = bpl::check(&draft.bytes(), &words).unwrap_err();
         assert_eq!(together.number(), 18);
     }
 }
@@ -513,7 +500,7 @@ fn plan_y_as_a_script() {
     ];
     for (made, (reply, after)) in expected.into_iter().enumerate() {
         let mut words = [1, 2, 1, 77];
-        let said = bpl::play(&mut bytes.clone(), &other, &mut words, &calls[..made]);
+        let said = bpl::play(&bytes, &other, &mut words, &calls[..made]);
         assert_eq!((row(said), words), (reply, after), "{made} calls");
     }
 }
@@ -524,16 +511,14 @@ fn reads_of_plan_k() {
     let mut list = [Entry::default(); 4];
     let mut count = 0;
     for (block, tick) in [(0, u32::MAX), (1, 0), (1, 7_199_998)] {
-        count = bpl::read(&samples::K, Planned, block, tick, &mut list, count).expect("a read");
+        count = bpl::read(&samples::K, block, tick, &mut list, count).expect("a read");
     }
     let popularity = |list: &[Entry], count| {
-        [0, 1, 2].map(|block| {
-            bpl::popularity(&samples::K, Planned, block, list, count).expect("a block")
-        })
+        [0, 1, 2].map(|block| bpl::popularity(&samples::K, block, list, count).expect("a block"))
     };
     assert_eq!((count, popularity(&list, count)), (3, [2, 2, 0]));
     let row = |block, tick, list: &mut [Entry], count| {
-        let refusal = bpl::read(&samples::K, Planned, block, tick, list, count).unwrap_err();
+        let refusal = bpl::read(&samples::K, block, tick, list, count).unwrap_err();
         refusal.number()
     };
     let before = list;
@@ -541,7 +526,7 @@ fn reads_of_plan_k() {
     assert_eq!(row(2, 7_199_997, &mut list, count), 20);
     assert_eq!(row(2, 7_199_998, &mut list[..3], count), 21);
     assert_eq!(list, before);
-    let after = bpl::read(&samples::K, Planned, 2, 7_199_999, &mut list, count);
+    let after = bpl::read(&samples::K, 2, 7_199_999, &mut list, count);
     assert_eq!(after, Ok(3), "the first read is two hours old");
     let entry = |block, tick| Entry { block, tick };
     assert_eq!(list[..2], before[1..3]);
@@ -577,197 +562,21 @@ fn refusals() {
         differs.to_string(),
         "refused 17: a pair byte is neither 0 nor 1, marks no pair, or marks two blocks that differ"
     );
-    let together = bpl::check(&samples::K, Planned, &[5, 9, 1, 4]).unwrap_err();
+    let together = bpl::check(&samples::K, &[5, 9, 1, 4]).unwrap_err();
     assert_eq!(
         together.to_string(),
         "refused 18: a machine holds both blocks of a pair"
     );
-    let unknown = bpl::popularity(&samples::K, Planned, 4, &[], 0).unwrap_err();
+    let unknown = bpl::popularity(&samples::K, 4, &[], 0).unwrap_err();
     assert_eq!(
         unknown.to_string(),
         "refused 19: the block is not in the plan"
     );
-    let full = bpl::read(&samples::K, Planned, 0, 0, &mut [], 0).unwrap_err();
+    let full = bpl::read(&samples::K, 0, 0, &mut [], 0).unwrap_err();
     assert_eq!(
         full.to_string(),
         "refused 21: the list is full of reads that still count"
     );
-}
-
-/// A new block.
-fn block(popularity: u64, least: u64, spread: u64) -> Arrival {
-    Arrival {
-        popularity,
-        least,
-        spread,
-    }
-}
-
-/// Plan Y and a block of popularity 1: it comes last, on the machine with less load. The budget of three copies holds for
-/// a planned hall alone, and the steps go on.
-#[test]
-fn plan_y_and_one_block_more() {
-    let old = samples::y().bytes();
-    let mut words = [1, 2, 1, 77];
-    assert_eq!(bpl::arrive(&old, block(1, 1, 1), &mut words), Ok(2));
-    assert_eq!(words, [1, 2, 1, 2]);
-    let bytes = bpl::plan_with(&old, block(1, 1, 1)).expect("a block that fits");
-    assert_eq!(bytes[..14], old[..14]);
-    assert_eq!(bytes[14], 4);
-    assert_eq!(bytes[15..], [&old[15..], &[0, 0, 1, 1, 1]].concat());
-    assert_eq!(bpl::check(&bytes, Running, &words), Ok(()));
-    let planned = bpl::check(&bytes, Planned, &words).unwrap_err();
-    assert_eq!(planned.number(), 10);
-    let step = Step::Swap {
-        m: 0,
-        n: 1,
-        i: 0,
-        j: 1,
-    };
-    assert_eq!(bpl::step(&bytes, Running, &mut words), Ok(Some(step)));
-    let report = bpl::report(&bytes, Running, &words).expect("a placement");
-    assert_eq!((report.max_load, report.total_load), (12_600, 20_160));
-    let end = bpl::run(&bytes, Running, &mut words, 9);
-    assert_eq!(end, Ok(RunEnd::Rest(0)));
-}
-
-/// With plan Y's old bytes a step after the arrival brings a third copy to machine 1, which the new bytes see. Directly
-/// after a deletion the old bytes get 14.
-#[test]
-fn old_bytes() {
-    let old = samples::y().bytes();
-    let new = bpl::plan_with(&old, block(1, 1, 1)).expect("a block that fits");
-    let mut words = [1, 2, 1, 2];
-    assert!(bpl::step(&old, Running, &mut words).is_ok());
-    assert_eq!(words, [2, 2, 1, 2]);
-    let full = bpl::check(&new, Running, &words).unwrap_err();
-    assert_eq!(full.number(), 16);
-
-    let mut words = [1, 2, 1, 77];
-    let went = Deleted { count: 1, first: 1 };
-    assert_eq!(bpl::delete(&old, 1, &mut words), Ok(went));
-    assert_eq!(words, [1, 1, 0, 77]);
-    for hall in [Planned, Running] {
-        let gone = bpl::check(&old, hall, &words).unwrap_err();
-        assert_eq!(
-            gone.to_string(),
-            "refused 14: a block's copies are not its chosen count, in a running hall not from its least to its upper count"
-        );
-    }
-    let new = bpl::plan_without(&old, 1).expect("a block");
-    assert_eq!(bpl::check(&new, Running, &words), Ok(()));
-}
-
-/// Rack 0 has loads 9 and 0, rack 1 has 4 and 4: the lightest rack comes first, then the lightest machine; in version 4
-/// with one feed for both the lightest machine of all. At every tie the lowest number.
-#[test]
-fn where_a_block_comes() {
-    let draft = samples::plan_of((2, 2), 3, 3, &[(9, 1, 1), (4, 1, 1), (4, 1, 1)]);
-    let word = |draft: &Draft, least, spread| {
-        let mut words = [1, 4, 8, 0];
-        bpl::arrive(&draft.bytes(), block(5, least, spread), &mut words).expect("a free place")
-    };
-    assert_eq!(word(&draft, 1, 1), 0b0100);
-    assert_eq!(word(&draft, 2, 1), 0b0110);
-    assert_eq!(word(&draft, 2, 2), 0b0110);
-    assert_eq!(word(&draft, 3, 2), 0b1110);
-    assert_eq!(word(&draft.fed(1), 1, 1), 0b0010);
-    assert_eq!(word(&draft.fed(2), 1, 1), 0b0100);
-}
-
-/// Both of plan K's pair go together, whichever is named; later blocks close up, and words past B stay.
-#[test]
-fn a_pair_goes() {
-    for named in [0, 1] {
-        let mut words = [5, 10, 1, 4, 77];
-        let went = Deleted { count: 2, first: 0 };
-        assert_eq!(bpl::delete(&samples::K, named, &mut words), Ok(went));
-        assert_eq!(words, [1, 4, 0, 0, 77]);
-        let next = bpl::plan_without(&samples::K, named).expect("a block");
-        assert_eq!(next[..13], samples::K[..13]);
-        assert_eq!(next[13..15], [0, 2]);
-        assert_eq!(next[15..], samples::K[27..]);
-        assert_eq!(bpl::check(&next, Running, &words), Ok(()));
-    }
-}
-
-/// Rows 12, 24 and 25 of arrivals, in order and in words. Nothing is written.
-#[test]
-fn arrivals_refused() {
-    let bad = block(1 << 24, 0, 9);
-    let arrived = |words: &[u64], arrival| {
-        let mut after = words.to_vec();
-        let refusal = bpl::arrive(&samples::H, arrival, &mut after).unwrap_err();
-        assert_eq!(after, words);
-        refusal.to_string()
-    };
-    assert!(arrived(&[15, 5, 0], bad).starts_with("refused 14:"));
-    assert_eq!(
-        arrived(&[15, 5, 2], bad),
-        "refused 12: a lent buffer is too short for the plan's blocks, for a new one, or for the plan to be written"
-    );
-    assert_eq!(
-        arrived(&[15, 5, 2, 0], bad),
-        "refused 24: 1,024 blocks stand, or a new block's popularity, least copies or spread are not allowed"
-    );
-    for unfit in [
-        block(1 << 24, 1, 1),
-        block(1, 5, 1),
-        block(1, 2, 3),
-        block(1, 1, 0),
-    ] {
-        assert!(arrived(&[15, 5, 2, 0], unfit).starts_with("refused 24:"));
-    }
-    let full = samples::row_eleven(2).bytes();
-    let mut words = [1, 1, 0];
-    assert_eq!(
-        bpl::arrive(&full, block(1, 1, 1), &mut words)
-            .unwrap_err()
-            .to_string(),
-        "refused 25: no lawful set of machines for the new block exists with all others unmoved"
-    );
-}
-
-/// Row 26 of a deletion and of the next plan, in words; and 12 of a buffer that is too short for the next plan.
-#[test]
-fn other_changes_refused() {
-    for missing in [3, 1 << 16, u32::MAX] {
-        let mut words = [15, 5, 2];
-        let refusal = bpl::delete(&samples::H, missing, &mut words).unwrap_err();
-        assert_eq!(
-            refusal.to_string(),
-            "refused 26: the block to delete does not exist"
-        );
-        let refusal = bpl::plan_without(&samples::H, missing).unwrap_err();
-        assert_eq!(refusal.number(), 26);
-    }
-    let mut short = [7; 34];
-    let refusal = bpl::plan_with_into(&samples::H, block(1, 1, 1), &mut short).unwrap_err();
-    assert_eq!((refusal.number(), short), (12, [7; 34]));
-}
-
-/// A day of plan Y as a script: the standing plan follows each accepted change.
-#[test]
-fn a_day_as_a_script() {
-    let mut plan = samples::y().bytes();
-    let mut words = [1, 2, 1, 77];
-    let day = [
-        Request::Run(9),
-        Request::Arrive(block(1, 1, 1)),
-        Request::Arrive(block(1, 1, 1)),
-        Request::Delete(0),
-        Request::Delete(3),
-        Request::Arrive(block(7, 1, 1)),
-    ];
-    let calls = day.map(|request| Call::new(request).running());
-    let said = bpl::play(&mut plan, &[], &mut words, &calls);
-    assert_eq!(said, Reply::Arrived(2));
-    assert_eq!(words, [1, 1, 2, 2]);
-    assert_eq!(
-        plan[13..],
-        [0, 4, 0, 0, 1, 1, 1, 0, 0, 2, 1, 1, 0, 0, 1, 1, 1, 0, 0, 7, 1, 1]
-    );
-    assert_eq!(bpl::check(&plan, Running, &words), Ok(()));
 }
 
 /// A plan of so many blocks of one copy, on one machine that holds 1,024.

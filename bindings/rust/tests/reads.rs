@@ -3,30 +3,22 @@
 
 mod common;
 
-use bpl::Hall::{Planned, Running};
-use bpl::{Entry, Hall, MAX_ENTRIES, READ_WINDOW_MS};
+use bpl::{Entry, MAX_ENTRIES, READ_WINDOW_MS};
 use common::*;
 use placement_reference::gen::Rng;
-use placement_reference::histories::{history, manner, Event, Manner};
+use placement_reference::histories::{history, manner, Event};
 use placement_reference::reads::{enter_popularity, enter_read};
 use placement_reference::samples::{empty, h, h_budget, H, K};
 use std::mem::{align_of, offset_of, size_of};
 
 /// A read on both: the same answer, and the same whole list afterwards. A refused one writes nothing, and none past the
 /// records that are used.
-fn read_in(
-    bytes: &[u8],
-    hall: Hall,
-    block: u32,
-    tick: u32,
-    list: &mut [Entry],
-    count: u64,
-) -> Result<u64, u8> {
+fn read(bytes: &[u8], block: u32, tick: u32, list: &mut [Entry], count: u64) -> Result<u64, u8> {
     let before = list.to_vec();
     let mut theirs = reference_list(list);
-    let said = numbered(bpl::read(bytes, hall, block, tick, list, count));
-    let expected = enter_read(bytes, is_running(hall), block, tick, &mut theirs, count);
-    let call = || format!("read {hall:?} {block} {tick} {count} {bytes:?} {before:?}");
+    let said = numbered(bpl::read(bytes, block, tick, list, count));
+    let expected = enter_read(bytes, block, tick, &mut theirs, count);
+    let call = || format!("read {block} {tick} {count} {bytes:?} {before:?}");
     assert_eq!(said, expected, "{}", call());
     assert_eq!(*list, list_of(&theirs), "{}", call());
     let used = match said {
@@ -38,33 +30,17 @@ fn read_in(
 }
 
 /// A popularity on both: the same answer.
-fn popularity_in(
-    bytes: &[u8],
-    hall: Hall,
-    block: u32,
-    list: &[Entry],
-    count: u64,
-) -> Result<u64, u8> {
-    let said = numbered(bpl::popularity(bytes, hall, block, list, count));
-    let theirs = reference_list(list);
-    let expected = enter_popularity(bytes, is_running(hall), block, &theirs, count);
-    let call = || format!("popularity {hall:?} {block} {count} {bytes:?} {list:?}");
+fn popularity(bytes: &[u8], block: u32, list: &[Entry], count: u64) -> Result<u64, u8> {
+    let said = numbered(bpl::popularity(bytes, block, list, count));
+    let expected = enter_popularity(bytes, block, &reference_list(list), count);
+    let call = || format!("popularity {block} {count} {bytes:?} {list:?}");
     assert_eq!(said, expected, "{}", call());
     said
 }
 
-/// Both calls where the hall is as planned.
-fn read(bytes: &[u8], block: u32, tick: u32, list: &mut [Entry], count: u64) -> Result<u64, u8> {
-    read_in(bytes, Planned, block, tick, list, count)
-}
-
-fn popularity(bytes: &[u8], block: u32, list: &[Entry], count: u64) -> Result<u64, u8> {
-    popularity_in(bytes, Planned, block, list, count)
-}
-
-/// What a caller has in hand, and whether its hall is running.
+/// What a caller has in hand.
+#[derive(Default)]
 struct Caller {
-    hall: Hall,
     plan: Vec<u8>,
     list: Vec<Entry>,
     count: u64,
@@ -78,14 +54,12 @@ impl Caller {
             Event::List(list) => self.list = list_of(&list),
             Event::Count(count) => self.count = count,
             Event::Read { block, tick } => {
-                let (plan, list) = (&self.plan, &mut self.list);
-                let said = read_in(plan, self.hall, block, tick, list, self.count);
+                let said = read(&self.plan, block, tick, &mut self.list, self.count);
                 self.count = said.unwrap_or(self.count);
                 return Some(said);
             }
             Event::Popularity { block } => {
-                let (plan, list) = (&self.plan, &self.list);
-                let said = popularity_in(plan, self.hall, block, list, self.count);
+                let said = popularity(&self.plan, block, &self.list, self.count);
                 return Some(said);
             }
         }
@@ -96,32 +70,20 @@ impl Caller {
 /// Random histories: each call is handed the list and the count that the one before it left, or damaged ones.
 #[test]
 fn histories() {
-    let mut met = [[0; 24]; 2];
+    let mut met = [0; 24];
     for case in 0..cases(40_000) {
         let rng = &mut Rng::new(7 << 32 | case);
-        let hall = any_hall(rng);
-        let manner = Manner {
-            running: is_running(hall),
-            ..manner(rng)
-        };
-        let mut caller = Caller {
-            hall,
-            plan: Vec::new(),
-            list: Vec::new(),
-            count: 0,
-        };
+        let manner = manner(rng);
+        let mut caller = Caller::default();
         for event in history(rng, manner) {
             if let Some(said) = caller.does(event) {
-                let row = usize::from(said.err().unwrap_or(0));
-                met[usize::from(is_running(hall))][row] += 1;
+                met[usize::from(said.err().unwrap_or(0))] += 1;
             }
         }
     }
-    let rows = [0, 1, 2, 3, 4, 22, 5, 6, 7, 8, 9, 17, 11, 19, 20, 21];
-    let in_both = rows.iter().all(|row| met[0][*row] > 0 && met[1][*row] > 0);
-    let of_planned = met[0][23] > 0 && met[0][10] > 0 && met[1][23] + met[1][10] == 0;
+    let rows = [0, 1, 2, 3, 4, 22, 5, 6, 7, 8, 9, 17, 23, 10, 11, 19, 20, 21];
     assert!(
-        cases(40_000) < 5000 || in_both && of_planned,
+        cases(40_000) < 5000 || rows.iter().all(|row| met[*row] > 0),
         "not all was met: {met:?}"
     );
     println!("{met:?}");
@@ -224,12 +186,6 @@ fn order_of_the_rows() {
     ] {
         assert_eq!(read(plan, block, tick, &mut list, 2), Err(row));
         let asked = popularity(plan, block, &list, 2);
-        assert_eq!(asked.err(), (row != 20 && row != 21).then_some(row));
-        // 23 and 10 do not apply in a running hall, and 19 is next.
-        let row = if matches!(row, 23 | 10) { 19 } else { row };
-        let running = read_in(plan, Running, block, tick, &mut list, 2);
-        assert_eq!(running, Err(row));
-        let asked = popularity_in(plan, Running, block, &list, 2);
         assert_eq!(asked.err(), (row != 20 && row != 21).then_some(row));
     }
 }

@@ -1,6 +1,5 @@
 //! Step limits of more than 16 bits reach a run whole, also in a listing and in a script.
 
-use bpl::Hall::Planned;
 use bpl::{Call, Reply, Request, RunEnd};
 use placement_reference::gen::{patient, Rng};
 use placement_reference::listing;
@@ -14,7 +13,7 @@ fn runs(bytes: &[u8], words: &mut [u64], limits: &[u32]) -> Reply {
         .iter()
         .map(|limit| Call::new(Request::Run(*limit)))
         .collect();
-    bpl::play(&mut bytes.to_vec(), &[], words, &calls)
+    bpl::play(bytes, &[], words, &calls)
 }
 
 /// Plan Y rests after two steps, whichever bit of the step limit is set alone: none but the lowest is lost.
@@ -25,8 +24,7 @@ fn every_bit() {
         let (mut at_once, mut in_script) = ([1, 2, 1], [1, 2, 1]);
         let limit = 1 << bit;
         let rest = RunEnd::Rest(2);
-        let end = bpl::run(&bytes, Planned, &mut at_once, limit);
-        assert_eq!(end, Ok(rest), "{bit}");
+        assert_eq!(bpl::run(&bytes, &mut at_once, limit), Ok(rest), "{bit}");
         let reply = runs(&bytes, &mut in_script, &[limit]);
         assert_eq!(reply, Reply::Ran(rest), "{bit}");
         assert_eq!((at_once, in_script), ([2, 1, 1], [2, 1, 1]), "{bit}");
@@ -45,7 +43,7 @@ struct After {
 /// A run from these words.
 fn after(bytes: &[u8], words: &[u64], limit: u32) -> After {
     let mut words = words.to_vec();
-    let end = bpl::run(bytes, Planned, &mut words, limit).expect("an accepted placement");
+    let end = bpl::run(bytes, &mut words, limit).expect("an accepted placement");
     After { end, words }
 }
 

@@ -11,14 +11,13 @@ use Rattle.order.specs.Search.{allb}
 use Rattle.order.proofs.Extremes.{allb-cong}
 use Rattle.order.proofs.Tables.{get_d-filled}
 use Rattle.model.specs.Plan.{Plan, block_count}
-use Rattle.model.specs.Refusal.{refuse_if, or_else, judge_in, accepted}
-use Rattle.model.specs.Replication.{copy_limit as limit_of}
+use Rattle.model.specs.Refusal.{refuse_if, or_else, judge, accepted}
+use Rattle.model.specs.Replication.{copy_limit as limit_of, need, chosen}
 use Rattle.model.specs.Placement.{count_of, all_within}
-use Rattle.model.specs.Calls.{is_counted, all_counted, placement_refusal}
+use Rattle.model.specs.Calls.{all_counted, placement_refusal}
 use Rattle.theory.proofs.Refusal.{check12-enough}
 use Rattle.theory.proofs.Placement.{feasible-own}
-use Rattle.theory.specs.Calls.{counts_for}
-use Rattle.theory.proofs.Calls.{call_refusal-accepted, placement_refusal-feasible, accepted-held}
+use Rattle.theory.proofs.Calls.{call_refusal-accepted, placement_refusal-feasible}
 use Rattle.cluster.specs.declared.Cluster.{Cluster}
 use Rattle.cluster.specs.Cluster.{machines_in, ClusterOf}
 use Rattle.cluster.specs.Blocks.{PlacementFits}
@@ -26,17 +25,17 @@ use Rattle.cluster.proofs.Laws.{cluster-blocks}
 use Rattle.header.specs.declared.Header.{Header}
 use Rattle.plan.specs.Reading.{plan_of, Decoded, AcceptedHeader}
 use Rattle.replication.specs.Choice.{LimitedDemands, FigureOf, FilledAs}
-use Rattle.validation.specs.Validation.{all_counted_by, is_needed, rows_code, counts_refusal, layout_refusal}
+use Rattle.validation.specs.Validation.{all_counted_at, counts_refusal, layout_refusal}
 use Rattle.admission.specs.declared.Intake.{Intake}
 use Rattle.admission.specs.declared.Placement.{Placement}
 use Rattle.admission.specs.Admission.{Prepared, PlanReady, Weighed, PlacementAdmitted}
 
 -- the demands of an accepted plan, and the copies that it allows
-pub limited-of : (running : Bool) (bytes : List ℕ) (h : Header) → AcceptedHeader running bytes h → (demands₀ demands : List ℕ) → Decoded bytes h demands₀ demands
+pub limited-of : (bytes : List ℕ) (h : Header) → AcceptedHeader bytes h → (demands₀ demands : List ℕ) → Decoded bytes h demands₀ demands
     → (allowed : ℕ) → allowed ≡ min h.budget (machines_in h.cluster * h.cluster.capacity)
     → LimitedDemands (plan_of bytes h) h.cluster demands allowed
 unfolding limit_of plan_of
-limited-of running bytes h laws demands₀ demands decoded allowed e =
+limited-of bytes h laws demands₀ demands decoded allowed e =
     record {
       demands-of =
           record {
@@ -64,62 +63,54 @@ prepared-of p count c cluster profiles₀ profiles top made =
     }
 
 -- ── the rows of a placement in two parts ─────────────────────────────────────────────────────────
--- at the needs within the figure row 14 is that of a hall which is not running
-pub rows-chosen : (p : Plan) (figure : ℕ) (words : List ℕ) → FigureOf p figure
-    → counts_refusal p (is_needed figure p) words ≡ counts_refusal p (is_counted false p) words
-unfolding all_counted_by
-rows-chosen p figure words of =
-    ap (rows_code (all_within p words))
-    (allb-cong (block_count p) _ _ (λ i l. ap (λ (n : ℕ). eqb (count_of p words i) n) (of.counts-are i l)))
+-- at the needs within the figure row 14 is the model's
+counted-chosen : (p : Plan) (figure : ℕ) (words : List ℕ) → FigureOf p figure → all_counted_at p (need p figure) words ≡ all_counted p words
+unfolding all_counted_at all_counted
+counted-chosen p figure words of = allb-cong (block_count p) _ _ (λ i l. ap (λ (n : ℕ). eqb (count_of p words i) n) (of.counts-are i l))
 
 -- rows 12 to 16 and 18 are 12, then 13 and 14, then the others
-module _ (running : Bool) (p : Plan) (words : List ℕ) (enough : block_count p ≤ length words) where
-  pub rows_apart : placement_refusal running words p ≡ or_else (counts_refusal p (is_counted running p) words) (layout_refusal p words)
-  unfolding placement_refusal layout_refusal rows_code all_counted_by all_counted
+module _ (p : Plan) (figure : ℕ) (words : List ℕ) (of : FigureOf p figure) (enough : block_count p ≤ length words) where
+  pub rows_apart : placement_refusal words p ≡ or_else (counts_refusal p (need p figure) words) (layout_refusal p words)
+  unfolding placement_refusal counts_refusal layout_refusal
   rows_apart =
       check12-enough (length words) (block_count p) _ enough
-      ∙ go (all_within p words) (all_counted running p words) (layout_refusal p words)
+      ∙ go (all_within p words) (all_counted_at p (need p figure) words) (all_counted p words) (counted-chosen p figure words of) (layout_refusal p words)
     where
-      go : (within counted : Bool) (later : ℕ)
-          → refuse_if (not within) 13 (refuse_if (not counted) 14 later) ≡ or_else (refuse_if (not within) 13 (refuse_if (not counted) 14 0)) later
-      go false counted later = refl
-      go true false later = refl
-      go true true later = refl
+      go : (within counted chosen : Bool) → counted ≡ chosen → (later : ℕ)
+          → refuse_if (not within) 13 (refuse_if (not chosen) 14 later) ≡ or_else (refuse_if (not within) 13 (refuse_if (not counted) 14 0)) later
+      go false counted chosen e later = refl
+      go true false chosen e later = rw (sym e) refl
+      go true true chosen e later = rw (sym e) refl
 
-  pub rows-counts : (code : ℕ) → code ≡ counts_refusal p (is_counted running p) words → 1 ≤ code → placement_refusal running words p ≡ code
+  pub rows-counts : (code : ℕ) → code ≡ counts_refusal p (need p figure) words → 1 ≤ code → placement_refusal words p ≡ code
   rows-counts zero e l = absurd (omega arith)
   rows-counts (suc code) e l = rows_apart ∙ (rw (sym e) refl)
 
-  pub rows-layout : counts_refusal p (is_counted running p) words ≡ 0 → placement_refusal running words p ≡ layout_refusal p words
+  pub rows-layout : counts_refusal p (need p figure) words ≡ 0 → placement_refusal words p ≡ layout_refusal p words
   rows-layout e = rows_apart ∙ (rw e refl)
 
 -- words whose counts have passed are admitted by the other rows
-pub ready_of : (running : Bool) (p : Plan) (bytes : List ℕ) → judge_in running bytes ≡ accepted p
-    → (c : Cluster) (words profiles : List ℕ) (r : Placement)
-    → block_count p ≤ length words → placement_refusal running words p ≡ layout_refusal p words → Weighed p p.version c words profiles r
-    → PlacementAdmitted running bytes words profiles r
-ready_of running p bytes reads c words profiles r enough rows made =
-    let code : r.code ≡ placement_refusal running words p = made.code_is ∙ sym rows in
+pub ready_of : (p : Plan) (bytes : List ℕ) → judge bytes ≡ accepted p → (c : Cluster) (words profiles : List ℕ) (r : Placement)
+    → block_count p ≤ length words → placement_refusal words p ≡ layout_refusal p words → Weighed p c words profiles r
+    → PlacementAdmitted bytes words profiles r
+ready_of p bytes reads c words profiles r enough rows made =
+    let code : r.code ≡ placement_refusal words p = made.code_is ∙ sym rows in
     let of = made.prepared.profiles-of in
     record {
-      code_is = code ∙ sym (call_refusal-accepted _ p (placement_refusal running words) reads);
+      code_is = code ∙ sym (call_refusal-accepted _ p (placement_refusal words) reads);
       ready =
           λ e.
           let passes = sym code ∙ e in
-          let held = accepted-held running bytes p reads in
           record {
             plan = p;
             reads = reads;
             passes = passes;
-            version-is = made.version-is;
             prepared = made.prepared;
             fits = record { profiles-fit = made.prepared.fit; word_room = rw (cluster-blocks p _ of.cluster) enough };
             placement =
                 record {
                   profiles-of = of;
-                  feasible =
-                      feasible-own p (counts_for running p words) words
-                      (placement_refusal-feasible p of.cluster.valid words running held passes);
+                  feasible = feasible-own p (chosen p) words (placement_refusal-feasible p of.cluster.valid words passes);
                 };
             loads-of = made.loads-of;
           };

@@ -1,16 +1,16 @@
 -- What the way in says, in the model's terms: the refusal code of a call, and where it is 0 what the call works with.
-use Rattle.std.specs.Prelude.{◌≡◌, Bool, List, ℕ, ◌≤◌}
+use Rattle.std.specs.Prelude.{◌≡◌, List, ℕ, ◌≤◌}
 use Rattle.model.specs.Plan.{Plan, block_count}
-use Rattle.model.specs.Refusal.{check12, judge, judge_in, accepted}
+use Rattle.model.specs.Refusal.{check12, judge, accepted}
 use Rattle.model.specs.Replication.{largest_share, chosen}
 use Rattle.model.specs.Placement.{count_of}
-use Rattle.model.specs.Calls.{is_counted, placement_refusal}
+use Rattle.model.specs.Calls.{placement_refusal}
 use Rattle.theory.specs.Calls.{call_refusal}
 use Rattle.cluster.specs.declared.Cluster.{Cluster}
 use Rattle.cluster.specs.Blocks.{DemandsFit, DemandsOf, CountsFit, ProfilesFit, ProfilesOf, PlacementFits, PlacementOf}
 use Rattle.replication.specs.Choice.{LimitedDemands}
 use Rattle.loads.specs.Loads.{LoadsOf}
-use Rattle.validation.specs.Validation.{counts_refusal, layout_refusal}
+use Rattle.validation.specs.Validation.{layout_refusal}
 use Rattle.admission.specs.declared.Intake.{Intake}
 use Rattle.admission.specs.declared.Placement.{Placement}
 
@@ -39,11 +39,6 @@ pub record Admitted (bytes : List ℕ) (lent : ℕ) (profiles : List ℕ) (r : I
   pub code_is : r.code ≡ call_refusal (judge bytes) (λ p. check12 lent (block_count p) 0)
   pub ready : r.code ≡ 0 → PlanReady bytes lent profiles r
 
--- Rows 13 and 14 of plan p's words, in a running hall or not; where both pass, the counts held fit the demands.
-pub record CountsJudgedIn (running : Bool) (p : Plan) (c : Cluster) (words demands : List ℕ) (r : ℕ) : Type 0 where
-  pub code_is : r ≡ counts_refusal p (is_counted running p) words
-  pub fit : r ≡ 0 → CountsFit c words demands
-
 -- Words that have passed rows 13 and 14, with the demands of some plan.
 pub record CountedAsked (c : Cluster) (words demands : List ℕ) : Type 0 where
   pub fit : CountsFit c words demands
@@ -52,24 +47,22 @@ pub record CountedAsked (c : Cluster) (words demands : List ℕ) : Type 0 where
 
 -- Words of plan p that have passed rows 13 and 14: rows 15, 16 and 18, and the profiles, loads and copies at the counts held, whatever they
 -- are.
-pub record Weighed (p : Plan) (version : ℕ) (c : Cluster) (words profiles : List ℕ) (r : Placement) : Type 0 where
+pub record Weighed (p : Plan) (c : Cluster) (words profiles : List ℕ) (r : Placement) : Type 0 where
   pub code_is : r.code ≡ layout_refusal p words
-  pub version-is : r.version ≡ version
   pub cluster-is : r.cluster ≡ c
   pub prepared : Prepared p (count_of p words) r.cluster profiles r.top
   pub loads-of : LoadsOf r.cluster words profiles r.loads.load r.loads.copies
 
--- A placement that passes rows 12 to 16 and 18, in a running hall or not: lawful at the counts held, with its loads and copies.
-pub record PlacementReady (running : Bool) (bytes words profiles : List ℕ) (r : Placement) : Type 0 where
+-- A placement that passes rows 12 to 16 and 18: lawful at the counts held, which are the chosen ones, with its loads and copies.
+pub record PlacementReady (bytes words profiles : List ℕ) (r : Placement) : Type 0 where
   pub plan : Plan
-  pub reads : judge_in running bytes ≡ accepted plan
-  pub passes : placement_refusal running words plan ≡ 0
-  pub version-is : r.version ≡ plan.version
+  pub reads : judge bytes ≡ accepted plan
+  pub passes : placement_refusal words plan ≡ 0
   pub prepared : Prepared plan (count_of plan words) r.cluster profiles r.top
   pub fits : PlacementFits r.cluster words profiles
   pub placement : PlacementOf plan (count_of plan words) r.cluster words profiles
   pub loads-of : LoadsOf r.cluster words profiles r.loads.load r.loads.copies
 
-pub record PlacementAdmitted (running : Bool) (bytes words profiles : List ℕ) (r : Placement) : Type 0 where
-  pub code_is : r.code ≡ call_refusal (judge_in running bytes) (placement_refusal running words)
-  pub ready : r.code ≡ 0 → PlacementReady running bytes words profiles r
+pub record PlacementAdmitted (bytes words profiles : List ℕ) (r : Placement) : Type 0 where
+  pub code_is : r.code ≡ call_refusal (judge bytes) (placement_refusal words)
+  pub ready : r.code ≡ 0 → PlacementReady bytes words profiles r

@@ -1,11 +1,10 @@
 // The one way in for the entries: a plan's bytes are judged, its counts chosen, and a placement handed in is judged with it.
 ghost use Rattle.std.specs.Prelude.{◌≡◌, ◌≤◌, length};
-ghost use Rattle.model.specs.Refusal.{max_blocks, judge, judge_in, accepted};
+ghost use Rattle.model.specs.Refusal.{max_blocks, judge, accepted};
 ghost use Rattle.model.specs.Plan.{Plan};
 ghost use Rattle.cluster.specs.Blocks.{DemandsOf};
 ghost use Rattle.plan.specs.Reading.{plan_of, DecodeAsked};
-ghost use Rattle.replication.specs.Choice.{LimitedDemands, ChooseAsked};
-ghost use Rattle.admission.specs.Admission.{Demanded, PreparedChosen, Admitted, CountsJudgedIn, CountedAsked, Weighed, PlacementAdmitted};
+ghost use Rattle.admission.specs.Admission.{Demanded, PreparedChosen, Admitted, CountedAsked, Weighed, PlacementAdmitted};
 
 use cluster::{Cluster, MAX_MACHINES};
 use header::Header;
@@ -20,12 +19,10 @@ pub struct Intake {
     pub top: u64,
 }
 
-// What a call on a placement begins with: the code, the plan's version, the cluster, the largest share at the counts held, and the loads
-// and copies of the machines.
+// What a call on a placement begins with: these, and the loads and copies of the machines.
 #[derive(Drop)]
 pub struct Placement {
     pub code: u8,
-    pub version: usize,
     pub cluster: Cluster,
     pub top: u64,
     pub loads: Loads,
@@ -111,45 +108,23 @@ fn refused_placement(code: u8) -> Placement
     };
     Placement {
         code: intake.code,
-        version: 0,
         cluster,
         top: 0,
         loads,
     }
 }
 
-// Rows 13 and 14 on words and demands. A running hall's blocks may have any copies that their demands allow, and no figure is searched for
-// it; else they have those that they need within the best figure.
-fn judge_counts(
-    words: &[u64],
-    demands: &[u64],
-    cluster: Cluster,
-    allowed: usize,
-    running: bool,
-) -> u8
-    requires { ChooseAsked cluster demands.now allowed × (cluster.blocks ≤ length words.now) }
-    ensures { (p : Plan) → LimitedDemands p cluster demands.now allowed
-        → CountsJudgedIn running p cluster words.now demands.now result }
-{
-    if running {
-        return validation::held_refusal(words, demands, cluster);
-    }
-    let figure = replication::best_figure(demands, allowed, cluster);
-    validation::counts_refusal(words, demands, cluster, figure)
-}
-
 // Words that have passed rows 13 and 14, with the demands: the profiles and loads at the counts held, and rows 15, 16 and 18.
-fn admit_counted(words: &[u64], profiles: &mut [u64], version: usize, cluster: Cluster) -> Placement
+fn admit_counted(words: &[u64], profiles: &mut [u64], cluster: Cluster) -> Placement
     requires { CountedAsked cluster words.now profiles.old }
     ensures { (p : Plan) → DemandsOf p cluster profiles.old
-        → Weighed p version cluster words.now profiles.new result }
+        → Weighed p cluster words.now profiles.new result }
 {
     let largest = replication::fill_held(profiles, words, cluster);
     let loads = loads::sum_words(words, profiles, cluster);
     let code = validation::layout_refusal(words, profiles, loads, cluster);
     Placement {
         code,
-        version,
         cluster,
         top: largest,
         loads,
@@ -157,42 +132,31 @@ fn admit_counted(words: &[u64], profiles: &mut [u64], version: usize, cluster: C
 }
 
 // An accepted plan with any words: rows 12, 13 and 14 on words and demands, then the others.
-fn admit_words(
-    bytes: &[u8],
-    h: Header,
-    running: bool,
-    words: &[u64],
-    profiles: &mut [u64],
-) -> Placement
-    requires { (judge_in running bytes.now ≡ accepted (plan_of bytes.now h)) × (max_blocks ≤ length profiles.old) }
-    ensures { PlacementAdmitted running bytes.now words.now profiles.new result }
+fn admit_words(bytes: &[u8], h: Header, words: &[u64], profiles: &mut [u64]) -> Placement
+    requires { (judge bytes.now ≡ accepted (plan_of bytes.now h)) × (max_blocks ≤ length profiles.old) }
+    ensures { PlacementAdmitted bytes.now words.now profiles.new result }
 {
     let cluster = h.cluster;
     if words.len() < cluster.blocks {
         return refused_placement(12);
     }
     let allowed = demand_all(bytes, h, profiles);
-    let code = judge_counts(words, profiles, cluster, allowed, running);
+    let figure = replication::best_figure(profiles, allowed, cluster);
+    let code = validation::counts_refusal(words, profiles, cluster, figure);
     if code != 0 {
         return refused_placement(code);
     }
-    admit_counted(words, profiles, h.version, cluster)
+    admit_counted(words, profiles, cluster)
 }
 
-// Any bytes with any words, for a call that says whether the hall is running: rows 1 to 18, 22 and 23. Where the code is 0, the profiles are
-// in the lent list.
-pub fn admit_placement(
-    bytes: &[u8],
-    running: bool,
-    words: &[u64],
-    profiles: &mut [u64],
-) -> Placement
+// Any bytes with any words: rows 1 to 18, 22 and 23. Where the code is 0, the profiles are in the lent list.
+pub fn admit_placement(bytes: &[u8], words: &[u64], profiles: &mut [u64]) -> Placement
     requires { max_blocks ≤ length profiles.old }
-    ensures { PlacementAdmitted running bytes.now words.now profiles.new result }
+    ensures { PlacementAdmitted bytes.now words.now profiles.new result }
 {
-    let reading = plan::read_in(bytes, running);
+    let reading = plan::read(bytes);
     match reading {
         Reading::Refused(code) => refused_placement(code),
-        Reading::Accepted(h) => admit_words(bytes, h, running, words, profiles),
+        Reading::Accepted(h) => admit_words(bytes, h, words, profiles),
     }
 }

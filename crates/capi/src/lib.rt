@@ -1,20 +1,19 @@
 // The functions that the archive exports to C: thin wrappers over the public entries, on numbers and slices alone.
 // Each judges the length of `out`, makes its call and has the answer told (`codes`).
 // Each returns 0 or the number of a refusal, and writes only where it returns 0.
-// `running` is 0 for counts as chosen; any other number says that the hall is running.
 ghost use Rattle.std.specs.Prelude.{[], ◌≡◌};
 ghost use Rattle.model.specs.Refusal.{verdict_code, judge};
 ghost use Rattle.model.specs.Calls.{counts_call, first_call, check_call, report_call, step_call, run_call};
 ghost use Rattle.model.specs.Listing.{listing_call};
 ghost use Rattle.model.specs.Conversion.{convert_call};
 ghost use Rattle.model.specs.ReadLog.{read_call, popularity_call};
-ghost use Rattle.model.specs.Recordings.{new_block, arrive_call, delete_call, plan_with_call, plan_without_call};
-ghost use Rattle.interface.specs.Interface.{flag_of, effect_of, effect};
-ghost use Rattle.interface.specs.Interface.{no_numbers, report_numbers, step_numbers, run_numbers, one_number, deletion_numbers};
+ghost use Rattle.interface.specs.Interface.{effect_of, effect, no_numbers, report_numbers, step_numbers, run_numbers, one_number};
 ghost use Rattle.capi.specs.Script.{PlayedInto};
 
-use codes::SHORT_OUT;
 use model::Entry;
+
+// The code for an `out` that is shorter than what the call writes there, above all refusal numbers.
+const SHORT_OUT: u32 = 255;
 
 // Judges a plan.
 #[unsafe(no_mangle)]
@@ -47,59 +46,50 @@ pub extern "C" fn bpl_first(plan: &[u8], words: &mut [u64]) -> u32
 
 // Checks a placement. It never writes.
 #[unsafe(no_mangle)]
-pub extern "C" fn bpl_check(plan: &[u8], running: u32, words: &[u64]) -> u32
+pub extern "C" fn bpl_check(plan: &[u8], words: &[u64]) -> u32
     ensures { effect_of result words.now []
-        ≡ effect 0 no_numbers words.now [] (check_call (flag_of running) plan.now words.now) }
+        ≡ effect 0 no_numbers words.now [] (check_call plan.now words.now) }
 {
-    let answer = service::check(plan, running != 0, words);
+    let answer = service::check(plan, words);
     codes::tell_check(answer)
 }
 
 // Reports on a placement: hottest load, coolest load, sum of loads, largest share.
 #[unsafe(no_mangle)]
-pub extern "C" fn bpl_report(plan: &[u8], running: u32, words: &[u64], out: &mut [u64]) -> u32
+pub extern "C" fn bpl_report(plan: &[u8], words: &[u64], out: &mut [u64]) -> u32
     ensures { effect_of result words.now out.new
-        ≡ effect 4 report_numbers words.now out.old
-        (report_call (flag_of running) plan.now words.now) }
+        ≡ effect 4 report_numbers words.now out.old (report_call plan.now words.now) }
 {
     if out.len() < 4 {
         return SHORT_OUT;
     }
-    let answer = service::report(plan, running != 0, words);
+    let answer = service::report(plan, words);
     codes::tell_report(answer, out)
 }
 
 // Takes the next step.
 #[unsafe(no_mangle)]
-pub extern "C" fn bpl_step(plan: &[u8], running: u32, words: &mut [u64], out: &mut [u64]) -> u32
+pub extern "C" fn bpl_step(plan: &[u8], words: &mut [u64], out: &mut [u64]) -> u32
     ensures { effect_of result words.new out.new
-        ≡ effect 6 step_numbers words.old out.old
-        (step_call (flag_of running) plan.now words.old) }
+        ≡ effect 6 step_numbers words.old out.old (step_call plan.now words.old) }
 {
     if out.len() < 6 {
         return SHORT_OUT;
     }
-    let answer = service::step(plan, running != 0, words);
+    let answer = service::step(plan, words);
     codes::tell_step(answer, out)
 }
 
 // Takes next steps until rest or until the step limit is used: 1 for rest and 0 for spent, and the number of steps.
 #[unsafe(no_mangle)]
-pub extern "C" fn bpl_run(
-    plan: &[u8],
-    running: u32,
-    words: &mut [u64],
-    limit: u32,
-    out: &mut [u64],
-) -> u32
+pub extern "C" fn bpl_run(plan: &[u8], words: &mut [u64], limit: u32, out: &mut [u64]) -> u32
     ensures { effect_of result words.new out.new
-        ≡ effect 2 run_numbers words.old out.old
-        (run_call (flag_of running) plan.now words.old limit) }
+        ≡ effect 2 run_numbers words.old out.old (run_call plan.now words.old limit) }
 {
     if out.len() < 2 {
         return SHORT_OUT;
     }
-    let answer = service::run(plan, running != 0, words, limit);
+    let answer = service::run(plan, words, limit);
     codes::tell_run(answer, out)
 }
 
@@ -129,105 +119,29 @@ pub extern "C" fn bpl_convert(plan: &[u8], buffer: &mut [u8], out: &mut [u64]) -
     codes::tell_convert(answer, out)
 }
 
-// Gives a new block its machines: the new block's word, which is written behind those of the blocks that stand.
-#[unsafe(no_mangle)]
-pub extern "C" fn bpl_arrive(
-    plan: &[u8],
-    popularity: u64,
-    least: u64,
-    spread: u64,
-    words: &mut [u64],
-    out: &mut [u64],
-) -> u32
-    ensures { effect_of result words.new out.new
-        ≡ effect 1 one_number words.old out.old
-        (arrive_call plan.now (new_block popularity least spread) words.old) }
-{
-    if out.len() < 1 {
-        return SHORT_OUT;
-    }
-    let answer = recordings::arrive(plan, popularity, least, spread, words);
-    codes::tell_arrive(answer, out)
-}
-
-// Deletes a block, and both of a pair: how many blocks went, and the first number removed.
-#[unsafe(no_mangle)]
-pub extern "C" fn bpl_delete(plan: &[u8], block: u32, words: &mut [u64], out: &mut [u64]) -> u32
-    ensures { effect_of result words.new out.new
-        ≡ effect 2 deletion_numbers words.old out.old (delete_call plan.now block words.old) }
-{
-    if out.len() < 2 {
-        return SHORT_OUT;
-    }
-    let answer = recordings::delete(plan, block, words);
-    codes::tell_delete(answer, out)
-}
-
-// Makes the next plan's bytes in a lent buffer, with a new block last. Their length is answered.
-#[unsafe(no_mangle)]
-pub extern "C" fn bpl_plan_with(
-    plan: &[u8],
-    popularity: u64,
-    least: u64,
-    spread: u64,
-    buffer: &mut [u8],
-    out: &mut [u64],
-) -> u32
-    ensures { effect_of result buffer.new out.new
-        ≡ effect 1 one_number buffer.old out.old
-        (plan_with_call plan.now (new_block popularity least spread) buffer.old) }
-{
-    if out.len() < 1 {
-        return SHORT_OUT;
-    }
-    let answer = revision::plan_with(plan, popularity, least, spread, buffer);
-    codes::tell_revision(answer, out)
-}
-
-// Makes the next plan's bytes in a lent buffer, without a block and the other one of its pair. Their length is answered.
-#[unsafe(no_mangle)]
-pub extern "C" fn bpl_plan_without(
-    plan: &[u8],
-    block: u32,
-    buffer: &mut [u8],
-    out: &mut [u64],
-) -> u32
-    ensures { effect_of result buffer.new out.new
-        ≡ effect 1 one_number buffer.old out.old (plan_without_call plan.now block buffer.old) }
-{
-    if out.len() < 1 {
-        return SHORT_OUT;
-    }
-    let answer = revision::plan_without(plan, block, buffer);
-    codes::tell_revision(answer, out)
-}
-
-// Plays a script of calls over the plan in the first `plan_len` bytes of a lent buffer and over its words. Answered are the last reply and
-// the length of the standing plan, whose bytes are then the buffer's first.
+// Plays a script of checks, steps and runs over one plan and its words, and answers the last reply.
 #[unsafe(no_mangle)]
 pub extern "C" fn bpl_play(
-    plan: &mut [u8],
-    plan_len: u64,
+    plan: &[u8],
     other: &[u8],
     words: &mut [u64],
     script: &[u64],
     out: &mut [u64],
 ) -> u32
-    ensures { PlayedInto plan.old plan_len other.now words.old script.now
-        out.old result plan.new words.new out.new }
+    ensures { PlayedInto plan.now other.now script.now words.old out.old
+        result words.new out.new }
 {
-    if out.len() < 8 {
+    if out.len() < 7 {
         return SHORT_OUT;
     }
-    let answer = script::play(plan, plan_len, other, words, script);
-    codes::tell_play(answer, out)
+    let reply = script::play(plan, other, words, script);
+    codes::tell_reply(reply, out)
 }
 
 // Notes a read of a block at a tick in a lent list of entries, and answers the new count.
 #[unsafe(no_mangle)]
 pub extern "C" fn bpl_read(
     plan: &[u8],
-    running: u32,
     block: u32,
     tick: u32,
     list: &mut [Entry],
@@ -235,13 +149,12 @@ pub extern "C" fn bpl_read(
     out: &mut [u64],
 ) -> u32
     ensures { effect_of result list.new out.new
-        ≡ effect 1 one_number list.old out.old (read_call (flag_of running) plan.now block tick
-        list.old count) }
+        ≡ effect 1 one_number list.old out.old (read_call plan.now block tick list.old count) }
 {
     if out.len() < 1 {
         return SHORT_OUT;
     }
-    let answer = reads::read(plan, running != 0, block, tick, list, count);
+    let answer = reads::read(plan, block, tick, list, count);
     codes::tell_reads(answer, out)
 }
 
@@ -249,19 +162,17 @@ pub extern "C" fn bpl_read(
 #[unsafe(no_mangle)]
 pub extern "C" fn bpl_popularity(
     plan: &[u8],
-    running: u32,
     block: u32,
     list: &[Entry],
     count: u64,
     out: &mut [u64],
 ) -> u32
     ensures { effect_of result list.now out.new
-        ≡ effect 1 one_number list.now out.old (popularity_call (flag_of running) plan.now block
-        list.now count) }
+        ≡ effect 1 one_number list.now out.old (popularity_call plan.now block list.now count) }
 {
     if out.len() < 1 {
         return SHORT_OUT;
     }
-    let answer = reads::popularity(plan, running != 0, block, list, count);
+    let answer = reads::popularity(plan, block, list, count);
     codes::tell_reads(answer, out)
 }

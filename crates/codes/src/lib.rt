@@ -5,22 +5,16 @@ ghost use Rattle.service.specs.Entries.{counts_outcome, first_outcome, check_out
 ghost use Rattle.listing.specs.Entries.{listing_outcome};
 ghost use Rattle.conversion.specs.Entries.{convert_outcome};
 ghost use Rattle.reads.specs.Answers.{reads_outcome};
-ghost use Rattle.recordings.specs.Entries.{arrive_outcome, delete_outcome};
-ghost use Rattle.revision.specs.Entries.{revision_outcome};
-ghost use Rattle.interface.specs.Interface.{no_numbers, report_numbers, step_numbers, run_numbers, one_number, deletion_numbers};
-ghost use Rattle.codes.specs.Told.{VerdictTold, Told, NumberTold, PlayTold};
+ghost use Rattle.script.specs.Script.{reply_is};
+ghost use Rattle.interface.specs.Interface.{no_numbers, report_numbers, step_numbers, run_numbers, one_number, reply_numbers};
+ghost use Rattle.codes.specs.Told.{VerdictTold, Told, NumberTold, reply_outcome};
 
 use conversion::ConvertAnswer;
 use listing::ListingAnswer;
 use plan::Reading;
 use readwindow::ReadsAnswer;
-use recordings::{ArriveAnswer, DeleteAnswer};
-use revision::RevisionAnswer;
-use script::PlayAnswer;
+use script::LastReply;
 use service::{CheckAnswer, CountsAnswer, FirstAnswer, ReportAnswer, RunAnswer, StepAnswer};
-
-// The code for an `out` or a lent buffer that is too short, above all refusal numbers.
-pub const SHORT_OUT: u32 = 255;
 
 // A plan's verdict.
 pub fn tell_plan(reading: Reading) -> u32
@@ -144,56 +138,14 @@ pub fn tell_convert(answer: ConvertAnswer, out: &mut [u64]) -> u32
     }
 }
 
-// The next plan's bytes: their length.
-pub fn tell_revision(answer: RevisionAnswer, out: &mut [u64]) -> u32
-    requires { 1 ≤ length out.old }
-    ensures { Told one_number (revision_outcome answer) out.old result out.new }
+// A script's last reply. It is always answered.
+pub fn tell_reply(reply: LastReply, out: &mut [u64]) -> u32
+    requires { 7 ≤ length out.old }
+    ensures { Told reply_numbers (reply_outcome (reply_is reply)) out.old result out.new }
 {
-    match answer {
-        RevisionAnswer::Refused(number) => interface::code_of(number),
-        RevisionAnswer::Written(length) => tell_number(length as u64, out),
-    }
-}
-
-// An arrival: the new block's word.
-pub fn tell_arrive(answer: ArriveAnswer, out: &mut [u64]) -> u32
-    requires { 1 ≤ length out.old }
-    ensures { Told one_number (arrive_outcome answer) out.old result out.new }
-{
-    match answer {
-        ArriveAnswer::Refused(number) => interface::code_of(number),
-        ArriveAnswer::Arrived(word) => tell_number(word, out),
-    }
-}
-
-// A deletion: how many blocks went, and the first number removed.
-pub fn tell_delete(answer: DeleteAnswer, out: &mut [u64]) -> u32
-    requires { 2 ≤ length out.old }
-    ensures { Told deletion_numbers (delete_outcome answer) out.old result out.new }
-{
-    match answer {
-        DeleteAnswer::Refused(number) => interface::code_of(number),
-        DeleteAnswer::Deleted(count, first) => {
-            let numbers = [count as u64, first as u64];
-            interface::write_numbers(out, &numbers);
-            0
-        }
-    }
-}
-
-// A script's play: the last reply, and the standing plan's length. It is never refused, but may be short of room for a plan.
-pub fn tell_play(answer: PlayAnswer, out: &mut [u64]) -> u32
-    requires { 8 ≤ length out.old }
-    ensures { PlayTold answer out.old result out.new }
-{
-    match answer {
-        PlayAnswer::Short => SHORT_OUT,
-        PlayAnswer::Ended(reply, size) => {
-            let numbers = interface::play_numbers(reply, size as u64);
-            interface::write_numbers(out, &numbers);
-            0
-        }
-    }
+    let numbers = interface::reply_numbers(reply);
+    interface::write_numbers(out, &numbers);
+    0
 }
 
 // A call on reads: the new count, or the popularity.

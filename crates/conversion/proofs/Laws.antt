@@ -12,7 +12,7 @@ use Rattle.model.specs.Conversion.{written_version, converted}
 use Rattle.header.specs.declared.Header.{Header}
 use Rattle.encoding.specs.Pieces.{header_with}
 use Rattle.plan.specs.Reading.{plan_of}
-use Rattle.plan.proofs.Laws.{plan_of-blocks, accepted-of, header-blocks, header-records}
+use Rattle.plan.proofs.Laws.{plan_of-blocks, accepted-of, plan_in-blocks, plan_in-records}
 use Rattle.conversion.specs.Pieces.{new_records}
 
 -- ── new_records ─────────────────────────────────────────────────────────────────────────────────────────────────────────
@@ -21,10 +21,10 @@ use Rattle.conversion.specs.Pieces.{new_records}
 pub new_records-read : (bytes : List ℕ) (h : Header) (new old : Format) → judge bytes ≡ accepted (plan_of bytes h) → old ≡ format_in bytes
     → new_records new (plan_of bytes h) ≡ joined h.cluster.blocks (λ i. record_bytes new (block_in old bytes i))
 new_records-read bytes h new old e is =
-    let of = accepted-of _ bytes h e in
-    let count = header-blocks bytes h _ of in
-    rw (← count)
-    (joined-cong h.cluster.blocks _ _ (λ i l. ap (record_bytes new) (header-records bytes h _ of old is i (rw count at l))))
+    let of = accepted-of bytes h e in
+    let count = plan_in-blocks bytes h of in
+    rw (of.held, ← count)
+    (joined-cong h.cluster.blocks _ _ (λ i l. ap (record_bytes new) (plan_in-records bytes old is i (rw count at l))))
 
 -- ── converted ──────────────────────────────────────────────────────────────────────────────────────────────────────────
 

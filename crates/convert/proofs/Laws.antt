@@ -1,7 +1,6 @@
 -- What an answer of the converter sends to the streams: a buffer with room for every new file is never too short.
 -- Assumes nothing.
 use mathlib.Core.Path.{◌≡◌, refl, ap, ◌∙◌}
-use mathlib.Core.Bool.{false}
 use mathlib.Core.List.{List}
 use Prim.Native.Nat.{ℕ, ◌≤◌}
 use native.Mathlib.Omega.{arith}
@@ -24,7 +23,7 @@ use Rattle.convert.specs.Output.{output_for, errors_for, result_room, result_siz
 converted-fits : (bytes : List ℕ) (p : Plan) → convert_verdict bytes ≡ accepted p → length (converted p) ≤ result_room
 unfolding format_of
 converted-fits bytes p e =
-    let valid = (accepted-laws false bytes p ((conversions.takes bytes p).taken e).accepts).valid in
+    let valid = (accepted-laws bytes p ((conversions.takes bytes p).taken e).accepts).valid in
     omega (arith, converted-length p, valid.shaped.blocks-max)
 
 -- ── convert_call ──────────────────────────────────────────────────────────────────────────────────

@@ -11,7 +11,7 @@ use header::{Format, Header};
 const MARK: u64 = 0x42504C;
 
 // Puts a number in `width` bytes, high byte first: those of n / 256 before the last one.
-pub fn put_number(buffer: &mut [u8], at: usize, width: usize, n: u64) -> usize
+fn put_number(buffer: &mut [u8], at: usize, width: usize, n: u64) -> usize
     requires { Room at (bytes_of width n) buffer.old }
     ensures { Put at (bytes_of width n) buffer.old buffer.new result }
 {
@@ -24,7 +24,7 @@ pub fn put_number(buffer: &mut [u8], at: usize, width: usize, n: u64) -> usize
 }
 
 // Puts numbers one after the other, each in its width.
-pub fn put_numbers(buffer: &mut [u8], at: usize, widths: &[usize], numbers: &[u64]) -> usize
+fn put_numbers(buffer: &mut [u8], at: usize, widths: &[usize], numbers: &[u64]) -> usize
     requires { NumbersAsked at widths.now numbers.now buffer.old }
     ensures { Put at (numbers_bytes widths.now numbers.now) buffer.old buffer.new result }
 {

@@ -1,7 +1,7 @@
 -- What the reader of the header says, in the model's terms.
-use Rattle.std.specs.Prelude.{◌≡◌, Bool, cond, List, ℕ, ◌<◌, ◌≤◌, ltb, length}
+use Rattle.std.specs.Prelude.{◌≡◌, cond, List, ℕ, ◌<◌, ◌≤◌, ltb, length}
 use Rattle.model.specs.Plan.{mark_in, version_in, racks_in, rack_size_in, feeds_in, capacity_in, budget_in, block_count_in, common_length, header_length, Format as ModelFormat, format_in, record_at, plan_in}
-use Rattle.model.specs.Refusal.{or_else, max_blocks, check1, check2, check3, check4, check22, check5, check6, check7, plan_refusal_in, refusal_in}
+use Rattle.model.specs.Refusal.{or_else, max_blocks, check1, check2, check3, check4, check22, check5, check6, check7, plan_refusal, refusal}
 use Rattle.cluster.specs.declared.Cluster.{Cluster}
 use Rattle.cluster.specs.Cluster.{InRange}
 use Rattle.header.specs.declared.Header.{Header}
@@ -59,16 +59,15 @@ pub record MarkChecked (latest : ℕ) (bytes : List ℕ) (r : ℕ) : Type 0 wher
   pub code : (later : ℕ) → check1 (length bytes) (check2 (mark_in bytes) (check3 latest (version_in bytes) later)) ≡ or_else r later
   pub long : r ≡ 0 → common_length ≤ length bytes
 
--- Checks 1 to 7 and 22 pass: the header's fields with their ranges, and what is left of the verdict is the plan's. These checks are the
--- same whether the hall is running or not.
+-- Checks 1 to 7 and 22 pass: the header's fields with their ranges, and what is left of the verdict is the plan's.
 pub record PassedAs (bytes : List ℕ) (h : Header) : Type 0 where
   pub fields : h ≡ header_in bytes
-  pub left : (running : Bool) → refusal_in running bytes ≡ plan_refusal_in running (plan_in bytes)
+  pub left : refusal bytes ≡ plan_refusal (plan_in bytes)
   pub in-range : InRange h.cluster
   pub length-is : length bytes ≡ record_at (format_in bytes) h.cluster.blocks
 
 pub record RefusedAs (bytes : List ℕ) (code : ℕ) : Type 0 where
-  pub is : (running : Bool) → refusal_in running bytes ≡ code
+  pub is : refusal bytes ≡ code
   pub some : 1 ≤ code
 
 abbrev pub HeaderChecked : List ℕ → HeaderAnswer → Type 0

@@ -1,4 +1,4 @@
--- Numbers written over `out`, one by one, and the numbers of a step and of a play.
+-- Numbers written over `out`, one by one, and a step's numbers.
 -- Assumes nothing.
 use mathlib.Core.Path.{◌≡◌, refl, ap, ◌∙◌}
 use mathlib.Core.List.{List, [], ◌∷◌, ◌++◌}
@@ -9,8 +9,7 @@ use lib.Seq.{ext_get_or}
 use Rattle.order.specs.Table.{table, filled}
 use Rattle.order.proofs.Tables.{length-table, get_d-table, filled_none, filled_more}
 use Rattle.model.specs.Steps.{Step, none, relocate, exchange}
-use Rattle.model.specs.Claims.{Reply, refused_by, checked, stepped, ran, arrived, deleted}
-use Rattle.interface.specs.Interface.{over, step_numbers, reply_numbers, play_numbers}
+use Rattle.interface.specs.Interface.{over, step_numbers}
 
 -- the first i of the numbers stand in the list
 module _ (numbers old : List ℕ) where
@@ -44,18 +43,3 @@ unfolding step_numbers
 step_numbers-six none = refl
 step_numbers-six (relocate racks m n i) = refl
 step_numbers-six (exchange racks m n i j) = refl
-
--- a reply's numbers are seven, and a play's eight
-pub play_numbers-eight : (reply : Reply) (size : ℕ) → let n = reply_numbers reply in
-    ◌≡◌ {A = List ℕ}
-    (get_or n 0 0 ∷ get_or n 1 0 ∷ get_or n 2 0 ∷ get_or n 3 0 ∷ get_or n 4 0 ∷ get_or n 5 0 ∷ get_or n 6 0 ∷ size ∷ [])
-    (play_numbers (record { reply = reply; size = size }))
-unfolding play_numbers reply_numbers step_numbers
-play_numbers-eight (refused_by code) size = refl
-play_numbers-eight checked size = refl
-play_numbers-eight (stepped none) size = refl
-play_numbers-eight (stepped (relocate racks m n i)) size = refl
-play_numbers-eight (stepped (exchange racks m n i j)) size = refl
-play_numbers-eight (ran r) size = refl
-play_numbers-eight (arrived word) size = refl
-play_numbers-eight (deleted d) size = refl

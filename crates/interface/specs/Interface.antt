@@ -1,13 +1,8 @@
 -- What an exported function returns and leaves in the lent buffers, from what the model's call answers.
-use Rattle.std.specs.Prelude.{Bool, cond, not, List, [], ◌∷◌, ◌++◌, ℕ, ltb, eqb, length, drop}
+use Rattle.std.specs.Prelude.{Bool, cond, List, [], ◌∷◌, ◌++◌, ℕ, ltb, length, drop}
 use Rattle.model.specs.Steps.{Step, none, relocate, exchange}
+use Rattle.model.specs.Claims.{Reply, refused_by, checked, stepped, ran}
 use Rattle.model.specs.Calls.{Answer, turned_back, answered, OutcomeOver, Report, RunReply}
-use Rattle.model.specs.Recordings.{Deletion}
-use Rattle.model.specs.Claims.{Reply, refused_by, checked, stepped, ran, arrived, deleted}
-
--- What C tells of a hall: 0 for counts as chosen, any other number for a running hall.
-abbrev pub flag_of : ℕ → Bool
-flag_of running = not (eqb running 0)
 
 -- The code returned, and every item at exit of the buffer that the call works on and of `out`.
 pub record Effect (I : Type 0) : Type 0 where
@@ -61,29 +56,13 @@ step_numbers (exchange racks m n i j) = 1 ∷ swap_kind racks ∷ m ∷ n ∷ i 
 unfoldable pub run_numbers : RunReply → List ℕ
 run_numbers r = cond r.rested 1 0 ∷ r.steps ∷ []
 
--- Of a listing the number of bytes written, of a conversion or the next plan's bytes the length of the result, of a read the new count,
--- of a popularity the popularity, of an arrival the new block's word.
+-- Of a listing the number of bytes written, of a conversion the length of the result, of a read the new count, of a popularity the popularity.
 abbrev pub one_number : ℕ → List ℕ
 one_number n = n ∷ []
 
--- Of a deletion: how many blocks went, and the first number removed.
-unfoldable pub deletion_numbers : Deletion → List ℕ
-deletion_numbers d = d.count ∷ d.first ∷ []
-
--- Of a reply: its kind (0 refused, 1 checked, 2 a step, 3 a run, 4 an arrival, 5 a deletion), then its own numbers.
+-- Of a reply: its kind (0 refused, 1 checked, 2 a step, 3 a run), then its own numbers.
 unfoldable pub reply_numbers : Reply → List ℕ
 reply_numbers (refused_by code) = 0 ∷ code ∷ 0 ∷ 0 ∷ 0 ∷ 0 ∷ 0 ∷ []
 reply_numbers checked = 1 ∷ 0 ∷ 0 ∷ 0 ∷ 0 ∷ 0 ∷ 0 ∷ []
 reply_numbers (stepped step) = 2 ∷ step_numbers step
 reply_numbers (ran r) = 3 ∷ cond r.rested 1 0 ∷ r.steps ∷ 0 ∷ 0 ∷ 0 ∷ 0 ∷ []
-reply_numbers (arrived word) = 4 ∷ word ∷ 0 ∷ 0 ∷ 0 ∷ 0 ∷ 0 ∷ []
-reply_numbers (deleted d) = 5 ∷ d.count ∷ d.first ∷ 0 ∷ 0 ∷ 0 ∷ 0 ∷ []
-
--- A play that ended: its last reply, and the standing plan's length.
-pub record PlayEnd : Type 0 where
-  pub reply : Reply
-  pub size : ℕ
-
--- Of a play: the last reply's seven numbers, then the standing plan's length.
-unfoldable pub play_numbers : PlayEnd → List ℕ
-play_numbers p = reply_numbers p.reply ++ (p.size ∷ [])

@@ -2,7 +2,7 @@
 ghost use Rattle.std.specs.Prelude.{◌≡◌, ◌≤◌, length};
 ghost use Rattle.search.specs.Scene.{step_of};
 ghost use Rattle.script.specs.Script.{reply_is};
-ghost use Rattle.interface.specs.Interface.{over, step_numbers, reply_numbers, play_numbers};
+ghost use Rattle.interface.specs.Interface.{over, step_numbers, reply_numbers};
 
 use script::LastReply;
 use search::Step;
@@ -39,7 +39,7 @@ pub fn step_numbers(step: Step) -> [u64; 6]
     }
 }
 
-// A reply as numbers: its kind (0 refused, 1 checked, 2 a step, 3 a run, 4 an arrival, 5 a deletion), then its own.
+// A reply as numbers: its kind (0 refused, 1 checked, 2 a step, 3 a run), then its own.
 pub fn reply_numbers(reply: LastReply) -> [u64; 7]
     ensures { result ≡ reply_numbers (reply_is reply) }
 {
@@ -52,15 +52,5 @@ pub fn reply_numbers(reply: LastReply) -> [u64; 7]
         }
         LastReply::Rested(steps) => [3, 1, steps as u64, 0, 0, 0, 0],
         LastReply::Spent(steps) => [3, 0, steps as u64, 0, 0, 0, 0],
-        LastReply::Arrived(word) => [4, word, 0, 0, 0, 0, 0],
-        LastReply::Deleted(count, first) => [5, count as u64, first as u64, 0, 0, 0, 0],
     }
-}
-
-// A play that ended, as numbers: the last reply's, then the standing plan's length.
-pub fn play_numbers(reply: LastReply, size: u64) -> [u64; 8]
-    ensures { result ≡ play_numbers (record { reply = reply_is reply; size = size }) }
-{
-    let n = reply_numbers(reply);
-    [n[0], n[1], n[2], n[3], n[4], n[5], n[6], size]
 }

@@ -1,10 +1,10 @@
 -- What each public call answers, and what the lent buffer holds afterwards, for any bytes and any buffer.
 -- A refusal returns its number only and writes nothing.
-use Rattle.std.specs.Prelude.{Bool, true, false, not, ◌&&◌, List, ℕ, zero, suc, leb, eqb, length}
+use Rattle.std.specs.Prelude.{Bool, not, List, ℕ, zero, suc, eqb, length}
 use Rattle.order.specs.Table.{filled}
 use Rattle.order.specs.Search.{allb}
-use Rattle.model.specs.Plan.{Plan, block_count, block_of, upper}
-use Rattle.model.specs.Refusal.{refuse_if, check12, Verdict, refused, accepted, judge_in, judge}
+use Rattle.model.specs.Plan.{Plan, block_count}
+use Rattle.model.specs.Refusal.{refuse_if, check12, Verdict, refused, accepted, judge}
 use Rattle.model.specs.Replication.{largest_share, chosen}
 use Rattle.model.specs.Placement.{count_of, all_within, all_spread, all_fit, all_apart, first_word, max_load_of, min_load_of, total_load_of, max_share}
 use Rattle.model.specs.Steps.{Step, next_step, after, run}
@@ -51,35 +51,29 @@ first_call bytes words =
     on_plan (judge bytes) words (buffer_refusal words)
     (λ p. record { answer = answered (block_count p); items = filled (block_count p) (first_word p) words })
 
--- Rows 12 to 16 and 18, for a placement handed in, each over all blocks or machines before the next. The call says whether the hall is
--- running.
--- 14: a block's copies are not its chosen count; in a running hall, whose counts are the words' own, they are not from its least copies to
--- its upper count.
-abbrev pub is_counted : Bool → Plan → ℕ → ℕ → Bool
-is_counted false p i count = eqb count (chosen p i)
-is_counted true p i count = leb (block_of p i).min_replicas count && leb count (upper p i)
+-- Rows 12 to 16 and 18, for a placement handed in, each over all blocks or machines before the next.
+-- 14: a block's copies are not its chosen count.
+unfoldable pub all_counted : Plan → List ℕ → Bool
+all_counted p words = allb (block_count p) (λ i. eqb (count_of p words i) (chosen p i))
 
-unfoldable pub all_counted : Bool → Plan → List ℕ → Bool
-all_counted running p words = allb (block_count p) (λ i. is_counted running p i (count_of p words i))
-
-unfoldable pub placement_refusal : Bool → List ℕ → Plan → ℕ
-placement_refusal running words p =
+unfoldable pub placement_refusal : List ℕ → Plan → ℕ
+placement_refusal words p =
     check12 (length words) (block_count p)
     (refuse_if (not (all_within p words)) 13
-    (refuse_if (not (all_counted running p words)) 14
+    (refuse_if (not (all_counted p words)) 14
     (refuse_if (not (all_spread p words)) 15
     (refuse_if (not (all_fit p words)) 16
     (refuse_if (not (all_apart p words)) 18
     0)))))
 
 -- A call on a placement that passes them.
-unfoldable pub on_placement : {A : Type 0} → Bool → List ℕ → List ℕ → (Plan → Outcome A) → Outcome A
-on_placement running bytes words call = on_plan (judge_in running bytes) words (placement_refusal running words) call
+unfoldable pub on_placement : {A : Type 0} → List ℕ → List ℕ → (Plan → Outcome A) → Outcome A
+on_placement bytes words call = on_plan (judge bytes) words (placement_refusal words) call
 
 -- Checking a placement never writes; it answers the number of blocks.
-unfoldable pub check_call : Bool → List ℕ → List ℕ → Outcome ℕ
-check_call running bytes words =
-    on_placement running bytes words (λ p. record { answer = answered (block_count p); items = words })
+unfoldable pub check_call : List ℕ → List ℕ → Outcome ℕ
+check_call bytes words =
+    on_placement bytes words (λ p. record { answer = answered (block_count p); items = words })
 
 -- The report on a placement: hottest load, coolest load, sum of loads, largest share.
 pub record Report : Type 0 where
@@ -92,14 +86,14 @@ unfoldable pub report_of : Plan → List ℕ → Report
 report_of p words =
     record { maximum = max_load_of p words; minimum = min_load_of p words; total = total_load_of p words; top = max_share p words }
 
-unfoldable pub report_call : Bool → List ℕ → List ℕ → Outcome Report
-report_call running bytes words =
-    on_placement running bytes words (λ p. record { answer = answered (report_of p words); items = words })
+unfoldable pub report_call : List ℕ → List ℕ → Outcome Report
+report_call bytes words =
+    on_placement bytes words (λ p. record { answer = answered (report_of p words); items = words })
 
 -- One step takes the next step, or leaves the words as they were at rest.
-unfoldable pub step_call : Bool → List ℕ → List ℕ → Outcome Step
-step_call running bytes words =
-    on_placement running bytes words
+unfoldable pub step_call : List ℕ → List ℕ → Outcome Step
+step_call bytes words =
+    on_placement bytes words
     (λ p. record { answer = answered (next_step p words); items = after words (next_step p words) })
 
 -- A run with a step limit: `rest` or `spent`, and the number of steps taken.
@@ -107,9 +101,9 @@ pub record RunReply : Type 0 where
   pub rested : Bool
   pub steps : ℕ
 
-unfoldable pub run_call : Bool → List ℕ → List ℕ → ℕ → Outcome RunReply
-run_call running bytes words limit =
-    on_placement running bytes words
+unfoldable pub run_call : List ℕ → List ℕ → ℕ → Outcome RunReply
+run_call bytes words limit =
+    on_placement bytes words
     (λ p.
     let r = run p limit words in
     record { answer = answered (record { rested = r.rested; steps = r.steps }); items = r.words })

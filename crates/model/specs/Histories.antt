@@ -4,15 +4,13 @@ use Rattle.model.specs.declared.Entry.{Entry}
 use Rattle.model.specs.Calls.{Answer, turned_back, answered}
 use Rattle.model.specs.ReadLog.{entry, tick_bound, age, window, in_window, gap_bound, read_call, popularity_call}
 
--- A call on reads: the bytes that it gets for the plan, whether the hall is running, and a read of a block at a tick, or a block's
--- popularity.
+-- A call on reads: the bytes that it gets for the plan, and a read of a block at a tick, or a block's popularity.
 pub data ReadRequest : Type 0 where
   note_read : ℕ → ℕ → ReadRequest
   ask_popularity : ℕ → ReadRequest
 
 pub record ReadsCall : Type 0 where
   pub bytes : List ℕ
-  pub running : Bool
   pub request : ReadRequest
 
 -- What is handed from call to call: the list, and the count of entries.
@@ -25,32 +23,32 @@ abbrev pub count_after : Answer ℕ → ℕ → ℕ
 count_after (turned_back code) count = count
 count_after (answered n) count = n
 
-unfoldable pub logged : ReadRequest → Bool → List ℕ → Log → Log
-logged (note_read block tick) running bytes log =
-    let out = read_call running bytes block tick log.list log.count in
+unfoldable pub logged : ReadRequest → List ℕ → Log → Log
+logged (note_read block tick) bytes log =
+    let out = read_call bytes block tick log.list log.count in
     record { list = out.items; count = count_after out.answer log.count }
-logged (ask_popularity block) running bytes log =
-    record { list = (popularity_call running bytes block log.list log.count).items; count = log.count }
+logged (ask_popularity block) bytes log =
+    record { list = (popularity_call bytes block log.list log.count).items; count = log.count }
 
 -- Each call is given the list and count that the last one left.
 unfoldable pub play_reads : List ReadsCall → Log → Log
 play_reads [] log = log
-play_reads (call ∷ calls) log = play_reads calls (logged call.request call.running call.bytes log)
+play_reads (call ∷ calls) log = play_reads calls (logged call.request call.bytes log)
 
 -- The accepted reads, in order.
 abbrev pub if_answered : Answer ℕ → List Entry → List Entry
 if_answered (turned_back code) reads = []
 if_answered (answered n) reads = reads
 
-unfoldable pub accepts : ReadRequest → Bool → List ℕ → Log → List Entry
-accepts (note_read block tick) running bytes log =
-    if_answered (read_call running bytes block tick log.list log.count).answer (entry block tick ∷ [])
-accepts (ask_popularity block) running bytes log = []
+unfoldable pub accepts : ReadRequest → List ℕ → Log → List Entry
+accepts (note_read block tick) bytes log =
+    if_answered (read_call bytes block tick log.list log.count).answer (entry block tick ∷ [])
+accepts (ask_popularity block) bytes log = []
 
 unfoldable pub accepted_reads : List ReadsCall → Log → List Entry
 accepted_reads [] log = []
 accepted_reads (call ∷ calls) log =
-    accepts call.request call.running call.bytes log ++ accepted_reads calls (logged call.request call.running call.bytes log)
+    accepts call.request call.bytes log ++ accepted_reads calls (logged call.request call.bytes log)
 
 -- A read is in the window at every accepted tick since.
 unfoldable pub in_window_since : Entry → List Entry → Bool

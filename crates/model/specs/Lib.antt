@@ -6,10 +6,9 @@ pub mod Placement
 pub mod Steps
 pub mod Calls
 pub mod Checks
+pub mod Claims
 pub mod Listing
 pub mod ReadLog
 pub mod Histories
 pub mod Writing
 pub mod Conversion
-pub mod Recordings
-pub mod Claims

@@ -30,19 +30,6 @@ machines p = p.racks * p.rack_size
 abbrev pub places : Plan → ℕ
 places p = machines p * p.capacity
 
--- Document 02, U8: the copy budget does not apply in a running hall. Its plan is the same plan with the places for its budget.
-abbrev pub unbudgeted : Plan → Plan
-unbudgeted p =
-    record {
-      version = p.version;
-      racks = p.racks;
-      rack_size = p.rack_size;
-      feeds = p.feeds;
-      capacity = p.capacity;
-      budget = places p;
-      blocks = p.blocks;
-    }
-
 -- Machine m is in rack m div S.
 abbrev pub rack_of : Plan → ℕ → ℕ
 rack_of p m = m / p.rack_size

@@ -4,7 +4,7 @@ use Rattle.std.proofs.Math.Option.{Option, none, some}
 use Rattle.order.specs.Select.{select}
 use Rattle.model.specs.declared.Entry.{Entry}
 use Rattle.model.specs.Plan.{Plan, block_count, is_paired, partner}
-use Rattle.model.specs.Refusal.{refuse_if, judge_in}
+use Rattle.model.specs.Refusal.{refuse_if, judge}
 use Rattle.model.specs.Calls.{OutcomeOver, answered, on_plan}
 
 -- A read: a block number and a millisecond tick of 32 bits, which starts over. A record that holds none is 0.
@@ -85,10 +85,10 @@ unfoldable pub relisted : List Entry → List Entry → List Entry
 relisted entries list =
     entries ++ replicate (usable (length list) - length entries) no_entry ++ drop (usable (length list)) list
 
--- A read answers the new count. It says whether the hall is running, and so does the call for a popularity.
-unfoldable pub read_call : Bool → List ℕ → ℕ → ℕ → List Entry → ℕ → OutcomeOver Entry ℕ
-read_call running bytes block tick list count =
-    on_plan (judge_in running bytes) list (read_refusal block tick list count)
+-- A read answers the new count.
+unfoldable pub read_call : List ℕ → ℕ → ℕ → List Entry → ℕ → OutcomeOver Entry ℕ
+read_call bytes block tick list count =
+    on_plan (judge bytes) list (read_refusal block tick list count)
     (λ p.
     let entries = noted block tick (entries_in list count) in
     record { answer = answered (length entries); items = relisted entries list })
@@ -101,7 +101,7 @@ unfoldable pub popularity_of : Plan → ℕ → List Entry → ℕ
 popularity_of p block entries =
     cond (is_paired p block) (max (reads_of block entries) (reads_of (partner p block) entries)) (reads_of block entries)
 
-unfoldable pub popularity_call : Bool → List ℕ → ℕ → List Entry → ℕ → OutcomeOver Entry ℕ
-popularity_call running bytes block list count =
-    on_plan (judge_in running bytes) list (λ p. check19 block (block_count p) 0)
+unfoldable pub popularity_call : List ℕ → ℕ → List Entry → ℕ → OutcomeOver Entry ℕ
+popularity_call bytes block list count =
+    on_plan (judge bytes) list (λ p. check19 block (block_count p) 0)
     (λ p. record { answer = answered (popularity_of p block (entries_in list count)); items = list })

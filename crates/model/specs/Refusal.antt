@@ -1,9 +1,8 @@
--- Document 01, "Why a plan or placement is turned back": rows 1 to 12 of its table, and rows 17, 22 and 23 of document 02;
--- with document 02, U8, whether the hall is running.
+-- Document 01, "Why a plan or placement is turned back": rows 1 to 12 of its table, and rows 17, 22 and 23 of document 02.
 -- A refusal code is the row's number, and 0 where nothing is wrong. Each check is handed the code that the later rows give.
 use Rattle.std.specs.Prelude.{Bool, true, false, not, ◌&&◌, ◌||◌, List, ℕ, zero, suc, ◌*◌, ◌%◌, leb, ltb, eqb, length}
 use Rattle.order.specs.Search.{first_up}
-use Rattle.model.specs.Plan.{Block, Plan, marks_pair, places, domains, block_count, block_of, upper, min_total, common_length, latest_version, mark_in, version_in, racks_in, rack_size_in, feeds_in, capacity_in, block_count_in, Format, format_in, header_length, record_at, plan_in, unbudgeted}
+use Rattle.model.specs.Plan.{Block, Plan, marks_pair, places, domains, block_count, block_of, upper, min_total, common_length, latest_version, mark_in, version_in, racks_in, rack_size_in, feeds_in, capacity_in, block_count_in, Format, format_in, header_length, record_at, plan_in}
 
 -- The row's code where its condition holds, else the later rows' code.
 abbrev pub refuse_if : Bool → ℕ → ℕ → ℕ
@@ -119,23 +118,18 @@ pair_refusal p i = check17 (block_of p i) (block_of p (suc i)) (eqb (suc i) (blo
 unfoldable pub pairs_refusal : Plan → ℕ
 pairs_refusal p = first_up is_refusal 0 (pair_refusal p) (block_count p)
 
--- 23 and 10 ask for the copy budget. They are not made in a running hall, where it does not apply; 11 is.
-abbrev pub budget_refusal : Bool → Plan → ℕ → ℕ
-budget_refusal true p later = later
-budget_refusal false p later = check23 p.version (places p) p.budget (check10 p.budget (min_total p) later)
-
--- 1 to 4, 22 and 5 to 7 are made on the header; then 8 and 9, 17, 23, 10 and 11 on the plan. The whole order: `Checks.antt`. A call on a
--- placement or on reads says whether the hall is running; all other calls judge as for a hall that is not.
-unfoldable pub plan_refusal_in : Bool → Plan → ℕ
-plan_refusal_in running p =
+-- 1 to 4, 22 and 5 to 7 are made on the header; then 8 and 9, 17, 23, 10 and 11 on the plan. The whole order: `Checks.antt`.
+unfoldable pub plan_refusal : Plan → ℕ
+plan_refusal p =
     or_else (blocks_refusal p)
     (or_else (pairs_refusal p)
-    (budget_refusal running p
+    (check23 p.version (places p) p.budget
+    (check10 p.budget (min_total p)
     (check11 (places p) (min_total p)
-    0)))
+    0))))
 
-unfoldable pub refusal_in : Bool → List ℕ → ℕ
-refusal_in running bytes =
+unfoldable pub refusal : List ℕ → ℕ
+refusal bytes =
     check1 (length bytes)
     (check2 (mark_in bytes)
     (check3 latest_version (version_in bytes)
@@ -144,13 +138,7 @@ refusal_in running bytes =
     (check5 (capacity_in bytes)
     (check6 (format_in bytes) (length bytes) (block_count_in bytes)
     (check7 (format_in bytes) (length bytes) (block_count_in bytes)
-    (plan_refusal_in running (plan_in bytes)))))))))
-
-abbrev pub plan_refusal : Plan → ℕ
-plan_refusal p = plan_refusal_in false p
-
-abbrev pub refusal : List ℕ → ℕ
-refusal bytes = refusal_in false bytes
+    (plan_refusal (plan_in bytes)))))))))
 
 -- What a plan's bytes are: turned back with a code, or a plan.
 pub data Verdict : Type 0 where
@@ -161,16 +149,8 @@ abbrev pub verdict : ℕ → Plan → Verdict
 verdict zero p = accepted p
 verdict (suc code) p = refused (suc code)
 
--- The plan that is held: a running hall's has no copy budget but its places.
-abbrev pub plan_for : Bool → List ℕ → Plan
-plan_for true bytes = unbudgeted (plan_in bytes)
-plan_for false bytes = plan_in bytes
-
-unfoldable pub judge_in : Bool → List ℕ → Verdict
-judge_in running bytes = verdict (refusal_in running bytes) (plan_for running bytes)
-
-abbrev pub judge : List ℕ → Verdict
-judge bytes = judge_in false bytes
+unfoldable pub judge : List ℕ → Verdict
+judge bytes = verdict (refusal bytes) (plan_in bytes)
 
 -- The code of a verdict: 0 for an accepted plan.
 unfoldable pub verdict_code : Verdict → ℕ

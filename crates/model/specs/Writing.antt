@@ -1,12 +1,8 @@
 -- Document 01, "The plan file", and document 02, U4 and U6: a plan as the bytes of a file.
-use Rattle.std.specs.Prelude.{List, [], ◌∷◌, ◌++◌, ℕ, zero, suc, ◌/◌, ◌%◌, ◌<◌, get_or}
+use Rattle.std.specs.Prelude.{List, [], ◌∷◌, ◌++◌, ℕ, zero, suc, ◌/◌, ◌%◌}
 use Rattle.order.specs.Table.{joined}
 use Rattle.model.specs.Plan.{Block, Plan, block_count, block_of, Format, format_of}
 use Rattle.model.specs.Refusal.{mark}
-
--- Every number of the list is a byte.
-abbrev pub AreBytes : List ℕ → Type 0
-AreBytes bytes = (i : ℕ) → get_or bytes i 0 < 256
 
 -- The `width` bytes of a number, high byte first.
 unfoldable pub bytes_of : ℕ → ℕ → List ℕ

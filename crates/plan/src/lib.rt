@@ -1,11 +1,10 @@
 // A plan file, judged: checks 1 to 11, 17, 22 and 23 on any bytes, and the records of an accepted plan.
-ghost use Rattle.std.specs.Prelude.{◌≡◌, ◌&&◌, cond, List, ℕ, ◌<◌, leb, ltb};
+ghost use Rattle.std.specs.Prelude.{◌≡◌, ◌&&◌, ◌<◌, leb, ltb};
 ghost use Rattle.model.specs.Plan.{plan_in};
-ghost use Rattle.model.specs.Refusal.{check23, check10, check11, pairs_refusal, judge, judge_in};
+ghost use Rattle.model.specs.Refusal.{check23, check10, check11, pairs_refusal, judge};
 ghost use Rattle.header.specs.Header.{PassedAs};
-ghost use Rattle.cluster.specs.Cluster.{InRange};
 ghost use Rattle.cluster.specs.Blocks.{mate};
-ghost use Rattle.plan.specs.Reading.{plan_of, unbudgeted_header, verdict_of, RecordsRead, TotalAs, ShapedAs, ShapeRead, DecodeAsked, Decoded, MateAsked};
+ghost use Rattle.plan.specs.Reading.{plan_of, verdict_of, RecordsRead, TotalAs, DecodeAsked, Decoded, MateAsked};
 
 use header::{Header, HeaderAnswer};
 
@@ -21,13 +20,6 @@ pub enum Reading {
 enum Records {
     Fault(u8),
     Total(usize),
-}
-
-// What the rows up to 17 leave of any bytes: refused with its number, or the header's fields and the sum of the least copies.
-#[derive(Drop)]
-enum Shape {
-    Faulty(u8),
-    Shaped(Header, usize),
 }
 
 // Checks 8 and 9 block by block, and the sum of the least copies, in one pass over the records.
@@ -84,24 +76,10 @@ fn is_unusable(version: usize, places: usize, budget: usize) -> bool
     places < budget
 }
 
-// Check 11; 0 where it passes.
-fn places_refusal(places: usize, total: usize) -> u8
-    ensures { result ≡ check11 places total 0 }
+// Checks 23, 10 and 11; 0 where all pass.
+fn total_refusal(version: usize, places: usize, budget: usize, total: usize) -> u8
+    ensures { result ≡ check23 version places budget (check10 budget total (check11 places total 0)) }
 {
-    if places < total {
-        return 11;
-    }
-    0
-}
-
-// Checks 23, 10 and 11; 11 alone in a running hall, where the copy budget does not apply. 0 where they pass.
-fn total_refusal(running: bool, version: usize, places: usize, budget: usize, total: usize) -> u8
-    ensures { result ≡ cond running (check11 places total 0)
-        (check23 version places budget (check10 budget total (check11 places total 0))) }
-{
-    if running {
-        return places_refusal(places, total);
-    }
     let unusable = is_unusable(version, places, budget);
     if unusable {
         return 23;
@@ -109,93 +87,50 @@ fn total_refusal(running: bool, version: usize, places: usize, budget: usize, to
     if budget < total {
         return 10;
     }
-    places_refusal(places, total)
-}
-
-// The header of the plan that is held: in a running hall the places are its budget.
-fn held_header(h: Header, running: bool, places: usize) -> Header
-    ensures { result ≡ cond running (unbudgeted_header places h) h }
-{
-    if running {
-        let cluster = h.cluster;
-        return Header {
-            version: h.version,
-            cluster,
-            budget: places,
-        };
+    if places < total {
+        return 11;
     }
-    h
+    0
 }
 
-// Check 17, for records that passed 8 and 9, with their sum of least copies.
-fn shape_pairs(bytes: &[u8], h: Header, total: usize) -> Shape
+// Checks 17, 23, 10 and 11, for records that passed 8 and 9 and their sum of least copies.
+fn judge_total(bytes: &[u8], h: Header, total: usize) -> Reading
     requires { PassedAs bytes.now h × TotalAs bytes.now total }
-    ensures { ShapeRead bytes.now result }
-{
-    let paired = scan_pairs(bytes, h);
-    if paired != 0 {
-        return Shape::Faulty(paired);
-    }
-    Shape::Shaped(h, total)
-}
-
-// Checks 8, 9 and 17, for a header that passed its own checks.
-fn shape_records(bytes: &[u8], h: Header) -> Shape
-    requires { PassedAs bytes.now h }
-    ensures { ShapeRead bytes.now result }
-{
-    let scanned = scan_records(bytes, h);
-    match scanned {
-        Records::Fault(code) => Shape::Faulty(code),
-        Records::Total(total) => shape_pairs(bytes, h, total),
-    }
-}
-
-// The rows up to 17 on any bytes. Whether the hall is running is not asked here: the loops have no register to spare for it.
-fn shape_of(bytes: &[u8]) -> Shape
-    ensures { ShapeRead bytes.now result }
-{
-    let answer = header::read(bytes);
-    match answer {
-        HeaderAnswer::Refused(code) => Shape::Faulty(code),
-        HeaderAnswer::Passed(h) => shape_records(bytes, h),
-    }
-}
-
-// Checks 23, 10 and 11 of a plan that passed the rows up to 17, with the sum of its least copies.
-fn judge_total(h: Header, total: usize, running: bool) -> Reading
-    requires { InRange h.cluster }
-    ensures { (bytes : List ℕ) → ShapedAs bytes h total → verdict_of bytes result ≡ judge_in running bytes }
+    ensures { verdict_of bytes.now result ≡ judge bytes.now }
 {
     let cluster = h.cluster;
+    let paired = scan_pairs(bytes, h);
+    if paired != 0 {
+        return Reading::Refused(paired);
+    }
     let places = cluster.machines() * cluster.capacity;
-    let summed = total_refusal(running, h.version, places, h.budget, total);
+    let summed = total_refusal(h.version, places, h.budget, total);
     if summed != 0 {
         return Reading::Refused(summed);
     }
-    let held = held_header(h, running, places);
-    Reading::Accepted(held)
+    Reading::Accepted(h)
 }
 
-// The verdict on any bytes, for a call that says whether the hall is running.
-pub fn read_in(bytes: &[u8], running: bool) -> Reading
-    ensures { verdict_of bytes.now result ≡ judge_in running bytes.now }
+// Checks 8 to 11, 17 and 23, for a header that passed its own checks.
+fn judge_records(bytes: &[u8], h: Header) -> Reading
+    requires { PassedAs bytes.now h }
+    ensures { verdict_of bytes.now result ≡ judge bytes.now }
 {
-    let shape = shape_of(bytes);
-    match shape {
-        Shape::Faulty(code) => Reading::Refused(code),
-        Shape::Shaped(h, total) => judge_total(h, total, running),
+    let scanned = scan_records(bytes, h);
+    match scanned {
+        Records::Fault(code) => Reading::Refused(code),
+        Records::Total(total) => judge_total(bytes, h, total),
     }
 }
 
-// The verdict on any bytes, for a call that does not say it: as in a hall that is not running.
+// The verdict on any bytes.
 pub fn read(bytes: &[u8]) -> Reading
     ensures { verdict_of bytes.now result ≡ judge bytes.now }
 {
-    let shape = shape_of(bytes);
-    match shape {
-        Shape::Faulty(code) => Reading::Refused(code),
-        Shape::Shaped(h, total) => judge_total(h, total, false),
+    let answer = header::read(bytes);
+    match answer {
+        HeaderAnswer::Refused(code) => Reading::Refused(code),
+        HeaderAnswer::Passed(h) => judge_records(bytes, h),
     }
 }
 

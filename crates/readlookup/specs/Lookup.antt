@@ -1,20 +1,13 @@
 -- A block looked for in a plan, and what a call on reads works on.
-use Rattle.std.specs.Prelude.{◌≡◌, Bool, cond, List, ℕ, ltb, eqb}
+use Rattle.std.specs.Prelude.{cond, ℕ, ltb, eqb}
 use Rattle.model.specs.Plan.{Plan, block_count}
-use Rattle.model.specs.Refusal.{Verdict, refused, accepted, judge_in}
+use Rattle.model.specs.Refusal.{Verdict, refused, accepted}
 use Rattle.model.specs.ReadLog.{usable, standing}
 use Rattle.cluster.specs.Blocks.{mate}
-use Rattle.header.specs.declared.Header.{Header}
-use Rattle.plan.specs.Reading.{plan_of}
 use Rattle.readwindow.specs.Window.{gap_code, unrefused}
 use Rattle.readlookup.specs.declared.Sought.{Sought}
 use Rattle.readlookup.specs.declared.Searched.{Searched}
 use Rattle.readlookup.specs.declared.Judged.{Judged}
-
--- What looking for a block in an accepted plan is given: the bytes of a plan that is accepted, in a running hall or not, with its header.
-pub record SeekAsked (bytes : List ℕ) (h : Header) : Type 0 where
-  pub running : Bool
-  pub accepts : judge_in running bytes ≡ accepted (plan_of bytes h)
 
 -- A block looked for: 19 where it is not in the plan, and its partner, or itself.
 unfoldable pub sought_in : Plan → ℕ → Sought

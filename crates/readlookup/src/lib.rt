@@ -1,8 +1,8 @@
 // A block looked for in a plan's bytes: what a read or a popularity is refused for, and how many records of the list it works on.
 ghost use Rattle.std.specs.Prelude.{◌≡◌};
-ghost use Rattle.model.specs.Refusal.{judge_in};
+ghost use Rattle.model.specs.Refusal.{judge, accepted};
 ghost use Rattle.plan.specs.Reading.{plan_of};
-ghost use Rattle.readlookup.specs.Lookup.{SeekAsked, sought_in, sought, searched, judged};
+ghost use Rattle.readlookup.specs.Lookup.{sought_in, sought, searched, judged};
 
 use header::Header;
 use plan::Reading;
@@ -33,7 +33,7 @@ pub struct Judged {
 
 // A block looked for in an accepted plan: check 19, and its partner.
 fn seek_in(bytes: &[u8], h: Header, block: u32) -> Sought
-    requires { SeekAsked bytes.now h }
+    requires { judge bytes.now ≡ accepted (plan_of bytes.now h) }
     ensures { result ≡ sought_in (plan_of bytes.now h) block }
 {
     let cluster = h.cluster;
@@ -51,10 +51,10 @@ fn seek_in(bytes: &[u8], h: Header, block: u32) -> Sought
 }
 
 // A block looked for in any bytes: the plan's refusals, then check 19.
-fn seek(bytes: &[u8], running: bool, block: u32) -> Sought
-    ensures { result ≡ sought (judge_in running bytes.now) block }
+fn seek(bytes: &[u8], block: u32) -> Sought
+    ensures { result ≡ sought (judge bytes.now) block }
 {
-    let reading = plan::read_in(bytes, running);
+    let reading = plan::read(bytes);
     match reading {
         Reading::Refused(code) => Sought {
             code: code,
@@ -65,10 +65,10 @@ fn seek(bytes: &[u8], running: bool, block: u32) -> Sought
 }
 
 // What a block's popularity is counted over. Nothing is searched where the call is refused, nor twice for a block without a partner.
-pub fn search(bytes: &[u8], running: bool, block: u32, lent: usize, count: u64) -> Searched
-    ensures { result ≡ searched (judge_in running bytes.now) block lent count }
+pub fn search(bytes: &[u8], block: u32, lent: usize, count: u64) -> Searched
+    ensures { result ≡ searched (judge bytes.now) block lent count }
 {
-    let found = seek(bytes, running, block);
+    let found = seek(bytes, block);
     let own = readwindow::unrefused(found.code, readwindow::standing(lent, count));
     if found.mate == block {
         return Searched {
@@ -89,16 +89,15 @@ pub fn search(bytes: &[u8], running: bool, block: u32, lent: usize, count: u64) 
 // What a read works on: nothing where it is refused.
 pub fn judge_read(
     bytes: &[u8],
-    running: bool,
     block: u32,
     tick: u32,
     last: u32,
     lent: usize,
     standing: usize,
 ) -> Judged
-    ensures { result ≡ judged (judge_in running bytes.now) block tick last lent standing }
+    ensures { result ≡ judged (judge bytes.now) block tick last lent standing }
 {
-    let found = seek(bytes, running, block);
+    let found = seek(bytes, block);
     let code = readwindow::gap_refusal(found.code, tick, last);
     Judged {
         code: code,

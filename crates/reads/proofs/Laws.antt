@@ -15,7 +15,7 @@ use Rattle.order.specs.Select.{select}
 use Rattle.order.proofs.Selects.{select-all}
 use Rattle.model.specs.declared.Entry.{Entry}
 use Rattle.model.specs.Plan.{Plan, block_count, is_paired, partner}
-use Rattle.model.specs.Refusal.{refuse_if, Verdict, refused, accepted, judge_in}
+use Rattle.model.specs.Refusal.{refuse_if, Verdict, refused, accepted, judge}
 use Rattle.model.specs.Calls.{OutcomeOver, answered, refuse, unless, on_plan}
 use Rattle.model.specs.ReadLog.{entry, no_entry, tick_bound, in_window, age, usable, standing, entries_in, current, last_tick, gap_bound, check19, check20, check21, read_refusal, noted, relisted, read_call, reads_of, popularity_of, popularity_call}
 use Rattle.theory.proofs.Refusal.{judge-some}
@@ -192,15 +192,15 @@ module _ (block tick count : ℕ) (list list' : List Entry) (kept : ℕ) where
             ])
       ]
 
-pub read_is : (running : Bool) (bytes : List ℕ) (block tick count : ℕ) (list list' : List Entry) (kept : ℕ) → tick < tick_bound
+pub read_is : (bytes : List ℕ) (block tick count : ℕ) (list list' : List Entry) (kept : ℕ) → tick < tick_bound
     → let held = standing (length list) count in
-    let work = judged (judge_in running bytes) block tick (last_or list held tick) (length list) held in
+    let work = judged (judge bytes) block tick (last_or list held tick) (length list) held in
     CompactedAs tick work.span work.count list list' kept
     → reads_outcome (read_number work.code kept work.span) (appended (entry block tick) kept work.span list')
-    ≡ read_call running bytes block tick list count
+    ≡ read_call bytes block tick list count
 unfolding read_call
-read_is running bytes block tick count list list' kept fits done =
-    read-over block tick count list list' kept (judge_in running bytes) (judge-some running bytes) fits done
+read_is bytes block tick count list list' kept fits done =
+    read-over block tick count list list' kept (judge bytes) (judge-some bytes) fits done
 
 -- ── A popularity ───────────────────────────────────────────────────────────────────────────────────────────────────────
 
@@ -219,12 +219,12 @@ popularity_of-mate p block entries = go (is_paired p block)
     go true = refl
     go false = omega arith
 
-pub popularity-is : (running : Bool) (bytes : List ℕ) (block count : ℕ) (list : List Entry)
-    → let over = searched (judge_in running bytes) block (length list) count in
+pub popularity-is : (bytes : List ℕ) (block count : ℕ) (list : List Entry)
+    → let over = searched (judge bytes) block (length list) count in
     reads_outcome (popularity_number over.code (reads_of block (take over.own list)) (reads_of over.mate (take over.other list))) list
-    ≡ popularity_call running bytes block list count
+    ≡ popularity_call bytes block list count
 unfolding popularity_call on_plan searched sought sought_in unrefused check19 unless popularity_number reads_outcome
-popularity-is running bytes block count list = go (judge_in running bytes) (judge-some running bytes)
+popularity-is bytes block count list = go (judge bytes) (judge-some bytes)
   where
     number : ℕ → OutcomeOver Entry ℕ
     number n = record { answer = answered n; items = list }

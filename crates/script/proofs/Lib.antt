@@ -1,5 +1,2 @@
-pub mod Playing
-pub mod EveryScript
 pub mod Laws
-pub mod Renewing
-pub mod Scripts
+pub mod EveryScript

@@ -9,7 +9,7 @@ use lib.ListN.{length, get_or}
 use Rattle.order.specs.Table.{filled}
 use Rattle.order.proofs.Tables.{filled-cong}
 use Rattle.model.specs.Plan.{Plan, block_count}
-use Rattle.model.specs.Refusal.{judge_in, judge}
+use Rattle.model.specs.Refusal.{judge}
 use Rattle.model.specs.Replication.{chosen}
 use Rattle.model.specs.Steps.{Run}
 use Rattle.model.specs.Placement.{count_of}
@@ -41,18 +41,18 @@ module _ {A : Type 0} (bytes items profiles : List ℕ) (r : Intake) (admitted :
       sym (on_plan-made items (buffer_refusal items) call (judge bytes) ready.plan ready.reads (check12-enough _ _ 0 ready.enough))
 
 -- a call on a placement
-module _ {A : Type 0} (running : Bool) (bytes words profiles : List ℕ) (r : Placement)
-    (admitted : PlacementAdmitted running bytes words profiles r) (call : Plan → Outcome A) where
-  pub placement-refused : (r.code ≡ 0 → ⊥) → refuse r.code words ≡ on_placement running bytes words call
+module _ {A : Type 0} (bytes words profiles : List ℕ) (r : Placement) (admitted : PlacementAdmitted bytes words profiles r)
+    (call : Plan → Outcome A) where
+  pub placement-refused : (r.code ≡ 0 → ⊥) → refuse r.code words ≡ on_placement bytes words call
   unfolding on_placement
   placement-refused some =
-      sym (on_plan-refused words (placement_refusal running words) call (judge_in running bytes) r.code (sym admitted.code_is) (pos_of_ne-zero some))
+      sym (on_plan-refused words (placement_refusal words) call (judge bytes) r.code (sym admitted.code_is) (pos_of_ne-zero some))
 
-  pub placement-made : (e : r.code ≡ 0) → call (admitted.ready e).plan ≡ on_placement running bytes words call
+  pub placement-made : (e : r.code ≡ 0) → call (admitted.ready e).plan ≡ on_placement bytes words call
   unfolding on_placement
   placement-made e =
       let ready = admitted.ready e in
-      sym (on_plan-made words (placement_refusal running words) call (judge_in running bytes) ready.plan ready.reads ready.passes)
+      sym (on_plan-made words (placement_refusal words) call (judge bytes) ready.plan ready.reads ready.passes)
 
 -- the counts that were written are the chosen ones
 pub counts-are : (bytes items profiles : List ℕ) (lent : ℕ) (r : Intake) (ready : PlanReady bytes lent profiles r)
@@ -65,11 +65,10 @@ counts-are bytes items profiles lent r ready =
     ∙ ap (λ (n : ℕ). filled n (chosen p) items) (cluster-blocks p r.cluster of.cluster)
 
 -- the loads that were summed make the report
-pub report-is : (running : Bool) (bytes words profiles : List ℕ) (r : Placement) (ready : PlacementReady running bytes words profiles r)
-    (report : LoadReport)
+pub report-is : (bytes words profiles : List ℕ) (r : Placement) (ready : PlacementReady bytes words profiles r) (report : LoadReport)
     → ReportOf r.loads r.cluster report → report_in report r.top ≡ report_of ready.plan words
 unfolding report_of
-report-is running bytes words profiles r ready report of =
+report-is bytes words profiles r ready report of =
     let p = ready.plan in
     let c = r.cluster in
     let e1 = report-max p (count_of p words) c words profiles r.loads report ready.placement ready.loads-of of in

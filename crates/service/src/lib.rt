@@ -1,5 +1,4 @@
-// The public entries: counts, first placement, check, report, one step, a run. Each is the way in and its own work. A call on a placement
-// says whether the hall is running.
+// The public entries: counts, first placement, check, report, one step, a run. Each is the way in and its own work.
 ghost use Rattle.std.specs.Prelude.{◌≡◌, get_or};
 ghost use Rattle.order.specs.Table.{filled};
 ghost use Rattle.model.specs.Calls.{counts_call, first_call, check_call, report_call, step_call, run_call};
@@ -94,11 +93,11 @@ pub fn first(bytes: &[u8], words: &mut [u64]) -> FirstAnswer
 }
 
 // Checks a placement of any words. It never writes.
-pub fn check(bytes: &[u8], running: bool, words: &[u64]) -> CheckAnswer
-    ensures { check_outcome result words.now ≡ check_call running bytes.now words.now }
+pub fn check(bytes: &[u8], words: &[u64]) -> CheckAnswer
+    ensures { check_outcome result words.now ≡ check_call bytes.now words.now }
 {
     let mut profiles = [0u64; MAX_BLOCKS];
-    let held = admission::admit_placement(bytes, running, words, &mut profiles);
+    let held = admission::admit_placement(bytes, words, &mut profiles);
     if held.code != 0 {
         return CheckAnswer::Refused(held.code);
     }
@@ -107,11 +106,11 @@ pub fn check(bytes: &[u8], running: bool, words: &[u64]) -> CheckAnswer
 }
 
 // Reports on a placement of any words. It never writes.
-pub fn report(bytes: &[u8], running: bool, words: &[u64]) -> ReportAnswer
-    ensures { report_outcome result words.now ≡ report_call running bytes.now words.now }
+pub fn report(bytes: &[u8], words: &[u64]) -> ReportAnswer
+    ensures { report_outcome result words.now ≡ report_call bytes.now words.now }
 {
     let mut profiles = [0u64; MAX_BLOCKS];
-    let held = admission::admit_placement(bytes, running, words, &mut profiles);
+    let held = admission::admit_placement(bytes, words, &mut profiles);
     if held.code != 0 {
         return ReportAnswer::Refused(held.code);
     }
@@ -121,11 +120,11 @@ pub fn report(bytes: &[u8], running: bool, words: &[u64]) -> ReportAnswer
 }
 
 // Takes the next step of any words' placement, or leaves the words as they were at rest.
-pub fn step(bytes: &[u8], running: bool, words: &mut [u64]) -> StepAnswer
-    ensures { step_outcome result words.new ≡ step_call running bytes.now words.old }
+pub fn step(bytes: &[u8], words: &mut [u64]) -> StepAnswer
+    ensures { step_outcome result words.new ≡ step_call bytes.now words.old }
 {
     let mut profiles = [0u64; MAX_BLOCKS];
-    let held = admission::admit_placement(bytes, running, words, &mut profiles);
+    let held = admission::admit_placement(bytes, words, &mut profiles);
     if held.code != 0 {
         return StepAnswer::Refused(held.code);
     }
@@ -135,11 +134,11 @@ pub fn step(bytes: &[u8], running: bool, words: &mut [u64]) -> StepAnswer
 }
 
 // Takes next steps of any words' placement until rest or until the step limit is used.
-pub fn run(bytes: &[u8], running: bool, words: &mut [u64], limit: u32) -> RunAnswer
-    ensures { run_outcome result words.new ≡ run_call running bytes.now words.old limit }
+pub fn run(bytes: &[u8], words: &mut [u64], limit: u32) -> RunAnswer
+    ensures { run_outcome result words.new ≡ run_call bytes.now words.old limit }
 {
     let mut profiles = [0u64; MAX_BLOCKS];
-    let held = admission::admit_placement(bytes, running, words, &mut profiles);
+    let held = admission::admit_placement(bytes, words, &mut profiles);
     if held.code != 0 {
         return RunAnswer::Refused(held.code);
     }

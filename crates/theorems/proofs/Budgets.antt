@@ -1,7 +1,7 @@
 -- Row 23: what it leaves of a version 4 plan, and what it says of one that it turns back.
 -- Assumes nothing.
 use mathlib.Core.Path.{◌≡◌, refl, ap, sym, ◌∙◌}
-use mathlib.Core.Bool.{◌&&◌, false}
+use mathlib.Core.Bool.{◌&&◌}
 use mathlib.Core.List.{List}
 use mathlib.Core.Logic.{inl, inr, ⊎_elim}
 use Prim.Native.Nat.{ℕ, ◌<◌, ◌≤◌}
@@ -14,7 +14,7 @@ use Rattle.order.specs.Sum.{sum}
 use Rattle.order.specs.Table.{table, filled}
 use Rattle.order.specs.Search.{first_up, least, allb, largest}
 use Rattle.model.specs.Plan.{Plan, places, min_total, max_replicas, upper, is_paired, pairs_back, pairs_next, field, format_of, block_in, version_in, plan_in}
-use Rattle.model.specs.Refusal.{check1, check2, check3, check4, check22, check5, check6, check7, check8, check9, alike, check17, check23, check10, check11, check12, block_refusal, blocks_refusal, pair_refusal, pairs_refusal, refusal, judge_in, refusal_in, plan_refusal_in}
+use Rattle.model.specs.Refusal.{check1, check2, check3, check4, check22, check5, check6, check7, check8, check9, alike, check17, check23, check10, check11, check12, block_refusal, blocks_refusal, pair_refusal, pairs_refusal, plan_refusal, refusal, judge}
 use Rattle.model.specs.Replication.{copy_limit, share, largest_share, need, reachable, figure, chosen}
 use Rattle.model.specs.Calls.{unless, on_plan, counts_call}
 use Rattle.theory.specs.Refusal.{PastRow17}
@@ -49,7 +49,7 @@ module _ (bytes : List ℕ) where
   unfolding plan_in
   row23-above e =
       let p = plan_in bytes in
-      let is = sym (refusal-budget false bytes (inl e)) ∙ e in
+      let is = sym (refusal-budget bytes (inl e)) ∙ e in
       elim (dec_lt (version_in bytes) 4) [
         | yes early ↦ absurd (total-not23 p (sym (check23-early p.version (places p) p.budget _ early) ∙ is))
         | no late ↦ elim (dec_lt (places p) p.budget) [
@@ -60,7 +60,7 @@ module _ (bytes : List ℕ) where
 
   row23-given : PastRow17 (refusal bytes) → (4 ≤ version_in bytes) × (places (plan_in bytes) < (plan_in bytes).budget) → refusal bytes ≡ 23
   unfolding plan_in
-  row23-given past unusable = refusal-budget false bytes past ∙ check23-above _ _ _ _ unusable.0 unusable.1
+  row23-given past unusable = refusal-budget bytes past ∙ check23-above _ _ _ _ unusable.0 unusable.1
 
   -- its least copies are within the budget, too, which is above the places
   row23-feasible : refusal bytes ≡ 23 → min_total (plan_in bytes) ≤ places (plan_in bytes) → Infeasible (plan_in bytes) → ⊥
@@ -68,14 +68,14 @@ module _ (bytes : List ℕ) where
   row23-feasible e room none =
       let p = plan_in bytes in
       let above = (row23-above e).1 in
-      none _ _ (shaped-feasible p (refusal-shaped false bytes (inl e)) (le-min (omega arith) room))
+      none _ _ (shaped-feasible p (refusal-shaped bytes (inl e)) (le-min (omega arith) room))
 
   eleven-never : 4 ≤ version_in bytes → refusal bytes ≡ 11 → ⊥
   unfolding plan_in check23 check10
   eleven-never late e =
       let p = plan_in bytes in
       let idle = eleven-idle p.version (places p) p.budget (min_total p) 0 late in
-      let is = refusal-budget false bytes (inr (inr (inl e))) ∙ idle in
+      let is = refusal-budget bytes (inr (inr (inl e))) ∙ idle in
       let other = refuse_if-all (λ n. n ≡ 11 → ⊥) (leb 4 p.version && ltb (places p) p.budget) 23 _ (λ h. omega (arith, h)) (refuse_if-all (λ n. n ≡ 11 → ⊥) (ltb p.budget (min_total p)) 10 0 (λ h. omega (arith, h)) (λ h. omega (arith, h))) in
       other (sym is ∙ e)
 
@@ -86,16 +86,16 @@ budgets bytes =
       row23-exact = λ past. (row23-above bytes, row23-given bytes past);
       row23-open = row23-feasible bytes;
       never-eleven = eleven-never bytes;
-      whole = λ p e late. let usable = (accepted-laws false bytes p e).valid.budget-usable late in omega arith;
+      whole = λ p e late. let usable = (accepted-laws bytes p e).valid.budget-usable late in omega arith;
     }
 
 -- ── BudgetExamples ───────────────────────────────────────────────────────────────────────────────
 wide-figure : figure (plan_in (wide-budgeted 3)) ≡ 10080
-unfolding refusal_in check1 check2 check3 check4 check22 check5 check6 check7 plan_refusal_in blocks_refusal block_refusal check8 check9 pairs_refusal pair_refusal check17 alike check23 check10 check11 plan_in block_in format_of field upper max_replicas is_paired pairs_back pairs_next min_total reachable need share copy_limit sum table least allb first_up wide-whole
+unfolding refusal check1 check2 check3 check4 check22 check5 check6 check7 plan_refusal blocks_refusal block_refusal check8 check9 pairs_refusal pair_refusal check17 alike check23 check10 check11 plan_in block_in format_of field upper max_replicas is_paired pairs_back pairs_next min_total reachable need share copy_limit sum table least allb first_up wide-whole
 wide-figure = figure-of (wide-budgeted 3) 10079 refl refl refl
 
 pub budget-examples : BudgetExamples
-unfolding counts_call on_plan unless judge_in refusal_in check1 check2 check3 check4 check22 check5 check6 check7 plan_refusal_in blocks_refusal block_refusal check8 check9 pairs_refusal pair_refusal check17 alike check23 check10 check11 check12 plan_in block_in format_of field upper max_replicas is_paired pairs_back pairs_next min_total chosen largest_share largest filled need share copy_limit sum table least allb first_up plan-whole wide-whole
+unfolding counts_call on_plan unless judge refusal check1 check2 check3 check4 check22 check5 check6 check7 plan_refusal blocks_refusal block_refusal check8 check9 pairs_refusal pair_refusal check17 alike check23 check10 check11 check12 plan_in block_in format_of field upper max_replicas is_paired pairs_back pairs_next min_total chosen largest_share largest filled need share copy_limit sum table least allb first_up plan-whole wide-whole
 budget-examples =
     record {
       at = refl;

@@ -2,7 +2,7 @@
 -- was written (`reads-written`), and the fields of an older version fit the wider records.
 -- Assumes nothing.
 use mathlib.Core.Path.{◌≡◌, refl, ap, sym, subst, ◌∙◌}
-use mathlib.Core.Bool.{true, false, not, ◌||◌}
+use mathlib.Core.Bool.{not, ◌||◌}
 use mathlib.Core.List.{List, []}
 use Prim.Native.Nat.{ℕ, ◌<◌, ◌≤◌}
 use native.Mathlib.Nat.{le_trans}
@@ -12,23 +12,23 @@ use lib.Dec.{ltb, eqb, lit<}
 use lib.ListN.{length}
 use Rattle.order.specs.Table.{table, joined}
 use Rattle.order.proofs.Booleans.{in-range, cond-all}
-use Rattle.model.specs.Plan.{Block, Plan, machines, places, unbudgeted, block_count, block_of, common_length, latest_version, min_total, max_replicas, is_paired, pairs_back, pairs_next, field, mark_in, version_in, format_of, block_in, plan_in}
-use Rattle.model.specs.Refusal.{mark, max_blocks, check1, check2, check3, accepted, judge_in, judge}
+use Rattle.model.specs.Plan.{Block, Plan, machines, places, block_count, block_of, common_length, latest_version, min_total, max_replicas, is_paired, pairs_back, pairs_next, field, mark_in, version_in, format_of, block_in, plan_in}
+use Rattle.model.specs.Refusal.{mark, max_blocks, check1, check2, check3, accepted, judge}
 use Rattle.model.specs.Calls.{refuse, on_plan}
 use Rattle.model.specs.Listing.{input_room}
-use Rattle.model.specs.Writing.{AreBytes, bytes_of, header_bytes, record_bytes, plan_bytes}
+use Rattle.model.specs.Writing.{bytes_of, header_bytes, record_bytes, plan_bytes}
 use Rattle.model.specs.Conversion.{converted_version, written_version, with_version, converted, convert_refusal, convert_verdict, convert_call}
 use Rattle.theory.specs.Refusal.{Shaped, Valid}
-use Rattle.theory.specs.Writing.{BlockFits, PlanFits}
+use Rattle.theory.specs.Writing.{AreBytes, BlockFits, PlanFits}
 use Rattle.theory.proofs.Plan.{max_replicas-later, max_replicas-most, upper-grows, field-narrow, format_of-longest}
-use Rattle.theory.proofs.Refusal.{refuse_if-zero, check3-read, verdict-accepted, plan_refusal-shaped, check23-above, accepted-laws, accepted-mark, accepted-running, judge-accepted, judge-refused}
-use Rattle.theory.proofs.WritingPlan.{refusal-written, reads-written, running-written, accepted-fits}
+use Rattle.theory.proofs.Refusal.{refuse_if-zero, check3-read, verdict-accepted, plan_refusal-shaped, check23-above, accepted-laws, accepted-mark, judge-accepted, judge-refused}
+use Rattle.theory.proofs.WritingPlan.{refusal-written, reads-written, accepted-fits}
 use Rattle.theory.proofs.Conversion.{converted-length, convert_verdict-judged, convert_call-short, convert_call-refused}
 use Rattle.theorems.specs.Trials.{plan-H, plan-full}
-use Rattle.theorems.specs.Versions.{verdict_with, SameUpper, SameRunning, SameAnswers, Twins, LaterTwins}
+use Rattle.theorems.specs.Versions.{verdict_with, SameUpper, Twin, Twins, LaterTwins}
 use Rattle.theorems.specs.Conversion.{OldPlan, Converts, Conversions, wide-H, ConversionExamples}
 use Rattle.theorems.proofs.Trials.{trials}
-use Rattle.theorems.proofs.Versions.{comparable, same-running, same-answers}
+use Rattle.theorems.proofs.Versions.{comparable, same-answers}
 use Rattle.theorems.proofs.LongInput.{long-conversion}
 
 -- ── Takes ────────────────────────────────────────────────────────────────────────────────────────
@@ -41,13 +41,13 @@ module _ (bytes : List ℕ) (p : Plan) where
       let z2 = refuse_if-zero (not (eqb (mark_in bytes) mark)) 1 _ z1.1 in
       let z3 = refuse_if-zero (eqb (version_in bytes) 0 || ltb converted_version (version_in bytes)) 2 _ z2.1 in
       let old = (in-range (version_in bytes) converted_version z3.0).1 in
-      record { accepts = judge-accepted false bytes z3.1 ∙ ap accepted z.1; version-max = subst (λ (q : Plan). q.version ≤ converted_version) z.1 old }
+      record { accepts = judge-accepted bytes z3.1 ∙ ap accepted z.1; version-max = subst (λ (q : Plan). q.version ≤ converted_version) z.1 old }
 
   takes : OldPlan bytes p → convert_verdict bytes ≡ accepted p
   unfolding check1 check2 format_of plan_in
   takes t =
-      let laws = accepted-laws false bytes p t.accepts in
-      let passed = accepted-mark false bytes p t.accepts in
+      let laws = accepted-laws bytes p t.accepts in
+      let passed = accepted-mark bytes p t.accepts in
       let version : p.version ≡ version_in bytes = ap (λ (q : Plan). q.version) laws.held in
       let known : version_in bytes ≤ converted_version = omega (arith, version, t.version-max) in
       convert_verdict-judged bytes 0
@@ -60,7 +60,7 @@ module _ (bytes : List ℕ) (p : Plan) where
       refl
       ∙ t.accepts
 
--- ── Later ────────────────────────────────────────────────────────────────────────────────────────
+-- ── Converts ─────────────────────────────────────────────────────────────────────────────────────
 -- Versions from 3 on are written: they allow no fewer copies, and their records are no narrower.
 record Later (version : ℕ) : Type 0 where
   wide : written_version ≤ version
@@ -132,7 +132,7 @@ later-accepted : (version : ℕ) → Later version → (bytes : List ℕ) → Ar
     → (4 ≤ version → p.budget ≤ places p)
     → judge (plan_bytes (with_version version p)) ≡ accepted (with_version version p)
 later-accepted version later bytes each p e feeds usable =
-    reads-written (with_version version p) (later-valid version later p usable (accepted-laws false bytes p e).valid) (later-fits version later p (accepted-fits false bytes each p e) feeds)
+    reads-written (with_version version p) (later-valid version later p usable (accepted-laws bytes p e).valid) (later-fits version later p (accepted-fits bytes each p e) feeds)
 
 three : Later 3
 three = record { wide = omega arith; read = omega arith }
@@ -145,68 +145,60 @@ no-feeds : (version : ℕ) → version < 4 → (format_of version).feeds_width �
 unfolding format_of
 no-feeds version l = rw (lt-ltb version 4 l)
 
--- ── Twins ────────────────────────────────────────────────────────────────────────────────────────
-module _ (version : ℕ) (bytes : List ℕ) (p : Plan) (e : judge bytes ≡ accepted p)
-    (limit-same : SameUpper p.version version (machines p)) where
-  -- a file that holds the plan in that version is accepted in a running hall, whatever its budget, and answers the same there
-  running-twin : (new : List ℕ) → judge_in true new ≡ accepted (unbudgeted (with_version version p)) → SameRunning version bytes new
-  running-twin new accepts =
-      let old = accepted-running bytes p e in
-      same-running version bytes new (accepts ∙ sym (ap (verdict_with version) old))
-      (λ q a.
-      let same : unbudgeted p ≡ q = (accepted-laws true bytes (unbudgeted p) old).held ∙ sym (accepted-laws true bytes q a).held in
-      subst (λ (r : Plan). SameUpper r.version version (machines r)) same limit-same)
-
-  twin-answers : (new : List ℕ) → judge new ≡ accepted (with_version version p) → SameAnswers version bytes new
-  twin-answers new accepts =
-      same-answers version bytes new (accepts ∙ sym (ap (verdict_with version) e))
-      (λ q a.
-      let same : p ≡ q = (accepted-laws false bytes p e).held ∙ sym (accepted-laws false bytes q a).held in
-      subst (λ (r : Plan). SameUpper r.version version (machines r)) same limit-same)
-      (running-twin new (accepted-running new (with_version version p) accepts))
-
-pub twins : Twins
-twins bytes each p e version feeds =
-    let new = later-accepted 3 three bytes each p e feeds (λ late. absurd (omega arith)) in
-    record { accepts = new; same = twin-answers 3 bytes p e (rw version (comparable.later (machines p))) _ new }
-
--- the rows before 23 turn no file of an accepted plan back in version 4
-pub later-twins : LaterTwins
-unfolding min_total
-later-twins bytes each p e version =
-    let valid = (accepted-laws false bytes p e).valid in
-    let feeds = (accepted-fits false bytes each p e).feeds-racks (no-feeds p.version (omega arith)) in
-    let shaped = later-shaped 4 four p valid.shaped in
-    let fits = later-fits 4 four p (accepted-fits false bytes each p e) feeds in
-    let limit-same : SameUpper p.version 4 (machines p) = rw version (sym (comparable.later (machines p))) in
-    record {
-      usable = λ usable.
-          let new = later-accepted 4 four bytes each p e feeds (λ late. usable) in
-          record { accepts = new; same = twin-answers 4 bytes p e limit-same _ new };
-      unusable = λ above.
-          judge-refused false (plan_bytes (with_version 4 p)) 23
-          (refusal-written false (with_version 4 p) shaped fits
-          ∙ plan_refusal-shaped false (with_version 4 p) shaped
-          ∙ check23-above 4 (places p) p.budget _ (omega arith) above)
-          (omega arith);
-      running = running-twin 4 bytes p e limit-same _ (running-written (with_version 4 p) shaped valid.in-places fits);
-    }
-
--- ── Conversions ──────────────────────────────────────────────────────────────────────────────────
 converts : (bytes : List ℕ) → AreBytes bytes → (p : Plan) → convert_verdict bytes ≡ accepted p → Converts bytes p
 unfolding converted input_room
 converts bytes each p e =
     let taken-plan = taken bytes p e in
     let old = taken-plan.accepts in
-    let laws = accepted-laws false bytes p old in
+    let laws = accepted-laws bytes p old in
     let valid = laws.valid in
-    let feeds = (accepted-fits false bytes each p old).feeds-racks (no-feeds p.version (omega (arith, taken-plan.version-max))) in
+    let feeds = (accepted-fits bytes each p old).feeds-racks (no-feeds p.version (omega (arith, taken-plan.version-max))) in
     let new : judge (converted p) ≡ accepted (with_version written_version p) = later-accepted written_version three bytes each p old feeds (λ late. absurd (omega arith)) in
     let longest = format_of-longest written_version (block_count p) max_blocks valid.shaped.blocks-max in
     record {
       accepts = new;
-      same = λ few. twin-answers written_version bytes p old (comparable.few p.version written_version (machines p) few) (converted p) new;
+      same = λ few.
+          same-answers written_version bytes (converted p) (new ∙ sym (ap (verdict_with written_version) old))
+          (λ q accepts. comparable.few q.version written_version (machines q) (subst (λ (r : Plan). machines r ≤ 8) (laws.held ∙ sym (accepted-laws bytes q accepts).held) few));
       fits = omega (arith, converted-length p);
+    }
+
+-- ── Twins ────────────────────────────────────────────────────────────────────────────────────────
+twin : (version : ℕ) (bytes : List ℕ) (p : Plan) → judge bytes ≡ accepted p
+    → judge (plan_bytes (with_version version p)) ≡ accepted (with_version version p)
+    → ((machines : ℕ) → SameUpper p.version version machines)
+    → Twin version bytes p
+twin version bytes p e new limit-same =
+    record {
+      accepts = new;
+      same =
+          same-answers version bytes (plan_bytes (with_version version p)) (new ∙ sym (ap (verdict_with version) e))
+          (λ q accepts.
+          let same : p ≡ q = (accepted-laws bytes p e).held ∙ sym (accepted-laws bytes q accepts).held in
+          subst (λ (r : Plan). SameUpper r.version version (machines r)) same (limit-same (machines p)));
+    }
+
+pub twins : Twins
+twins bytes each p e version feeds =
+    twin 3 bytes p e (later-accepted 3 three bytes each p e feeds (λ late. absurd (omega arith)))
+    (λ n. rw version (comparable.later n))
+
+-- the rows before 23 turn no file of an accepted plan back in version 4
+pub later-twins : LaterTwins
+later-twins bytes each p e version =
+    let valid = (accepted-laws bytes p e).valid in
+    let feeds = (accepted-fits bytes each p e).feeds-racks (no-feeds p.version (omega arith)) in
+    let shaped = later-shaped 4 four p valid.shaped in
+    let fits = later-fits 4 four p (accepted-fits bytes each p e) feeds in
+    record {
+      usable = λ usable.
+          twin 4 bytes p e (later-accepted 4 four bytes each p e feeds (λ late. usable)) (λ n. rw version (sym (comparable.later n)));
+      unusable = λ above.
+          judge-refused (plan_bytes (with_version 4 p)) 23
+          (refusal-written (with_version 4 p) shaped fits
+          ∙ plan_refusal-shaped (with_version 4 p) shaped
+          ∙ check23-above 4 (places p) p.budget _ (omega arith) above)
+          (omega arith);
     }
 
 pub conversions : Conversions

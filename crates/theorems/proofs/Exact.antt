@@ -1,26 +1,23 @@
--- Refusals 10 and 11 turn back exactly the plans that have no lawful placement; in a running hall 11 alone.
+-- Refusals 10 and 11 turn back exactly the plans that have no lawful placement.
 -- Assumes nothing.
-use mathlib.Core.Path.{◌≡◌, refl, sym, subst, ◌∙◌}
+use mathlib.Core.Path.{◌≡◌, ◌∙◌}
 use mathlib.Core.Bool.{true, false}
-use mathlib.Core.List.{List}
 use mathlib.Core.Logic.{◌⊎◌, inl, inr, ⊎_elim, ◌↔◌}
 use Prim.Native.Nat.{ℕ, ◌<◌, ◌≤◌}
-use native.Mathlib.Decide.{dec_lt}
 use native.Mathlib.Omega.{arith}
-use borrow.Author.Tests.{ltb-true, lt-ltb, le-ltb}
+use borrow.Author.Tests.{ltb-true}
 use lib.Dec.{ltb}
 use Rattle.order.proofs.Booleans.{bool_cases}
 use Rattle.order.proofs.Sums.{sum_mono}
-use Rattle.model.specs.Plan.{Plan, places, unbudgeted, block_count, block_of, min_total, plan_in}
+use Rattle.model.specs.Plan.{Plan, places, block_count, block_of, min_total, plan_in}
 use Rattle.model.specs.Replication.{copy_limit, FeasibleCounts}
-use Rattle.model.specs.Refusal.{check10, check11, refusal_in, refusal}
+use Rattle.model.specs.Refusal.{check10, check11, refusal}
 use Rattle.model.specs.Placement.{Feasible}
-use Rattle.theory.specs.Refusal.{Shaped, PastRow17}
-use Rattle.theory.proofs.Refusal.{total_refusal, places_refusal, refusal-shaped, refusal-budget, refusal-total, refusal-zero}
-use Rattle.theory.proofs.Running.{unbudgeted-shaped, unbudgeted-limit}
+use Rattle.theory.specs.Refusal.{Shaped}
+use Rattle.theory.proofs.Refusal.{total_refusal, refusal-total, refusal-zero}
 use Rattle.theory.proofs.Replication.{feasible_counts-least, copy_limit-valid}
 use Rattle.theory.proofs.PlacementFirst.{laid_placement, laid_placement-feasible}
-use Rattle.theorems.specs.Exact.{Infeasible, ExactRefusals, ExactRunning}
+use Rattle.theorems.specs.Exact.{Infeasible, ExactRefusals}
 
 -- Every block's least copies.
 abbrev pub least_counts : Plan → ℕ → ℕ
@@ -31,7 +28,7 @@ pub shaped-feasible : (p : Plan) → (shaped : Shaped p) → min_total p ≤ cop
 shaped-feasible p shaped within = laid_placement-feasible p shaped (least_counts p) (feasible_counts-least p shaped within)
 
 -- lawful counts are within the limit, and so are the least copies
-pub min-total-limit : (p : Plan) (count : ℕ → ℕ) → FeasibleCounts p count → min_total p ≤ copy_limit p
+min-total-limit : (p : Plan) (count : ℕ → ℕ) → FeasibleCounts p count → min_total p ≤ copy_limit p
 unfolding min_total
 min-total-limit p count counts =
     let least = sum_mono (block_count p) (least_counts p) count counts.at_least in
@@ -73,56 +70,3 @@ exact-refusals bytes past = go (total-cases p)
       λ code. absurd (⊎_elim (λ (e : refusal bytes ≡ 10). omega (arith, same)) (λ (e : refusal bytes ≡ 11). omega (arith, same)) code),
       λ infeasible. absurd (let valid = refusal-zero bytes (same ∙ none) in infeasible _ _ (shaped-feasible p valid.shaped (copy_limit-valid p valid))),
     )
-
--- row 11 alone gives 11 where the least copies are above the places, and otherwise nothing
-places-cases : (p : Plan) → ((places_refusal p ≡ 11) × (places p < min_total p)) ⊎ ((places_refusal p ≡ 0) × (min_total p ≤ places p))
-unfolding check11
-places-cases p = elim (dec_lt (places p) (min_total p)) [
-  | yes over ↦ inl (rw (lt-ltb (places p) (min_total p) over), over)
-  | no fits ↦ inr (rw (le-ltb (places p) (min_total p) (omega arith)), omega arith)
-]
-
--- A running hall's plan has its places for its budget, so that they are the limit of its copies: the proof is the one above, with row 11
--- alone.
-module _ (bytes : List ℕ) where
-  module _ (past : PastRow17 (refusal_in true bytes)) where
-    running-is : refusal_in true bytes ≡ places_refusal (plan_in bytes)
-    running-is = refusal-budget true bytes past
-
-    running-cases : (refusal_in true bytes ≡ 11) ⊎ (refusal_in true bytes ≡ 0)
-    running-cases = ⊎_elim (λ over. inl (running-is ∙ over.0)) (λ fits. inr (running-is ∙ fits.0)) (places-cases (plan_in bytes))
-
-    running-exact : (refusal_in true bytes ≡ 11) ↔ Infeasible (unbudgeted (plan_in bytes))
-    unfolding min_total
-    running-exact = go (places-cases p)
-      where
-        p : Plan
-        p = plan_in bytes
-
-        q : Plan
-        q = unbudgeted p
-
-        go : ((places_refusal p ≡ 11) × (places p < min_total p)) ⊎ ((places_refusal p ≡ 0) × (min_total p ≤ places p))
-            → (refusal_in true bytes ≡ 11) ↔ Infeasible q
-        go (inl over) = (
-          λ code count words feasible. let least = min-total-limit q count feasible.counts in omega (arith, unbudgeted-limit p, over.1),
-          λ infeasible. running-is ∙ over.0,
-        )
-        go (inr fits) = (
-          λ code. absurd (omega (arith, running-is, fits.0)),
-          λ infeasible.
-              let shaped = unbudgeted-shaped p (refusal-shaped true bytes past) in
-              absurd (infeasible _ _ (shaped-feasible q shaped (omega (arith, unbudgeted-limit p, fits.1)))),
-        )
-
-  running-never : (code : ℕ) → PastRow17 code → (code ≡ 11 → ⊥) → (code ≡ 0 → ⊥) → refusal_in true bytes ≡ code → ⊥
-  running-never code past eleven none e =
-      ⊎_elim (λ is. eleven (sym e ∙ is)) (λ is. none (sym e ∙ is)) (running-cases (subst PastRow17 (sym e) past))
-
-pub exact-running : ExactRunning
-exact-running bytes =
-    record {
-      eleven-exact = running-exact bytes;
-      never-ten = running-never bytes 10 (inr (inl refl)) (λ e. omega (arith, e)) (λ e. omega (arith, e));
-      never-unusable = running-never bytes 23 (inl refl) (λ e. omega (arith, e)) (λ e. omega (arith, e));
-    }

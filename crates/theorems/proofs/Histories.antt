@@ -17,7 +17,7 @@ use lib.ListN.{length, take, drop, length-append}
 use Rattle.order.specs.Select.{select}
 use Rattle.model.specs.declared.Entry.{Entry}
 use Rattle.model.specs.Plan.{Plan, block_count}
-use Rattle.model.specs.Refusal.{judge_in, accepted}
+use Rattle.model.specs.Refusal.{judge, accepted}
 use Rattle.model.specs.Calls.{OutcomeOver, answered}
 use Rattle.model.specs.ReadLog.{entry, tick_bound, age, window, in_window, usable, entries_in, current, last_tick, gap_bound, check19, read_refusal, noted, relisted, read_call, popularity_of, popularity_call}
 use Rattle.model.specs.Histories.{ReadRequest, note_read, ask_popularity, ReadsCall, Log, count_after, logged, play_reads, if_answered, accepts, accepted_reads, in_window_since, still_counted, elapsed, recent, CloseTo, Successive, Ticks, AllTicks, empty_log}
@@ -180,14 +180,14 @@ kept-none : (list reads : List Entry) (log : Log) → Kept list reads log → Ke
 kept-none list reads log kept = rw (append-nil reads) kept
 
 -- any call
-kept-call : (list reads : List Entry) (log : Log) (request : ReadRequest) (running : Bool) (bytes : List ℕ) → Kept list reads log → Ticks request
-    → Kept list (reads ++ accepts request running bytes log) (logged request running bytes log)
+kept-call : (list reads : List Entry) (log : Log) (request : ReadRequest) (bytes : List ℕ) → Kept list reads log → Ticks request
+    → Kept list (reads ++ accepts request bytes log) (logged request bytes log)
 unfolding logged accepts read_call popularity_call
-kept-call list reads log (note_read block tick) running bytes kept fits =
+kept-call list reads log (note_read block tick) bytes kept fits =
     ⊎_elim
     (λ back. leads (sym back.1) (kept-none list reads log kept))
     (λ made. leads (sym made.is) (kept_read list reads log block tick made.plan kept fits (read_refusal-zero _ _ _ _ _ made.passes)))
-    (on_plan-cases log.list (read_refusal block tick log.list log.count) noting (judge_in running bytes))
+    (on_plan-cases log.list (read_refusal block tick log.list log.count) noting (judge bytes))
   where
     noting : Plan → OutcomeOver Entry ℕ
     noting p =
@@ -202,11 +202,11 @@ kept-call list reads log (note_read block tick) running bytes kept fits =
         (λ (o : OutcomeOver Entry ℕ). Kept list (reads ++ if_answered o.answer (entry block tick ∷ []))
         (record { list = o.items; count = count_after o.answer log.count }))
         e
-kept-call list reads log (ask_popularity block) running bytes kept fits =
+kept-call list reads log (ask_popularity block) bytes kept fits =
     ⊎_elim
     (λ back. leads (sym back.1) (kept-none list reads log kept))
     (λ made. leads (sym made.is) (kept-none list reads log kept))
-    (on_plan-cases log.list (λ p. check19 block (block_count p) 0) asking (judge_in running bytes))
+    (on_plan-cases log.list (λ p. check19 block (block_count p) 0) asking (judge bytes))
   where
     asking : Plan → OutcomeOver Entry ℕ
     asking p = record { answer = answered (popularity_of p block (entries_in log.list log.count)); items = log.list }
@@ -222,10 +222,10 @@ kept-calls : (list reads : List Entry) (calls : List ReadsCall) (log : Log) → 
 unfolding play_reads accepted_reads AllTicks
 kept-calls list reads [] log kept all = kept-none list reads log kept
 kept-calls list reads (call ∷ calls) log kept all =
-    let first = accepts call.request call.running call.bytes log in
-    let next = logged call.request call.running call.bytes log in
+    let first = accepts call.request call.bytes log in
+    let next = logged call.request call.bytes log in
     subst (λ (r : List Entry). Kept list r (play_reads calls next)) (append_assoc reads first (accepted_reads calls next))
-    (kept-calls list (reads ++ first) calls next (kept-call list reads log call.request call.running call.bytes kept all.0) all.1)
+    (kept-calls list (reads ++ first) calls next (kept-call list reads log call.request call.bytes kept all.0) all.1)
 
 kept-empty : (list : List Entry) → Kept list [] (empty_log list)
 unfolding still_counted Successive Ticked
@@ -240,14 +240,14 @@ kept-empty list =
     }
 
 -- a popularity is counted over the entries
-popularity-answers : (running : Bool) (bytes : List ℕ) (p : Plan) (block : ℕ) (list : List Entry) (count : ℕ) → judge_in running bytes ≡ accepted p → block < block_count p
-    → (popularity_call running bytes block list count).answer ≡ answered (popularity_of p block (entries_in list count))
+popularity-answers : (bytes : List ℕ) (p : Plan) (block : ℕ) (list : List Entry) (count : ℕ) → judge bytes ≡ accepted p → block < block_count p
+    → (popularity_call bytes block list count).answer ≡ answered (popularity_of p block (entries_in list count))
 unfolding popularity_call check19
-popularity-answers running bytes p block list count reads below =
+popularity-answers bytes p block list count reads below =
     ap (λ (o : OutcomeOver Entry ℕ). o.answer)
     (on_plan-made list (λ q. check19 block (block_count q) 0)
     (λ q. record { answer = answered (popularity_of q block (entries_in list count)); items = list })
-    (judge_in running bytes) p reads (rw (lt-ltb block (block_count p) below)))
+    (judge bytes) p reads (rw (lt-ltb block (block_count p) below)))
 
 pub reads-claim : ReadsClaim
 reads-claim list calls all =
@@ -260,6 +260,6 @@ reads-claim list calls all =
       entries-are = kept.entries-are;
       close = kept.close;
       in-time = in-time;
-      popularity-is = λ running bytes p block reads below.
-          popularity-answers running bytes p block _ _ reads below ∙ ap (λ (l : List Entry). answered (popularity_of p block l)) in-time;
+      popularity-is = λ bytes p block reads below.
+          popularity-answers bytes p block _ _ reads below ∙ ap (λ (l : List Entry). answered (popularity_of p block l)) in-time;
     }

@@ -1,12 +1,12 @@
 -- A plan's blocks as items: a pair is one item, that of its first block, and every other block an item of its own. The two blocks of
--- a pair never meet, so a machine holds 0 or 1 of an item, and its load and its copies are sums over items.
+-- a pair have equal shares and never meet, so a machine holds 0 or 1 of an item, and its load and its copies are sums over items.
 -- Assumes nothing.
 use mathlib.Core.Path.{◌≡◌, refl, ap, sym, ◌∙◌}
 use mathlib.Core.Bool.{true, false, cond}
 use mathlib.Core.List.{List}
 use mathlib.Core.Logic.{◌⊎◌, inl, inr}
 use Prim.Native.Nat.{ℕ, zero, suc, ◌+◌, ◌*◌, ◌≤◌, ◌<◌}
-use native.Mathlib.Nat.{add_comm}
+use native.Mathlib.Nat.{add-mul, zero-mul}
 use native.Mathlib.Decide.{dec_lt}
 use native.Mathlib.Omega.{arith}
 use Rattle.order.specs.Sum.{sum}
@@ -15,7 +15,7 @@ use Rattle.order.proofs.Sums.{sum-cong, sum-add, sum-none}
 use Rattle.model.specs.Plan.{Plan, machines, block_count, pairs_next, pairs_back, is_paired, partner}
 use Rattle.model.specs.Placement.{word_of, held, Feasible}
 use Rattle.theory.specs.Refusal.{Shaped}
-use Rattle.theory.proofs.Plan.{is_paired-first, is_paired-second, partner-first, partner-second}
+use Rattle.theory.proofs.Plan.{is_paired-first, is_paired-back, partner-first, partner-second}
 use Rattle.theory.proofs.Placement.{bit_le}
 
 -- What an item has of a number that every block has: a pair the sum of both at its first block and nothing at its second.
@@ -89,6 +89,22 @@ module _ (p : Plan) (shaped : Shaped p) where
       let all = rw (last-unpaired (block_count p) refl) at (item-prefix f (block_count p) (omega arith)) in
       omega arith
 
+  -- an item times its share is what its blocks have of both, where the two blocks of a pair have equal shares
+  pub item-scale : (h s : ℕ → ℕ) → ((g : ℕ) → g < block_count p → pairs_next p g ≡ true → s (suc g) ≡ s g)
+      → (g : ℕ) → g < block_count p → item p h g * s g ≡ item p (λ i. h i * s i) g
+  item-scale h s even g l = go (role p g)
+    where
+      go : Role p g → item p h g * s g ≡ item p (λ i. h i * s i) g
+      go (first_of a) =
+          rw (item-pair p h g a, item-pair p (λ i. h i * s i) g a, even g l a) (add-mul (h g) (h (suc g)) (s g))
+      go (second_of a b) = rw (item-second p h g a b, item-second p (λ i. h i * s i) g a b) (zero-mul (s g))
+      go (single a b) = rw (item-single p h g a b, item-single p (λ i. h i * s i) g a b)
+
+  -- so a sum of both over the blocks is one over the items
+  pub item-weight : (h s : ℕ → ℕ) → ((g : ℕ) → g < block_count p → pairs_next p g ≡ true → s (suc g) ≡ s g)
+      → sum (block_count p) (λ g. item p h g * s g) ≡ sum (block_count p) (λ i. h i * s i)
+  item-weight h s even = sum-cong (block_count p) _ _ (item-scale h s even) ∙ item-sum (λ i. h i * s i)
+
   -- an item of sums is the sum of items
   pub item-exchange : (n : ℕ) (f : ℕ → ℕ → ℕ) (g : ℕ) → item p (λ i. sum n (λ x. f x i)) g ≡ sum n (λ x. item p (f x) g)
   item-exchange n f g = go (role p g)
@@ -105,51 +121,55 @@ module _ (p : Plan) (shaped : Shaped p) where
       go (single a b) =
           item-single p (λ i. sum n (λ x. f x i)) g a b ∙ sum-cong n _ _ (λ x l. sym (item-single p (f x) g a b))
 
-  -- an item of zeros is zero
-  item-none : (g : ℕ) → item p (λ i. 0) g ≡ 0
-  unfolding sum
-  item-none g = item-exchange 0 (λ x i. 0) g
-
--- Block i is one of item g: the item has what the block has, and what its partner has.
+-- Block i is one of item g.
 pub data Within (p : Plan) (g i : ℕ) : Type 0 where
-  alone : is_paired p i ≡ false → ((f : ℕ → ℕ) → item p f g ≡ f i) → Within p g i
-  mated : is_paired p i ≡ true → ((f : ℕ → ℕ) → item p f g ≡ f i + f (partner p i)) → Within p g i
+  alone : is_paired p g ≡ false → i ≡ g → Within p g i
+  head : pairs_next p g ≡ true → i ≡ g → Within p g i
+  tail : pairs_next p g ≡ true → i ≡ suc g → Within p g i
 
--- where an item has nothing of a number, neither the block nor its partner has
-pub within-clear : (p : Plan) (g i : ℕ) (f : ℕ → ℕ) → Within p g i → item p f g ≡ 0 → (f i ≡ 0) × (is_paired p i ≡ true → f (partner p i) ≡ 0)
-within-clear p g i f (alone unpaired all) none = (omega (arith, all f), λ paired. no-contradiction (sym paired ∙ unpaired))
-within-clear p g i f (mated paired all) none = (omega (arith, all f), λ e. omega (arith, all f))
+-- an item that has more of one number than of another has a block with more of it
+pub item-more : (p : Plan) (f h : ℕ → ℕ) (g : ℕ) → item p f g < item p h g → (i : ℕ) × Within p g i × (f i < h i)
+unfolding is_paired
+item-more p f h g less = go (role p g)
+  where
+    go : Role p g → (i : ℕ) × Within p g i × (f i < h i)
+    go (first_of a) =
+        let both = rw (item-pair p f g a, item-pair p h g a) at less in
+        elim (dec_lt (f g) (h g)) [
+          | yes l ↦ (g, head a refl, l)
+          | no l ↦ (suc g, tail a refl, omega arith)
+        ]
+    go (second_of a b) = absurd (let none = rw (item-second p f g a b, item-second p h g a b) at less in omega arith)
+    go (single a b) = (g, alone (rw (a, b)) refl, rw (item-single p f g a b, item-single p h g a b) at less)
 
-module _ (p : Plan) (shaped : Shaped p) (f h : ℕ → ℕ) (g : ℕ) (l : g < block_count p) where
-  -- an item that has more of one number than of another has a block with more of it
-  pub item-more : item p f g < item p h g → (i : ℕ) × (i < block_count p) × Within p g i × (f i < h i)
-  unfolding is_paired
-  item-more less = go (role p g)
+module _ (p : Plan) (shaped : Shaped p) (g i : ℕ) (l : g < block_count p) where
+  pub within-below : Within p g i → i < block_count p
+  within-below (alone a e) = omega (arith, e)
+  within-below (head a e) = omega (arith, e)
+  within-below (tail a e) = omega (arith, e, (shaped.pair g l).next-below a)
+
+  -- what the two blocks of a pair agree in
+  pub within_same : (s : ℕ → ℕ) → ((f : ℕ) → f < block_count p → pairs_next p f ≡ true → s (suc f) ≡ s f) → Within p g i → s i ≡ s g
+  within_same s even (alone a e) = ap s e
+  within_same s even (head a e) = ap s e
+  within_same s even (tail a e) = ap s e ∙ even g l a
+
+  -- a machine that has nothing of an item has neither the block nor its partner
+  pub within-clear : (h : ℕ → ℕ) → item p h g ≡ 0 → Within p g i → (h i ≡ 0) × (is_paired p i ≡ true → h (partner p i) ≡ 0)
+  within-clear h none (alone a e) =
+      let own = go (role p g) in
+      (ap h e ∙ own, λ paired. no-contradiction (sym paired ∙ ap (is_paired p) e ∙ a))
     where
-      first : pairs_next p g ≡ true → Within p g g
-      first a =
-          mated (is_paired-first p g a) (λ f. item-pair p f g a ∙ ap (λ (x : ℕ). f g + f x) (sym (partner-first p shaped g a)))
-
-      second : pairs_next p g ≡ true → Within p g (suc g)
-      second a =
-          mated (is_paired-second p g a)
-          (λ f. item-pair p f g a ∙ add_comm (f g) (f (suc g)) ∙ ap (λ (x : ℕ). f (suc g) + f x) (sym (partner-second p shaped g l a)))
-
-      go : Role p g → (i : ℕ) × (i < block_count p) × Within p g i × (f i < h i)
-      go (first_of a) =
-          let both = rw (item-pair p f g a, item-pair p h g a) at less in
-          elim (dec_lt (f g) (h g)) [
-            | yes k ↦ (g, l, first a, k)
-            | no k ↦ (suc g, (shaped.pair g l).next-below a, second a, omega arith)
-          ]
-      go (second_of a b) = absurd (let none = rw (item-second p f g a b, item-second p h g a b) at less in omega arith)
-      go (single a b) =
-          (g, l, alone (rw (a, b)) (λ f. item-single p f g a b), rw (item-single p f g a b, item-single p h g a b) at less)
-
--- an item that has some of a number has a block with some of it
-pub item-some : (p : Plan) → Shaped p → (f : ℕ → ℕ) (g : ℕ) → g < block_count p → 0 < item p f g
-    → (i : ℕ) × (i < block_count p) × Within p g i × (0 < f i)
-item-some p shaped f g l some = item-more p shaped (λ i. 0) f g l (omega (arith, item-none p shaped g))
+      go : Role p g → h g ≡ 0
+      go (first_of b) = no-contradiction (sym (is_paired-first p g b) ∙ a)
+      go (second_of b c) = no-contradiction (sym (is_paired-back p g c) ∙ a)
+      go (single b c) = sym (item-single p h g b c) ∙ none
+  within-clear h none (head a e) =
+      let both = item-pair p h g a in
+      (omega (arith, ap h e), λ paired. omega (arith, ap h (ap (partner p) e ∙ partner-first p shaped g a)))
+  within-clear h none (tail a e) =
+      let both = item-pair p h g a in
+      (omega (arith, ap h e), λ paired. omega (arith, ap h (ap (partner p) e ∙ partner-second p shaped g l a)))
 
 -- a machine holds at most one copy of an item
 pub item-bit : (p : Plan) → Shaped p → (count : ℕ → ℕ) (words : List ℕ) → Feasible p count words → (m : ℕ) → m < machines p

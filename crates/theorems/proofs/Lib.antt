@@ -7,13 +7,10 @@ pub mod TwoMachines
 pub mod Items
 pub mod Bounds
 pub mod Agreement
-pub mod Running
-pub mod Flags
 pub mod Claim
 pub mod ClaimCases
 pub mod EveryList
 pub mod Histories
-pub mod Deletions
 pub mod Trials
 pub mod RowExamples
 pub mod Feeds
@@ -21,12 +18,9 @@ pub mod Budgets
 pub mod Checks
 pub mod Unread
 pub mod ReadExamples
-pub mod RunningExamples
 pub mod Versions
 pub mod Ties
 pub mod Listing
 pub mod LongInput
 pub mod Conversion
 pub mod NotKept
-pub mod Arrivals
-pub mod NextPlan

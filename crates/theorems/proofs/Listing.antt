@@ -1,7 +1,6 @@
 -- What the document shows of the listing, by computing the definitions, and that every listing fits its room.
 -- Assumes nothing.
 use mathlib.Core.Path.{◌≡◌, refl, ap, ◌∙◌}
-use mathlib.Core.Bool.{false}
 use mathlib.Core.List.{List, [], ◌∷◌, ◌++◌}
 use Prim.Native.Nat.{ℕ, zero, suc, ◌^◌, ◌<◌, ◌≤◌}
 use native.Mathlib.Omega.{arith}
@@ -10,7 +9,7 @@ use Rattle.order.specs.Sum.{sum}
 use Rattle.order.specs.Table.{table, joined}
 use Rattle.order.specs.Search.{first_up, least, allb, largest, smallest}
 use Rattle.model.specs.Plan.{Plan, block_count, block_of, max_replicas, upper, min_total, version_in, field, format_of, format_in, record_at, block_in, plan_in, is_paired, pairs_back, pairs_next, partner}
-use Rattle.model.specs.Refusal.{check1, refusal, Verdict, accepted, judge, judge_in, refusal_in}
+use Rattle.model.specs.Refusal.{check1, refusal, Verdict, accepted, judge}
 use Rattle.model.specs.Replication.{copy_limit, share, need, chosen}
 use Rattle.model.specs.Placement.{bit, replicas, replicas_in, domains_used, used, all_within, all_spread, all_fit, counts_feasible, is_feasible, position, laid_word, first_word, first_placement, share_of, load, max_load_of, min_load_of, total_load_of, max_share, all_apart, kept_apart}
 use Rattle.model.specs.Steps.{shifted, after_move, after_swap, after, improves, can_move, can_swap, routes, next_move, next_swap, next_step, Run, run}
@@ -49,7 +48,7 @@ unfolding run_lines last_line plan_line block_line joined holders line fields nu
 H-lines = refl
 
 empty-printed : (limit : ℕ) → printed [] limit ≡ listing-empty
-unfolding printed printed_of refused_line line fields number_field decimal digits judge_in refusal_in check1 listing-empty
+unfolding printed printed_of refused_line line fields number_field decimal digits judge refusal check1 listing-empty
 empty-printed limit = refl
 
 -- shares are within their bound, since a popularity is within its own
@@ -65,14 +64,14 @@ listing-laws =
     record {
       H = printed-run plan-H _ _ trials.H-accepted H-first H-lines;
       empty = empty-printed;
-      fits = λ bytes h limit l. go bytes h limit l (refusal bytes) refl (refusal-le false bytes);
+      fits = λ bytes h limit l. go bytes h limit l (refusal bytes) refl (refusal-le bytes);
     }
   where
     go : (bytes : List ℕ) → ((i : ℕ) → get_or bytes i 0 < 256) → (limit : ℕ) → limit < 2 ^ 32
         → (code : ℕ) → refusal bytes ≡ code → code ≤ 23 → length (printed bytes limit) ≤ listing_room
     go bytes h limit l zero e m =
-        rw (printed-accepted bytes limit (plan_in bytes) (judge-accepted false bytes e))
+        rw (printed-accepted bytes limit (plan_in bytes) (judge-accepted bytes e))
         (listing_of-fits (plan_in bytes) (refusal-zero bytes e) (share-fits bytes h (chosen (plan_in bytes))) limit l)
     go bytes h limit l (suc code) e m =
-        rw (printed-refused bytes limit (suc code) (judge-refused false bytes (suc code) e (omega arith)))
+        rw (printed-refused bytes limit (suc code) (judge-refused bytes (suc code) e (omega arith)))
         (omega (arith, refused_line-length (suc code) (omega arith)))

@@ -1,7 +1,7 @@
 -- An input longer than any plan is refused by its header, or for its length; its first bytes alone are, too.
 -- Assumes nothing.
 use mathlib.Core.Path.{◌≡◌, refl, ap, sym, ◌∙◌}
-use mathlib.Core.Bool.{not, ◌||◌, false}
+use mathlib.Core.Bool.{not, ◌||◌}
 use mathlib.Core.List.{List}
 use Prim.Native.Nat.{ℕ, ◌+◌, ◌*◌, ◌%◌, ◌≤◌}
 use native.Mathlib.Decide.{dec_lt}
@@ -11,7 +11,7 @@ use lib.Dec.{ltb, eqb, lit≤}
 use lib.ListN.{length, take}
 use lib.Seq.{length-take-le}
 use Rattle.model.specs.Plan.{field, mark_in, version_in, racks_in, rack_size_in, feeds_in, capacity_in, block_count_in, latest_version, format_of, format_in, record_at, plan_in}
-use Rattle.model.specs.Refusal.{refuse_if, mark, max_machines, max_capacity, max_blocks, check1, check2, check3, check4, check22, check5, check6, check7, plan_refusal, refusal, Verdict, refusal_in}
+use Rattle.model.specs.Refusal.{refuse_if, mark, max_machines, max_capacity, max_blocks, check1, check2, check3, check4, check22, check5, check6, check7, plan_refusal, refusal, Verdict}
 use Rattle.model.specs.Listing.{printed, printed_of, input_room}
 use Rattle.model.specs.Conversion.{converted_version, convert_refusal, convert_verdict}
 use Rattle.theory.proofs.Plan.{field-take, format_of-feeds, format_of-longest}
@@ -58,7 +58,7 @@ past-six version size count later l =
 long-refusal : (bytes : List ℕ) → input_room ≤ length bytes
     → refusal bytes
     ≡ long_refusal (mark_in bytes) (version_in bytes) (racks_in bytes) (rack_size_in bytes) (feeds_in bytes) (capacity_in bytes) (block_count_in bytes)
-unfolding refusal_in check1 long_refusal
+unfolding refusal check1 long_refusal
 long-refusal bytes l =
     rw (le-ltb (length bytes) 15 (omega (arith, room-long)), past-six (version_in bytes) (length bytes) (block_count_in bytes) (plan_refusal (plan_in bytes)) l)
 
@@ -110,7 +110,7 @@ long-input bytes l limit =
     let code = refusal bytes in
     let some = long-some bytes l in
     ap (λ (v : Verdict). printed_of v limit)
-    (judge-refused false (take input_room bytes) code (same-refusal bytes l) some ∙ sym (judge-refused false bytes code refl some))
+    (judge-refused (take input_room bytes) code (same-refusal bytes l) some ∙ sym (judge-refused bytes code refl some))
 
 -- the converter's rows before the plan's own go by the header, too
 convert-code : (found version later : ℕ) → 1 ≤ later → 1 ≤ check2 found (check3 converted_version version later)

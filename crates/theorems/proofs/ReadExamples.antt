@@ -6,7 +6,7 @@ use Rattle.order.specs.Table.{table}
 use Rattle.order.specs.Search.{first_up}
 use Rattle.order.specs.Select.{select}
 use Rattle.model.specs.Plan.{max_replicas, upper, min_total, field, format_of, block_in, plan_in, is_paired, pairs_back, pairs_next, partner}
-use Rattle.model.specs.Refusal.{check1, check2, check3, check4, check22, check5, check6, check7, check8, check9, block_refusal, blocks_refusal, check23, check10, check11, pairs_refusal, pair_refusal, check17, alike, judge_in, refusal_in, plan_refusal_in}
+use Rattle.model.specs.Refusal.{check1, check2, check3, check4, check22, check5, check6, check7, check8, check9, block_refusal, blocks_refusal, check23, check10, check11, plan_refusal, refusal, judge, pairs_refusal, pair_refusal, check17, alike}
 use Rattle.model.specs.Calls.{on_plan, unless}
 use Rattle.model.specs.ReadLog.{age, in_window, last_tick, check19, check20, check21, read_refusal, noted, relisted, read_call, reads_of, popularity_of, popularity_call}
 use Rattle.theorems.specs.Trials.{plan-H}
@@ -14,7 +14,7 @@ use Rattle.theorems.specs.RowExamples.{plan-pair}
 use Rattle.theorems.specs.ReadExamples.{ReadExamples}
 
 pub read-examples : ReadExamples
-unfolding judge_in refusal_in check1 check2 check3 check4 check22 check5 check6 check7 plan_refusal_in blocks_refusal block_refusal check8 check9 pairs_refusal pair_refusal check17 alike check23 check10 check11 plan_in block_in format_of field upper max_replicas is_paired pairs_back pairs_next partner min_total on_plan unless age in_window last_tick check19 check20 check21 read_refusal noted relisted read_call reads_of popularity_of popularity_call select sum table first_up plan-H plan-pair
+unfolding judge refusal check1 check2 check3 check4 check22 check5 check6 check7 plan_refusal blocks_refusal block_refusal check8 check9 pairs_refusal pair_refusal check17 alike check23 check10 check11 plan_in block_in format_of field upper max_replicas is_paired pairs_back pairs_next partner min_total on_plan unless age in_window last_tick check19 check20 check21 read_refusal noted relisted read_call reads_of popularity_of popularity_call select sum table first_up plan-H plan-pair
 read-examples =
     record {
       first = refl;

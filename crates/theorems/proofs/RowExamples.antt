@@ -5,7 +5,7 @@ use Rattle.order.specs.Sum.{sum}
 use Rattle.order.specs.Table.{table, filled}
 use Rattle.order.specs.Search.{first_up, least, allb, largest}
 use Rattle.model.specs.Plan.{max_replicas, upper, min_total, field, format_of, block_in, plan_in, is_paired, pairs_back, pairs_next, partner}
-use Rattle.model.specs.Refusal.{check1, check2, check3, check4, check22, check5, check6, check7, check8, check9, block_refusal, blocks_refusal, check23, check10, check11, check12, pairs_refusal, pair_refusal, check17, alike, judge_in, refusal_in, plan_refusal_in}
+use Rattle.model.specs.Refusal.{check1, check2, check3, check4, check22, check5, check6, check7, check8, check9, block_refusal, blocks_refusal, check23, check10, check11, check12, plan_refusal, refusal, judge, pairs_refusal, pair_refusal, check17, alike}
 use Rattle.model.specs.Replication.{copy_limit, share, largest_share, need, reachable, figure, chosen}
 use Rattle.model.specs.Placement.{bit, replicas, replicas_in, domains_used, used, all_within, all_spread, all_fit, all_apart, kept_apart, first_word, laid_word, position}
 use Rattle.model.specs.Calls.{on_plan, unless, all_counted, placement_refusal, on_placement, check_call, counts_call, first_call}
@@ -15,16 +15,16 @@ use Rattle.theorems.proofs.Trials.{figure-of, figures}
 
 -- H with C 2 has as many places as its budget, and the same figure.
 H-C2 : figure (plan_in (H-with 8 2)) ≡ 7560
-unfolding refusal_in check1 check2 check3 check4 check22 check5 check6 check7 plan_refusal_in blocks_refusal block_refusal check8 check9 pairs_refusal pair_refusal check17 alike check23 check10 check11 plan_in block_in format_of field upper max_replicas is_paired pairs_back pairs_next min_total reachable need share copy_limit sum table least allb first_up plan-H
+unfolding refusal check1 check2 check3 check4 check22 check5 check6 check7 plan_refusal blocks_refusal block_refusal check8 check9 pairs_refusal pair_refusal check17 alike check23 check10 check11 plan_in block_in format_of field upper max_replicas is_paired pairs_back pairs_next min_total reachable need share copy_limit sum table least allb first_up plan-H
 H-C2 = figure-of (H-with 8 2) 7559 refl refl refl
 
 -- The pair keeps its shares within 7,560 with two copies each.
 pair-figure : figure (plan_in plan-pair) ≡ 7560
-unfolding refusal_in check1 check2 check3 check4 check22 check5 check6 check7 plan_refusal_in blocks_refusal block_refusal check8 check9 pairs_refusal pair_refusal check17 alike check23 check10 check11 plan_in block_in format_of field upper max_replicas is_paired pairs_back pairs_next min_total reachable need share copy_limit sum table least allb first_up plan-pair
+unfolding refusal check1 check2 check3 check4 check22 check5 check6 check7 plan_refusal blocks_refusal block_refusal check8 check9 pairs_refusal pair_refusal check17 alike check23 check10 check11 plan_in block_in format_of field upper max_replicas is_paired pairs_back pairs_next min_total reachable need share copy_limit sum table least allb first_up plan-pair
 pair-figure = figure-of plan-pair 7559 refl refl refl
 
 pub row-examples : RowExamples
-unfolding judge_in refusal_in check1 check2 check3 check4 check22 check5 check6 check7 plan_refusal_in blocks_refusal block_refusal check8 check9 pairs_refusal pair_refusal check17 alike check23 check10 check11 check12 plan_in block_in format_of field upper max_replicas is_paired pairs_back pairs_next min_total copy_limit share need chosen bit replicas replicas_in domains_used used all_within all_spread all_fit all_apart kept_apart partner on_plan unless all_counted placement_refusal on_placement check_call counts_call first_call filled first_word laid_word position largest_share largest sum table first_up least allb plan-H plan-full plan-pair plan-ten
+unfolding judge refusal check1 check2 check3 check4 check22 check5 check6 check7 plan_refusal blocks_refusal block_refusal check8 check9 pairs_refusal pair_refusal check17 alike check23 check10 check11 check12 plan_in block_in format_of field upper max_replicas is_paired pairs_back pairs_next min_total copy_limit share need chosen bit replicas replicas_in domains_used used all_within all_spread all_fit all_apart kept_apart partner on_plan unless all_counted placement_refusal on_placement check_call counts_call first_call filled first_word laid_word position largest_share largest sum table first_up least allb plan-H plan-full plan-pair plan-ten
 row-examples =
     record {
       row1 = refl;

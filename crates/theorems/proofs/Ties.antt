@@ -1,7 +1,7 @@
 -- The document's example of ties, on a plan's bytes.
 -- Assumes nothing.
 use mathlib.Core.Path.{◌≡◌, refl, ap, sym, ◌∙◌}
-use mathlib.Core.Bool.{true, false}
+use mathlib.Core.Bool.{true}
 use mathlib.Core.List.{List}
 use Prim.Native.Nat.{ℕ, zero, suc, ◌*◌, ◌-◌, ◌≤◌, ◌<◌}
 use native.Mathlib.Nat.{le_trans, le_of_eq}
@@ -12,7 +12,7 @@ use Rattle.order.specs.Table.{table}
 use Rattle.order.specs.Search.{first_up, least, allb, largest}
 use Rattle.order.proofs.Extremes.{largest-term, sum-largest}
 use Rattle.model.specs.Plan.{block_count, block_of, max_replicas, upper, min_total, field, format_of, block_in, plan_in, is_paired, pairs_back, pairs_next, partner}
-use Rattle.model.specs.Refusal.{check1, check2, check3, check4, check22, check5, check6, check7, check8, check9, block_refusal, blocks_refusal, check23, check10, check11, check12, judge, accepted, pairs_refusal, pair_refusal, check17, alike, judge_in, refusal_in, plan_refusal_in}
+use Rattle.model.specs.Refusal.{check1, check2, check3, check4, check22, check5, check6, check7, check8, check9, block_refusal, blocks_refusal, check23, check10, check11, check12, plan_refusal, refusal, judge, accepted, pairs_refusal, pair_refusal, check17, alike}
 use Rattle.model.specs.Replication.{copy_limit, unit, share, need, reachable, figure, chosen}
 use Rattle.model.specs.Placement.{bit, replicas, replicas_in, domains_used, used, Feasible, all_within, all_spread, all_fit, counts_feasible, is_feasible, share_of, load, max_load_of, total_load_of, all_apart, kept_apart}
 use Rattle.model.specs.Steps.{Step, none, relocate, exchange, shifted, after_move, after_swap, after, improves, can_move, can_swap, routes, next_move, next_swap, next_step, Run, run}
@@ -24,28 +24,28 @@ use Rattle.theory.proofs.Replication.{figure-at}
 use Rattle.theory.proofs.Steps.{after_move-load-else, after_swap-load-else}
 use Rattle.theory.proofs.StepsLocal.{can_move-lowers, can_swap-lowers}
 use Rattle.theory.proofs.StepsNext.{run_none}
-use Rattle.theory.proofs.Calls.{on_plan-made, placement_refusal-feasible, accepted-held}
+use Rattle.theory.proofs.Calls.{on_plan-made, placement_refusal-feasible}
 use Rattle.theorems.specs.Ties.{plan-tied, tied, sixes, fours, Ties}
 use Rattle.theorems.proofs.TotalLoad.{loads-total}
 
 accepts : judge plan-tied ≡ accepted tied
-unfolding judge_in refusal_in check1 check2 check3 check4 check22 check5 check6 check7 plan_refusal_in blocks_refusal block_refusal check8 check9 pairs_refusal pair_refusal check17 alike check23 check10 check11 plan_in block_in format_of field upper max_replicas is_paired pairs_back pairs_next min_total sum table first_up plan-tied
+unfolding judge refusal check1 check2 check3 check4 check22 check5 check6 check7 plan_refusal blocks_refusal block_refusal check8 check9 pairs_refusal pair_refusal check17 alike check23 check10 check11 plan_in block_in format_of field upper max_replicas is_paired pairs_back pairs_next min_total sum table first_up plan-tied
 accepts = refl
 
 valid : Valid tied
-valid = (accepted-laws false plan-tied tied accepts).valid
+valid = (accepted-laws plan-tied tied accepts).valid
 
 -- the figure is one read, which twelve copies reach
 figure-tied : figure tied ≡ 2520
 unfolding reachable need share copy_limit upper max_replicas is_paired pairs_back pairs_next sum least allb
 figure-tied = figure-at tied valid 2519 refl refl
 
-passes : placement_refusal false sixes tied ≡ 0
+passes : placement_refusal sixes tied ≡ 0
 unfolding placement_refusal all_counted check12 all_within all_spread all_fit all_apart kept_apart partner used replicas replicas_in domains_used chosen need share upper max_replicas is_paired pairs_back pairs_next bit sum least allb
 passes = rw figure-tied refl
 
 feasible : Feasible tied (chosen tied) sixes
-feasible = placement_refusal-feasible tied valid sixes false (accepted-held false plan-tied tied accepts) passes
+feasible = placement_refusal-feasible tied valid sixes passes
 
 -- the loads, in units
 hot0 : load tied sixes 0 ≡ 15120
@@ -125,12 +125,12 @@ unfolding check_call step_call run_call on_placement shifted after_move after_sw
 ties =
     record {
       accepts = accepts;
-      passes = on_plan-made sixes (placement_refusal false sixes) _ (judge plan-tied) tied accepts passes;
+      passes = on_plan-made sixes (placement_refusal sixes) _ (judge plan-tied) tied accepts passes;
       six-six-none = refl;
       highest = highest;
       none-lowers = none-lowers;
-      one_left = on_plan-made sixes (placement_refusal false sixes) _ (judge plan-tied) tied accepts passes;
+      one_left = on_plan-made sixes (placement_refusal sixes) _ (judge plan-tied) tied accepts passes;
       best = best;
-      rests = λ limit l. on_plan-made sixes (placement_refusal false sixes) _ (judge plan-tied) tied accepts passes ∙ (rw (run-enough limit l));
+      rests = λ limit l. on_plan-made sixes (placement_refusal sixes) _ (judge plan-tied) tied accepts passes ∙ (rw (run-enough limit l));
       reached = refl;
     }

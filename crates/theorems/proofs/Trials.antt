@@ -9,7 +9,7 @@ use Rattle.order.specs.Sum.{sum}
 use Rattle.order.specs.Table.{table, filled}
 use Rattle.order.specs.Search.{first_up, least, allb, largest}
 use Rattle.model.specs.Plan.{max_replicas, upper, min_total, field, format_of, block_in, plan_in, is_paired, pairs_back, pairs_next, partner}
-use Rattle.model.specs.Refusal.{check1, check2, check3, check4, check22, check5, check6, check7, check8, check9, block_refusal, blocks_refusal, check23, check10, check11, check12, refusal, pairs_refusal, pair_refusal, check17, alike, judge_in, refusal_in, plan_refusal_in}
+use Rattle.model.specs.Refusal.{check1, check2, check3, check4, check22, check5, check6, check7, check8, check9, block_refusal, blocks_refusal, check23, check10, check11, check12, plan_refusal, refusal, judge, pairs_refusal, pair_refusal, check17, alike}
 use Rattle.model.specs.Replication.{copy_limit, share, largest_share, need, reachable, figure, chosen}
 use Rattle.model.specs.Placement.{bit, replicas, replicas_in, domains_used, used, all_within, all_spread, all_fit, counts_feasible, is_feasible, position, laid_word, first_word, share_of, load, all_apart, kept_apart}
 use Rattle.model.specs.Steps.{shifted, after_move, after_swap, after, improves, can_move, can_swap, routes, next_move, next_swap, next_step, run}
@@ -31,7 +31,7 @@ pub record Figures : Type 0 where
   pub Z : figure (plan_in plan-Z) ≡ 12600
 
 pub figures : Figures
-unfolding refusal_in check1 check2 check3 check4 check22 check5 check6 check7 plan_refusal_in blocks_refusal block_refusal check8 check9 pairs_refusal pair_refusal check17 alike check23 check10 check11 plan_in block_in format_of field upper max_replicas is_paired pairs_back pairs_next min_total reachable need share copy_limit sum table least allb first_up plan-H plan-full plan-Y plan-Z
+unfolding refusal check1 check2 check3 check4 check22 check5 check6 check7 plan_refusal blocks_refusal block_refusal check8 check9 pairs_refusal pair_refusal check17 alike check23 check10 check11 plan_in block_in format_of field upper max_replicas is_paired pairs_back pairs_next min_total reachable need share copy_limit sum table least allb first_up plan-H plan-full plan-Y plan-Z
 figures =
     record {
       H = figure-of plan-H 7559 refl refl refl;
@@ -42,7 +42,7 @@ figures =
     }
 
 pub trials : Trials
-unfolding counts_call first_call step_call run_call on_plan unless on_placement placement_refusal all_counted judge_in refusal_in check1 check2 check3 check4 check22 check5 check6 check7 plan_refusal_in blocks_refusal block_refusal check8 check9 pairs_refusal pair_refusal check17 alike check23 check10 check11 plan_in block_in format_of field upper max_replicas is_paired pairs_back pairs_next min_total check12 chosen largest_share position laid_word first_word shifted after_move after_swap after improves can_move can_swap routes next_move next_swap next_step run bit replicas replicas_in domains_used used all_within all_spread all_fit all_apart kept_apart partner counts_feasible is_feasible share_of load filled largest need share copy_limit sum table least allb first_up plan-H plan-full plan-Y plan-Z
+unfolding counts_call first_call step_call run_call on_plan unless on_placement placement_refusal all_counted judge refusal check1 check2 check3 check4 check22 check5 check6 check7 plan_refusal blocks_refusal block_refusal check8 check9 pairs_refusal pair_refusal check17 alike check23 check10 check11 plan_in block_in format_of field upper max_replicas is_paired pairs_back pairs_next min_total check12 chosen largest_share position laid_word first_word shifted after_move after_swap after improves can_move can_swap routes next_move next_swap next_step run bit replicas replicas_in domains_used used all_within all_spread all_fit all_apart kept_apart partner counts_feasible is_feasible share_of load filled largest need share copy_limit sum table least allb first_up plan-H plan-full plan-Y plan-Z
 trials =
     record {
       H-accepted = refl;

@@ -9,7 +9,7 @@ use Prim.Native.Nat.{ℕ, zero, suc, ◌+◌, ◌<◌, ◌≤◌, ◌^◌}
 use native.Mathlib.Decide.{dec_le}
 use native.Mathlib.Nat.{le_refl}
 use native.Mathlib.Omega.{arith}
-use lib.Dec.{leb, ltb}
+use lib.Dec.{leb, ltb, eqb}
 use lib.ListN.{length, set, take, drop, length-append, length-take, take-append-drop, get_or-append}
 use lib.Seq.{length-take-le, take_all, set-append_left, take_at, drop_at}
 use Rattle.order.specs.Search.{first_up}
@@ -17,11 +17,11 @@ use Rattle.order.proofs.Booleans.{bool_cases}
 use Rattle.order.proofs.Sums.{sum-cong}
 use Rattle.order.proofs.Extremes.{allb-cong, largest-cong}
 use Rattle.model.specs.Plan.{Plan, machines, block_count, block_of, is_paired, upper}
-use Rattle.model.specs.Refusal.{judge_in, accepted}
-use Rattle.model.specs.Replication.{copy_limit}
+use Rattle.model.specs.Refusal.{judge, accepted}
+use Rattle.model.specs.Replication.{copy_limit, chosen}
 use Rattle.model.specs.Placement.{bit, word_of, replicas, domains_used, count_of, used, all_within, all_spread, all_fit, kept_apart, all_apart, counts_feasible, is_feasible, share_of, load, max_load_of, min_load_of, total_load_of, max_share}
 use Rattle.model.specs.Steps.{Step, none, relocate, exchange, shifted, after_move, after_swap, after, improves, can_move, can_swap, is_step, first, routes, next_move, next_swap, next_step, Run, run}
-use Rattle.model.specs.Calls.{Outcome, unless, on_plan, is_counted, all_counted, placement_refusal, on_placement, report_of, check_call, report_call, step_call, run_call}
+use Rattle.model.specs.Calls.{Outcome, unless, on_plan, all_counted, placement_refusal, on_placement, report_of, check_call, report_call, step_call, run_call}
 use Rattle.theory.specs.Refusal.{Shaped}
 use Rattle.theory.specs.Steps.{Admissible}
 use Rattle.theory.proofs.Refusal.{accepted-laws, check12-short, check12-enough}
@@ -37,9 +37,9 @@ module _ (p : Plan) (shaped : Shaped p) (v w : List ℕ) (same : Agree p v w) wh
   unfolding all_within
   within-agrees = allb-cong (block_count p) _ _ (λ i l. ap (λ (x : ℕ). ltb x (2 ^ machines p)) (same i l))
 
-  counted-agrees : (running : Bool) → all_counted running p v ≡ all_counted running p w
+  counted-agrees : all_counted p v ≡ all_counted p w
   unfolding all_counted
-  counted-agrees running = allb-cong (block_count p) _ _ (λ i l. ap (λ (x : ℕ). is_counted running p i (replicas p x)) (same i l))
+  counted-agrees = allb-cong (block_count p) _ _ (λ i l. ap (λ (x : ℕ). eqb (replicas p x) (chosen p i)) (same i l))
 
   spread-agrees : all_spread p v ≡ all_spread p w
   unfolding all_spread
@@ -72,15 +72,14 @@ module _ (p : Plan) (shaped : Shaped p) (v w : List ℕ) (same : Agree p v w) wh
   unfolding is_feasible
   feasible-agrees = rw (counts-agree, within-agrees, spread-agrees, fit-agrees, apart-agrees)
 
-  refusal-agrees : (running : Bool) → block_count p ≤ length v → block_count p ≤ length w
-      → placement_refusal running v p ≡ placement_refusal running w p
+  refusal-agrees : block_count p ≤ length v → block_count p ≤ length w → placement_refusal v p ≡ placement_refusal w p
   unfolding placement_refusal
-  refusal-agrees running vl wl =
+  refusal-agrees vl wl =
       rw (
         check12-enough (length v) (block_count p) _ vl,
         check12-enough (length w) (block_count p) _ wl,
         within-agrees,
-        counted-agrees running,
+        counted-agrees,
         spread-agrees,
         fit-agrees,
         apart-agrees,
@@ -95,7 +94,7 @@ module _ (p : Plan) (shaped : Shaped p) (v w : List ℕ) (same : Agree p v w) wh
 
 -- ── Steps ────────────────────────────────────────────────────────────────────────────────────────
 -- a search looks at the indices below its bound alone
-pub first_cong : (n : ℕ) (f g : ℕ → Step) → ((i : ℕ) → i < n → f i ≡ g i) → first n f ≡ first n g
+first_cong : (n : ℕ) (f g : ℕ → Step) → ((i : ℕ) → i < n → f i ≡ g i) → first n f ≡ first n g
 unfolding first_up
 first_cong zero f g e = refl
 first_cong (suc n) f g e = rw (first_cong n f g (λ i l. e i (omega arith)), e n (le_refl (suc n)))
@@ -242,16 +241,16 @@ take_short n v w e l =
     let lengths = sym (length-take n v) ∙ ap length e ∙ length-take n w in
     sym (take_all n v (omega arith)) ∙ e ∙ take_all n w (omega arith)
 
-module _ {A : Type 0} (running : Bool) (bytes : List ℕ) (p : Plan) (reads : judge_in running bytes ≡ accepted p) (made : List ℕ → Plan → Outcome A)
+module _ {A : Type 0} (bytes : List ℕ) (p : Plan) (reads : judge bytes ≡ accepted p) (made : List ℕ → Plan → Outcome A)
     (front : (words rest : List ℕ) → length words ≡ block_count p → made (words ++ rest) p ≡ beside (made words p) rest)
     (sized : (words : List ℕ) → length words ≡ block_count p → length (made words p).items ≡ block_count p) where
   call : List ℕ → Outcome A
-  call words = on_placement running bytes words (made words)
+  call words = on_placement bytes words (made words)
 
   shaped : Shaped p
-  shaped = (accepted-laws running bytes p reads).valid.shaped
+  shaped = (accepted-laws bytes p reads).valid.shaped
 
-  call-is : (words : List ℕ) → call words ≡ unless (placement_refusal running words p) words (made words p)
+  call-is : (words : List ℕ) → call words ≡ unless (placement_refusal words p) words (made words p)
   unfolding call on_placement on_plan
   call-is words = rw reads
 
@@ -259,9 +258,9 @@ module _ {A : Type 0} (running : Bool) (bytes : List ℕ) (p : Plan) (reads : ju
   unfolding unless
   call-front words rest fits =
       let longer = length-append words rest in
-      let rows = refusal-agrees p shaped (words ++ rest) words (agree-front p shaped rest words fits) running (omega arith) (omega arith) in
+      let rows = refusal-agrees p shaped (words ++ rest) words (agree-front p shaped rest words fits) (omega arith) (omega arith) in
       call-is (words ++ rest)
-      ∙ (rw (rows, front words rest fits) (go (placement_refusal running words p)))
+      ∙ (rw (rows, front words rest fits) (go (placement_refusal words p)))
       ∙ ap (λ (out : Outcome A). beside out rest) (sym (call-is words))
     where
       go : (code : ℕ) → unless code (words ++ rest) (beside (made words p) rest) ≡ beside (unless code words (made words p)) rest
@@ -270,7 +269,7 @@ module _ {A : Type 0} (running : Bool) (bytes : List ℕ) (p : Plan) (reads : ju
 
   call-sized : (words : List ℕ) → length words ≡ block_count p → length (call words).items ≡ block_count p
   unfolding unless
-  call-sized words fits = rw (call-is words) (go (placement_refusal running words p))
+  call-sized words fits = rw (call-is words) (go (placement_refusal words p))
     where
       go : (code : ℕ) → length (unless code words (made words p)).items ≡ block_count p
       go zero = sized words fits
@@ -337,20 +336,20 @@ module _ {A : Type 0} (running : Bool) (bytes : List ℕ) (p : Plan) (reads : ju
 
 pub beyond-unread : BeyondUnread
 unfolding check_call report_call step_call run_call call
-beyond-unread running bytes p reads =
-    let shape = (accepted-laws running bytes p reads).valid.shaped in
+beyond-unread bytes p reads =
+    let shape = (accepted-laws bytes p reads).valid.shaped in
     record {
-      check = first_alone running bytes p reads _ (λ words rest fits. refl) (λ words fits. fits);
+      check = first_alone bytes p reads _ (λ words rest fits. refl) (λ words fits. fits);
       report =
-          first_alone running bytes p reads _
+          first_alone bytes p reads _
           (λ words rest fits. rw (report-agrees p shape (words ++ rest) words (agree-front p shape rest words fits)))
           (λ words fits. fits);
       step =
-          first_alone running bytes p reads _
+          first_alone bytes p reads _
           (λ words rest fits. rw (next-front p shape rest words fits, stepped-front p shape rest words fits))
           (λ words fits. after-sized p shape [] words fits (next_step p words));
       run = λ limit.
-          first_alone running bytes p reads _
+          first_alone bytes p reads _
           (λ words rest fits. rw (run-front p shape rest limit words fits))
           (λ words fits. run-sized p shape [] limit words fits);
     }

@@ -5,29 +5,27 @@ use mathlib.Core.Path.{◌≡◌, refl, ap, ap₂, sym, subst, fun_ext, ◌∙�
 use mathlib.Core.Bool.{Bool, true, false, not, ◌&&◌, ◌||◌}
 use mathlib.Core.List.{List}
 use mathlib.Core.Logic.{◌⊎◌, inl, inr, ⊎_elim}
-use Prim.Native.Nat.{ℕ, zero, suc, ◌*◌, ◌-◌, ◌/◌, ◌%◌, ◌^◌, ◌<◌, ◌≤◌, min}
+use Prim.Native.Nat.{ℕ, zero, suc, ◌*◌, ◌/◌, ◌%◌, ◌≤◌, min}
 use native.Mathlib.Omega.{arith}
-use borrow.Author.Tests.{le-ltb, lt-leb, eq-eqb}
+use borrow.Author.Tests.{le-ltb, eq-eqb}
 use lib.Dec.{leb, ltb, eqb, lit≤}
 use lib.ListN.{length}
 use Rattle.order.specs.Sum.{sum}
 use Rattle.order.specs.Search.{allb}
-use Rattle.order.proofs.Booleans.{cond-all}
 use Rattle.order.proofs.Tables.{table-cong}
-use Rattle.model.specs.Plan.{Block, Plan, machines, unbudgeted, block_count, block_of, max_replicas, upper, is_paired, pairs_back, pairs_next, partner, min_total, mark_in, version_in, racks_in, rack_size_in, feeds_in, capacity_in, budget_in, block_count_in, latest_version, format_of, format_in, record_at, block_in, plan_in}
-use Rattle.model.specs.Refusal.{refuse_if, or_else, mark, max_machines, max_capacity, max_blocks, check1, check2, check4, check22, check5, check7, check23, block_refusal, blocks_refusal, pair_refusal, pairs_refusal, budget_refusal, plan_refusal_in, refusal_in, refusal, Verdict, refused, accepted, verdict, plan_for, judge_in, judge}
+use Rattle.model.specs.Plan.{Plan, machines, places, block_count, max_replicas, upper, is_paired, pairs_back, pairs_next, partner, min_total, mark_in, version_in, racks_in, rack_size_in, feeds_in, capacity_in, budget_in, block_count_in, latest_version, format_of, format_in, record_at, block_in, plan_in}
+use Rattle.model.specs.Refusal.{refuse_if, or_else, mark, max_machines, max_capacity, max_blocks, check1, check2, check4, check22, check5, check7, check23, block_refusal, blocks_refusal, pair_refusal, pairs_refusal, plan_refusal, refusal, Verdict, refused, accepted, verdict, judge}
 use Rattle.model.specs.Replication.{copy_limit, largest_share, need, reachable, figure, chosen}
 use Rattle.model.specs.Placement.{count_of, replicas, replicas_in, domains_used, used, all_within, all_spread, all_fit, kept_apart, all_apart, counts_feasible, is_feasible, position, laid_word, first_word, first_placement, share_of, load, max_load_of, min_load_of, total_load_of, max_share}
 use Rattle.model.specs.Steps.{after, improves, can_move, can_swap, routes, next_move, next_swap, next_step, run}
 use Rattle.model.specs.Calls.{OutcomeOver, on_plan, buffer_refusal, all_counted, placement_refusal, on_placement, report_of, counts_call, first_call, check_call, report_call, step_call, run_call}
 use Rattle.model.specs.ReadLog.{check19, read_refusal, read_call, popularity_of, popularity_call}
-use Rattle.model.specs.Recordings.{first_gone, gone_count, entries_refusal, check24, free_word, check25, domain_load, next_domain, machine_in, spread_word, next_machine, filled_word, arrival_word, after_arrival, check26, after_deletion, arrival_refusal, arrive_call, deletion_refusal, delete_call}
 use Rattle.model.specs.Listing.{plan_line, block_line, last_line, listing_of, printed_of, printed}
 use Rattle.model.specs.Conversion.{with_version}
 use Rattle.theory.specs.Refusal.{PastRow23}
-use Rattle.theory.proofs.Plan.{max_replicas-least, upper-alike, field-narrow}
-use Rattle.theory.proofs.Refusal.{check3-read, check6-long, check23-above, check23-early, check23-usable, blocks_refusal-le, pairs_refusal-cases, total_refusal, places_refusal, accepted-laws}
-use Rattle.theorems.specs.Versions.{TurnedBack, verdict_with, SameUpper, Comparable, VersionsFree, Described, SameFields, SameCalls, SameRunning, SameAnswers, Versions, RunningVersions, VersionsApart}
+use Rattle.theory.proofs.Plan.{max_replicas-least, upper-alike}
+use Rattle.theory.proofs.Refusal.{check3-read, check6-long, check23-above, check23-early, check23-usable, blocks_refusal-le, pairs_refusal-cases, total_refusal, accepted-laws}
+use Rattle.theorems.specs.Versions.{TurnedBack, verdict_with, SameUpper, SameRow23, Comparable, VersionsFree, Described, SameFields, SameAnswers, Versions, VersionsApart}
 use Rattle.theorems.proofs.Exact.{total-cases}
 
 -- ── Comparable ───────────────────────────────────────────────────────────────────────────────────────
@@ -52,10 +50,10 @@ module _ (version : ℕ) (p : Plan) (same : SameUpper p.version version (machine
   block_refusal-free i = rw (upper-free i)
 
   -- but for row 23
-  plan_refusal-free : (running : Bool) → plan_refusal_in running (with_version version p)
-      ≡ or_else (blocks_refusal p) (or_else (pairs_refusal p) (budget_refusal running (with_version version p) (places_refusal p)))
-  unfolding plan_refusal_in blocks_refusal pairs_refusal pair_refusal min_total
-  plan_refusal-free running = rw (fun_ext block_refusal-free)
+  plan_refusal-free : plan_refusal (with_version version p)
+      ≡ or_else (blocks_refusal p) (or_else (pairs_refusal p) (check23 version (places p) p.budget (total_refusal p)))
+  unfolding plan_refusal blocks_refusal pairs_refusal pair_refusal min_total
+  plan_refusal-free = rw (fun_ext block_refusal-free)
 
   need-free : (f i : ℕ) → need (with_version version p) f i ≡ need p f i
   unfolding need
@@ -99,45 +97,13 @@ module _ (version : ℕ) (p : Plan) (same : SameUpper p.version version (machine
   unfolding listing_of plan_line block_line last_line report_of max_load_of min_load_of total_load_of max_share share_of load replicas
   listing-free limit = rw (first-free, run-free limit (first_placement p))
 
-  all_counted-free : (running : Bool) (words : List ℕ) → all_counted running (with_version version p) words ≡ all_counted running p words
+  all_counted-free : (words : List ℕ) → all_counted (with_version version p) words ≡ all_counted p words
   unfolding all_counted replicas
-  all_counted-free false words = ap (λ (count : ℕ → ℕ). allb (block_count p) (λ i. eqb (count_of p words i) (count i))) chosen-free
-  all_counted-free true words =
-      ap (λ (most : ℕ → ℕ). allb (block_count p) (λ i. leb (block_of p i).min_replicas (count_of p words i) && leb (count_of p words i) (most i)))
-      (fun_ext upper-free)
+  all_counted-free words = ap (λ (count : ℕ → ℕ). allb (block_count p) (λ i. eqb (count_of p words i) (count i))) chosen-free
 
-  placement_refusal-free : (running : Bool) (words : List ℕ)
-      → placement_refusal running words (with_version version p) ≡ placement_refusal running words p
+  placement_refusal-free : (words : List ℕ) → placement_refusal words (with_version version p) ≡ placement_refusal words p
   unfolding placement_refusal all_within all_spread all_fit all_apart kept_apart partner replicas replicas_in domains_used used is_paired pairs_back pairs_next
-  placement_refusal-free running words = rw (all_counted-free running words)
-
-  -- ── Arrivals ───────────────────────────────────────────────────────────────────────────────────
-  -- every version's popularity field has three bytes
-  check24-narrow : (v : ℕ) (b : Block) → b.popularity < 256 ^ 3 → leb (256 ^ (format_of v).popularity_width) b.popularity ≡ false
-  unfolding format_of
-  check24-narrow v b narrow =
-      lt-leb _ _ (cond-all (λ n. b.popularity < 256 ^ n) (ltb v 3) 3 4 (λ e. narrow) (field-narrow b.popularity 3 4 narrow (omega arith)))
-
-  arrival_refusal-free : (b : Block) (words : List ℕ) → b.popularity < 256 ^ 3
-      → arrival_refusal b words (with_version version p) ≡ arrival_refusal b words p
-  unfolding arrival_refusal check24 entries_refusal check25 free_word used replicas replicas_in domains_used
-  arrival_refusal-free b words narrow =
-      rw (placement_refusal-free true words, check24-narrow version b narrow, check24-narrow p.version b narrow, same)
-
-module _ (version : ℕ) (p : Plan) (words : List ℕ) where
-  spread_word-free : (n : ℕ) → spread_word (with_version version p) words n ≡ spread_word p words n
-  unfolding spread_word machine_in next_domain domain_load free_word used replicas replicas_in load share_of
-  spread_word-free zero = refl
-  spread_word-free (suc n) = rw (spread_word-free n)
-
-  filled_word-free : (word n : ℕ) → filled_word (with_version version p) words word n ≡ filled_word p words word n
-  unfolding filled_word next_machine free_word used load share_of replicas
-  filled_word-free word zero = refl
-  filled_word-free word (suc n) = rw (filled_word-free word n)
-
-  arrival_word-free : (b : Block) → arrival_word (with_version version p) words b ≡ arrival_word p words b
-  unfolding arrival_word
-  arrival_word-free b = rw (spread_word-free b.min_domains, filled_word-free (spread_word p words b.min_domains) (b.min_replicas - b.min_domains))
+  placement_refusal-free words = rw (all_counted-free words)
 
 pub versions-free : VersionsFree
 versions-free version p same =
@@ -151,15 +117,15 @@ versions-free version p same =
 
 -- ── SameFields ───────────────────────────────────────────────────────────────────────────────────
 -- bytes of a version that is read, as long as it wants, are judged by the rows between
-rows-between : (running : Bool) (bytes : List ℕ) (version : ℕ) → version_in bytes ≡ version → Described version
+rows-between : (bytes : List ℕ) (version : ℕ) → version_in bytes ≡ version → Described version
     → length bytes ≡ record_at (format_of version) (block_count_in bytes)
-    → refusal_in running bytes
+    → refusal bytes
     ≡ check2 (mark_in bytes)
     (check4 (racks_in bytes) (rack_size_in bytes)
     (check22 (racks_in bytes) (feeds_in bytes)
-    (check5 (capacity_in bytes) (refuse_if (ltb max_blocks (block_count_in bytes)) 6 (plan_refusal_in running (plan_in bytes))))))
-unfolding refusal_in check1 check7
-rows-between running bytes version is described sized =
+    (check5 (capacity_in bytes) (refuse_if (ltb max_blocks (block_count_in bytes)) 6 (plan_refusal (plan_in bytes))))))
+unfolding refusal check1 check7
+rows-between bytes version is described sized =
     let f = format_in bytes in
     let count = block_count_in bytes in
     let whole : length bytes ≡ record_at f count = sized ∙ ap (λ (v : ℕ). record_at (format_of v) count) (sym is) in
@@ -170,7 +136,7 @@ rows-between running bytes version is described sized =
       eq-eqb (length bytes) (record_at f count) whole,
     )
 
--- The rows between that come before 23, handed what the later ones say; and 23, 10 and 11 in a version, in a running hall 11 alone.
+-- The rows between that come before 23, handed what the later ones say; and 23, 10 and 11 in a version.
 abbrev before23 : List ℕ → ℕ → ℕ
 before23 bytes later =
     check2 (mark_in bytes)
@@ -182,15 +148,8 @@ before23 bytes later =
     (or_else (pairs_refusal (plan_in bytes))
     later))))))
 
-abbrev from23 : Bool → List ℕ → ℕ → ℕ
-from23 true bytes version = places_refusal (plan_in bytes)
-from23 false bytes version = check23 version (racks_in bytes * rack_size_in bytes * capacity_in bytes) (budget_in bytes) (total_refusal (plan_in bytes))
-
-from23-is : (running : Bool) (bytes : List ℕ) (version : ℕ)
-    → budget_refusal running (with_version version (plan_in bytes)) (places_refusal (plan_in bytes)) ≡ from23 running bytes version
-unfolding plan_in min_total
-from23-is true bytes version = refl
-from23-is false bytes version = refl
+abbrev from23 : List ℕ → ℕ → ℕ
+from23 bytes version = check23 version (racks_in bytes * rack_size_in bytes * capacity_in bytes) (budget_in bytes) (total_refusal (plan_in bytes))
 
 module _ (from to : ℕ) (read-from : Described from) (read-to : Described to) (old new : List ℕ) (same : SameFields from to old new)
     (upper-same : SameUpper from to (racks_in old * rack_size_in old)) where
@@ -216,38 +175,36 @@ module _ (from to : ℕ) (read-from : Described from) (read-to : Described to) (
         same.size_same,
       )
 
-  plan-upper : (running : Bool) (p : Plan) → p ≡ plan_for running old → SameUpper p.version to (machines p)
+  plan-upper : (p : Plan) → p ≡ plan_in old → SameUpper p.version to (machines p)
   unfolding plan_in
-  plan-upper true p e = rw (e, same.old-version) upper-same
-  plan-upper false p e = rw (e, same.old-version) upper-same
+  plan-upper p e = rw (e, same.old-version) upper-same
 
-  old-refusal : (running : Bool) → refusal_in running old ≡ before23 old (from23 running old from)
-  unfolding plan_refusal_in plan_in
-  old-refusal running =
-      rows-between running old from same.old-version read-from same.old-length
-      ∙ ap (before23 old) (from23-is running old (version_in old))
-      ∙ ap (λ (version : ℕ). before23 old (from23 running old version)) same.old-version
+  old-refusal : refusal old ≡ before23 old (from23 old from)
+  unfolding plan_refusal plan_in
+  old-refusal =
+      rows-between old from same.old-version read-from same.old-length
+      ∙ ap (λ (version : ℕ). before23 old (from23 old version)) same.old-version
 
-  new-refusal : (running : Bool) → refusal_in running new ≡ before23 old (from23 running old to)
+  new-refusal : refusal new ≡ before23 old (from23 old to)
   unfolding plan_in
-  new-refusal running =
-      rows-between running new to same.new-version read-to (rw same.blocks-same same.new-length)
-      ∙ (rw (plans, same.mark-same, same.feeds-same, same.capacity-same, same.blocks-same, same.racks-same, same.size_same, plan_refusal-free to (plan_in old) (plan-upper false (plan_in old) refl) running))
-      ∙ ap (before23 old) (from23-is running old to)
+  new-refusal =
+      rows-between new to same.new-version read-to (rw same.blocks-same same.new-length)
+      ∙ (rw (plans, same.mark-same, same.feeds-same, same.capacity-same, same.blocks-same, same.racks-same, same.size_same, plan_refusal-free to (plan_in old) (plan-upper (plan_in old) refl)))
 
-  -- the plan that is held, in a running hall without its budget
-  held : (running : Bool) → plan_for running new ≡ with_version to (plan_for running old)
-  held true = ap unbudgeted plans
-  held false = plans
+module _ (from to : ℕ) (read-from : Described from) (read-to : Described to) (old new : List ℕ) (same : SameFields from to old new)
+    (upper-same : SameUpper from to (racks_in old * rack_size_in old))
+    (row23-same : SameRow23 from to (racks_in old * rack_size_in old * capacity_in old) (budget_in old)) where
+  refusals : refusal new ≡ refusal old
+  refusals =
+      new-refusal from to read-from read-to old new same upper-same
+      ∙ ap (λ (row : ℕ → ℕ). before23 old (row (total_refusal (plan_in old)))) row23-same
+      ∙ sym (old-refusal from to read-from read-to old new same upper-same)
 
-  -- where rows 23, 10 and 11 say the same, so does the verdict
-  verdicts : (running : Bool) → from23 running old to ≡ from23 running old from → judge_in running new ≡ verdict_with to (judge_in running old)
-  unfolding judge_in
-  verdicts running Later-same =
-      ap₂ verdict (new-refusal running ∙ ap (before23 old) Later-same ∙ sym (old-refusal running)) (held running)
-      ∙ go (refusal_in running old)
+  verdicts : judge new ≡ verdict_with to (judge old)
+  unfolding judge
+  verdicts = rw (refusals, plans from to read-from read-to old new same upper-same) (go (refusal old))
     where
-      go : (code : ℕ) → verdict code (with_version to (plan_for running old)) ≡ verdict_with to (verdict code (plan_for running old))
+      go : (code : ℕ) → verdict code (with_version to (plan_in old)) ≡ verdict_with to (verdict code (plan_in old))
       go zero = refl
       go (suc code) = refl
 
@@ -262,55 +219,11 @@ calls-free version (refused code) items rows call r c = refl
 calls-free version (accepted p) items rows call r c = rw (r p refl, c p refl)
 
 -- where the verdict is the same but for the plan's version, and both versions allow as many copies, all answers are
-module _ (running : Bool) (to : ℕ) (old new : List ℕ) (e : judge_in running new ≡ verdict_with to (judge_in running old))
-    (upper-same : (p : Plan) → judge_in running old ≡ accepted p → SameUpper p.version to (machines p)) where
-  rows_same : (words : List ℕ) (p : Plan) → judge_in running old ≡ accepted p
-      → placement_refusal running words (with_version to p) ≡ placement_refusal running words p
-  rows_same words p a = placement_refusal-free to p (upper-same p a) running words
-
-  same-calls : SameCalls running to old new
-  unfolding check_call report_call step_call run_call on_placement report_of max_load_of min_load_of total_load_of max_share share_of load replicas read_call popularity_call read_refusal popularity_of is_paired pairs_back pairs_next partner
-  same-calls =
-      let v = judge_in running old in
-      record {
-        verdict = e;
-        check = λ words. rw e (calls-free to v words (placement_refusal running words) _ (rows_same words) (λ p a. refl));
-        report = λ words. rw e (calls-free to v words (placement_refusal running words) _ (rows_same words) (λ p a. refl));
-        step = λ words.
-            rw e
-            (calls-free to v words (placement_refusal running words) _ (rows_same words)
-            (λ p a. rw (next-free to p (upper-same p a) words)));
-        run = λ words limit.
-            rw e
-            (calls-free to v words (placement_refusal running words) _ (rows_same words)
-            (λ p a. rw (run-free to p (upper-same p a) limit words)));
-        read = λ block tick list count.
-            rw e (calls-free to v list (read_refusal block tick list count) _ (λ p a. refl) (λ p a. refl));
-        popularity = λ block list count.
-            rw e (calls-free to v list (λ p. check19 block (block_count p) 0) _ (λ p a. refl) (λ p a. refl));
-      }
-
-module _ (to : ℕ) (old new : List ℕ) (e : judge_in true new ≡ verdict_with to (judge_in true old))
-    (upper-same : (p : Plan) → judge_in true old ≡ accepted p → SameUpper p.version to (machines p)) where
-  pub same-running : SameRunning to old new
-  unfolding arrive_call delete_call deletion_refusal after_arrival after_deletion first_gone gone_count is_paired pairs_back pairs_next
-  same-running =
-      let v = judge_in true old in
-      record {
-        calls = same-calls true to old new e upper-same;
-        arrive = λ b words narrow.
-            rw e
-            (calls-free to v words (arrival_refusal b words) _ (λ p a. arrival_refusal-free to p (upper-same p a) b words narrow)
-            (λ p a. rw (arrival_word-free to p words b)));
-        delete = λ block words.
-            rw e
-            (calls-free to v words (deletion_refusal block words) _
-            (λ p a. ap (λ (code : ℕ). or_else code (check26 block (block_count p) 0)) (placement_refusal-free to p (upper-same p a) true words))
-            (λ p a. refl));
-      }
-
 module _ (to : ℕ) (old new : List ℕ) (e : judge new ≡ verdict_with to (judge old))
     (upper-same : (p : Plan) → judge old ≡ accepted p → SameUpper p.version to (machines p)) where
+  rows_same : (words : List ℕ) (p : Plan) → judge old ≡ accepted p → placement_refusal words (with_version to p) ≡ placement_refusal words p
+  rows_same words p a = placement_refusal-free to p (upper-same p a) words
+
   printed-same : (limit : ℕ) → printed new limit ≡ printed old limit
   unfolding printed printed_of
   printed-same limit = rw e (go (judge old) upper-same)
@@ -320,33 +233,38 @@ module _ (to : ℕ) (old new : List ℕ) (e : judge new ≡ verdict_with to (jud
       go (refused code) l = refl
       go (accepted p) l = listing-free to p (l p refl) limit
 
-  pub same-answers : SameRunning to old new → SameAnswers to old new
-  unfolding counts_call first_call largest_share
-  same-answers run =
+  pub same-answers : SameAnswers to old new
+  unfolding counts_call first_call check_call report_call step_call run_call on_placement report_of max_load_of min_load_of total_load_of max_share largest_share share_of load replicas read_call popularity_call read_refusal popularity_of is_paired pairs_back pairs_next partner
+  same-answers =
       record {
-        calls = same-calls false to old new e upper-same;
-        running = run;
+        verdict = e;
         counts = λ items.
             rw e (calls-free to (judge old) items (buffer_refusal items) _ (λ p a. refl) (λ p a. rw (chosen-free to p (upper-same p a))));
         first = λ words.
             rw e
             (calls-free to (judge old) words (buffer_refusal words) _ (λ p a. refl)
             (λ p a. rw (fun_ext (first_word-free to p (upper-same p a)))));
+        check = λ words. rw e (calls-free to (judge old) words (placement_refusal words) _ (rows_same words) (λ p a. refl));
+        report = λ words. rw e (calls-free to (judge old) words (placement_refusal words) _ (rows_same words) (λ p a. refl));
+        step = λ words.
+            rw e
+            (calls-free to (judge old) words (placement_refusal words) _ (rows_same words)
+            (λ p a. rw (next-free to p (upper-same p a) words)));
+        run = λ words limit.
+            rw e
+            (calls-free to (judge old) words (placement_refusal words) _ (rows_same words)
+            (λ p a. rw (run-free to p (upper-same p a) limit words)));
+        read = λ block tick list count.
+            rw e (calls-free to (judge old) list (read_refusal block tick list count) _ (λ p a. refl) (λ p a. refl));
+        popularity = λ block list count.
+            rw e (calls-free to (judge old) list (λ p. check19 block (block_count p) 0) _ (λ p a. refl) (λ p a. refl));
         listing = printed-same;
       }
 
-pub running-versions : RunningVersions
-running-versions from to read-from read-to old new same upper-same =
-    same-running to old new (verdicts from to read-from read-to old new same upper-same true refl)
-    (λ p a. plan-upper from to read-from read-to old new same upper-same true p (accepted-laws true old p a).held)
-
 pub versions : Versions
 versions from to read-from read-to old new same upper-same row23-same =
-    same-answers to old new
-    (verdicts from to read-from read-to old new same upper-same false
-    (ap (λ (row : ℕ → ℕ). row (total_refusal (plan_in old))) row23-same))
-    (λ p a. plan-upper from to read-from read-to old new same upper-same false p (accepted-laws false old p a).held)
-    (running-versions from to read-from read-to old new same upper-same)
+    same-answers to old new (verdicts from to read-from read-to old new same upper-same row23-same)
+    (λ p a. plan-upper from to read-from read-to old new same upper-same p (accepted-laws old p a).held)
 
 -- ── VersionsApart ────────────────────────────────────────────────────────────────────────────────
 -- Rows that pass whatever the later ones say on, or that give the code of a row before 23.
@@ -401,10 +319,10 @@ versions-apart from read-from early old new same upper-same above = go (rows-bef
     read-to = record { version-pos = omega arith; version-max = omega arith }
 
     was : refusal old ≡ before23 old (total_refusal (plan_in old))
-    was = old-refusal from 4 read-from read-to old new same upper-same false ∙ ap (before23 old) (check23-early from _ _ _ early)
+    was = old-refusal from 4 read-from read-to old new same upper-same ∙ ap (before23 old) (check23-early from _ _ _ early)
 
     is : refusal new ≡ before23 old 23
-    is = new-refusal from 4 read-from read-to old new same upper-same false ∙ ap (before23 old) (check23-above 4 _ _ _ (omega arith) above)
+    is = new-refusal from 4 read-from read-to old new same upper-same ∙ ap (before23 old) (check23-above 4 _ _ _ (omega arith) above)
 
     go : Rows (before23 old) → TurnedBack old new
     go (inl pass) =

@@ -5,6 +5,7 @@ use Rattle.model.specs.Plan.{Plan, machines, block_count, block_of, is_paired, p
 use Rattle.model.specs.Placement.{word_of, held, domains_used, used, Feasible, share_of, load, max_load_of, max_share}
 use Rattle.model.specs.Steps.{shifted, AtRest}
 use Rattle.theory.specs.Refusal.{Shaped, Valid}
+use Rattle.theory.specs.Replication.{EvenPairs}
 
 -- No transfer that the spreads and pairs allow lowers the higher load by more than the slack.
 pub record Settled (p : Plan) (words : List ℕ) (slack : ℕ) : Type 0 where
@@ -28,18 +29,18 @@ abbrev pub RestSettled : Type 0
 RestSettled =
     (p : Plan) → Shaped p → (count : ℕ → ℕ) (words : List ℕ) → Feasible p count words → AtRest p words ↔ Settled p words 0
 
--- Where every spread is one. Nothing is asked of the counts but that they are lawful, so the two blocks of a pair may have unequal shares.
+-- Where every spread is one, and the two blocks of a pair have as many copies, as at the chosen counts; the other placement's need not.
 abbrev pub OneSpread : Type 0
 OneSpread =
     (p : Plan) (words other : List ℕ) (count count' : ℕ → ℕ) (slack : ℕ)
-    → Valid p → Feasible p count words → Settled p words slack → Feasible p count' other
+    → Valid p → Feasible p count words → EvenPairs p count → Settled p words slack → Feasible p count' other
     → ((i : ℕ) → i < block_count p → (block_of p i).min_domains ≡ 1)
     → machines p * max_load_of p words ≤ machines p * max_load_of p other + (machines p - 1) * (max_share p words + slack)
 
--- For any spreads, where no machine is full; again at any lawful counts.
+-- For any spreads, where no machine is full.
 abbrev pub LargerSpreads : Type 0
 LargerSpreads =
     (p : Plan) (words other : List ℕ) (count count' : ℕ → ℕ) (slack : ℕ)
-    → Valid p → Feasible p count words → Settled p words slack → Feasible p count' other
+    → Valid p → Feasible p count words → EvenPairs p count → Settled p words slack → Feasible p count' other
     → ((m : ℕ) → m < machines p → used p words m < p.capacity)
     → machines p * max_load_of p words ≤ machines p * max_load_of p other + 3 * (machines p - 1) * (max_share p words + slack)

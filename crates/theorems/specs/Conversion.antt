@@ -5,7 +5,7 @@ use Rattle.model.specs.Refusal.{judge, accepted}
 use Rattle.model.specs.Calls.{refuse, counts_call, first_call}
 use Rattle.model.specs.Listing.{input_room, step_limit, printed}
 use Rattle.model.specs.Conversion.{converted_version, written_version, with_version, converted, convert_verdict, convert_call}
-use Rattle.model.specs.Writing.{AreBytes}
+use Rattle.theory.specs.Writing.{AreBytes}
 use Rattle.theorems.specs.Trials.{plan-H, plan-full, gives}
 use Rattle.theorems.specs.Versions.{SameAnswers}
 

@@ -1,5 +1,5 @@
 -- Document 02, U6: what a version 4 file says beyond the earlier ones: the file of 15 bytes, and small examples on feeds.
-use Rattle.std.specs.Prelude.{◌≡◌, false, List, [], ◌∷◌, ℕ, length, set, take}
+use Rattle.std.specs.Prelude.{◌≡◌, List, [], ◌∷◌, ℕ, length, set, take}
 use Rattle.model.specs.Plan.{mark_in, version_in, racks_in, rack_size_in, feeds_in, capacity_in, plan_in}
 use Rattle.model.specs.Refusal.{mark, check4, check22, check5, refusal, judge, refused, accepted}
 use Rattle.model.specs.Steps.{RackMove}
@@ -49,9 +49,9 @@ pub record FeedExamples : Type 0 where
   pub first : first_call plan-feeds (0 ∷ 0 ∷ []) ≡ gives 2 (3 ∷ 4 ∷ [])
   -- 15 counts feeds: two racks of one feed are one
   pub row15 : TurnsBack plan-feeds (5 ∷ 4 ∷ []) 15
-  pub spread-met : check_call false (feeds-with 7 4) (5 ∷ 4 ∷ []) ≡ gives 2 (5 ∷ 4 ∷ [])
+  pub spread-met : check_call (feeds-with 7 4) (5 ∷ 4 ∷ []) ≡ gives 2 (5 ∷ 4 ∷ [])
   -- a step between two racks of one feed is a RackMove
-  pub one-feed : step_call false plan-feeds (3 ∷ 1 ∷ []) ≡ gives (RackMove 0 0 2) (6 ∷ 1 ∷ [])
+  pub one-feed : step_call plan-feeds (3 ∷ 1 ∷ []) ≡ gives (RackMove 0 0 2) (6 ∷ 1 ∷ [])
   -- block 0 must not leave its feed, so block 1 goes; with a feed for each rack it goes
-  pub feed-kept : step_call false plan-feeds (12 ∷ 8 ∷ []) ≡ gives (RackMove 3 1 0) (12 ∷ 1 ∷ [])
-  pub feed-left : step_call false (feeds-with 7 4) (12 ∷ 8 ∷ []) ≡ gives (RackMove 3 0 0) (5 ∷ 8 ∷ [])
+  pub feed-kept : step_call plan-feeds (12 ∷ 8 ∷ []) ≡ gives (RackMove 3 1 0) (12 ∷ 1 ∷ [])
+  pub feed-left : step_call (feeds-with 7 4) (12 ∷ 8 ∷ []) ≡ gives (RackMove 3 0 0) (5 ∷ 8 ∷ [])

@@ -1,6 +1,6 @@
 -- Document 01, "Why a plan or placement is turned back": the small examples of its table, each on the plan's bytes; and those of rows
 -- 17 and 18, of document 02, U1, and of the most copies by version, U5.
-use Rattle.std.specs.Prelude.{◌≡◌, false, List, [], ◌∷◌, ℕ, set, take}
+use Rattle.std.specs.Prelude.{◌≡◌, List, [], ◌∷◌, ℕ, set, take}
 use Rattle.model.specs.Plan.{plan_in}
 use Rattle.model.specs.Refusal.{judge, refused, accepted}
 use Rattle.model.specs.Calls.{refuse, counts_call, first_call, check_call}
@@ -35,7 +35,7 @@ plan-ten =
 
 -- A placement handed in is turned back with the code.
 abbrev pub TurnsBack : List ℕ → List ℕ → ℕ → Type 0
-TurnsBack bytes words code = check_call false bytes words ≡ refuse code words
+TurnsBack bytes words code = check_call bytes words ≡ refuse code words
 
 -- Each example with the number that its row gives, in the rows' order.
 pub record RowExamples : Type 0 where
@@ -86,7 +86,7 @@ pub record RowExamples : Type 0 where
   -- the plan itself: both blocks of the pair have two copies each, on machines 0 and 2, and 1 and 3
   pub pair-counts : counts_call plan-pair (0 ∷ 0 ∷ 0 ∷ []) ≡ gives 7560 (2 ∷ 2 ∷ 1 ∷ [])
   pub pair-first : first_call plan-pair (0 ∷ 0 ∷ 0 ∷ []) ≡ gives 3 (5 ∷ 10 ∷ 1 ∷ [])
-  pub pair-passes : check_call false plan-pair (5 ∷ 10 ∷ 1 ∷ []) ≡ gives 3 (5 ∷ 10 ∷ 1 ∷ [])
+  pub pair-passes : check_call plan-pair (5 ∷ 10 ∷ 1 ∷ []) ≡ gives 3 (5 ∷ 10 ∷ 1 ∷ [])
   -- 8 comes before 9 within a block, but block 0's 9 before block 1's 8
   pub within_block : judge (set (H-with 18 5) 19 0) ≡ refused 8
   pub block-by-block : judge (set (H-with 19 3) 23 5) ≡ refused 9

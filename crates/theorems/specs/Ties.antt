@@ -1,6 +1,6 @@
 -- Document 01, "Where document 001 may not be followed": steps that lower the maximum stop at ties. Three machines in one rack, with
 -- six, six and none of twelve equal one-copy blocks: no single step lowers six, yet the best is four, and a run goes on to it.
-use Rattle.std.specs.Prelude.{◌≡◌, false, List, [], ◌∷◌, ◌++◌, ℕ, ◌*◌, ◌≤◌, replicate}
+use Rattle.std.specs.Prelude.{◌≡◌, List, [], ◌∷◌, ◌++◌, ℕ, ◌*◌, ◌≤◌, replicate}
 use Rattle.order.specs.Table.{table}
 use Rattle.model.specs.Plan.{Plan}
 use Rattle.model.specs.Refusal.{judge, accepted}
@@ -45,15 +45,15 @@ fours = 4 ∷ 4 ∷ 4 ∷ 1 ∷ 1 ∷ 1 ∷ 1 ∷ 4 ∷ 2 ∷ 2 ∷ 2 ∷ 2 ∷ 
 
 pub record Ties : Type 0 where
   pub accepts : judge plan-tied ≡ accepted tied
-  pub passes : check_call false plan-tied sixes ≡ gives 12 sixes
+  pub passes : check_call plan-tied sixes ≡ gives 12 sixes
   pub six-six-none : table 3 (used tied sixes) ≡ 6 ∷ 6 ∷ 0 ∷ []
   -- a share is 2520 units, so the hottest load is six of them
   pub highest : max_load_of tied sixes ≡ 6 * unit
   -- no lawful step lowers it, though one is left
   pub none-lowers : (s : Step) → Admissible tied sixes s → max_load_of tied sixes ≤ max_load_of tied (after sixes s)
-  pub one_left : step_call false plan-tied sixes ≡ gives (Move 0 0 2) stepped
+  pub one_left : step_call plan-tied sixes ≡ gives (Move 0 0 2) stepped
   -- no lawful placement at any lawful counts is below four
   pub best : (count : ℕ → ℕ) (words : List ℕ) → Feasible tied count words → 4 * unit ≤ max_load_of tied words
   -- and a run that may take five steps or more reaches four
-  pub rests : (limit : ℕ) → 5 ≤ limit → run_call false plan-tied sixes limit ≡ gives (rest 5) fours
+  pub rests : (limit : ℕ) → 5 ≤ limit → run_call plan-tied sixes limit ≡ gives (rest 5) fours
   pub reached : max_load_of tied fours ≡ 4 * unit

@@ -72,17 +72,17 @@ pub record Trials : Type 0 where
   -- Y from its first placement to rest
   pub Y-first : first_call plan-Y (0 ∷ 0 ∷ 0 ∷ []) ≡ gives 3 (1 ∷ 2 ∷ 1 ∷ [])
   pub Y-loads : loads plan-Y (1 ∷ 2 ∷ 1 ∷ []) ≡ 15120 ∷ 2520 ∷ []
-  pub Y-step1 : step_call false plan-Y (1 ∷ 2 ∷ 1 ∷ []) ≡ gives (Move 0 0 1) (2 ∷ 2 ∷ 1 ∷ [])
-  pub Y-step2 : step_call false plan-Y (2 ∷ 2 ∷ 1 ∷ []) ≡ gives (Move 1 1 0) (2 ∷ 1 ∷ 1 ∷ [])
-  pub Y-rest : step_call false plan-Y (2 ∷ 1 ∷ 1 ∷ []) ≡ gives none (2 ∷ 1 ∷ 1 ∷ [])
+  pub Y-step1 : step_call plan-Y (1 ∷ 2 ∷ 1 ∷ []) ≡ gives (Move 0 0 1) (2 ∷ 2 ∷ 1 ∷ [])
+  pub Y-step2 : step_call plan-Y (2 ∷ 2 ∷ 1 ∷ []) ≡ gives (Move 1 1 0) (2 ∷ 1 ∷ 1 ∷ [])
+  pub Y-rest : step_call plan-Y (2 ∷ 1 ∷ 1 ∷ []) ≡ gives none (2 ∷ 1 ∷ 1 ∷ [])
   pub Y-rest-loads : loads plan-Y (2 ∷ 1 ∷ 1 ∷ []) ≡ 7560 ∷ 10080 ∷ []
   -- Y with step limits 0, 1 and 2
-  pub Y-limit0 : run_call false plan-Y (1 ∷ 2 ∷ 1 ∷ []) 0 ≡ gives (spent 0) (1 ∷ 2 ∷ 1 ∷ [])
-  pub Y-limit1 : run_call false plan-Y (1 ∷ 2 ∷ 1 ∷ []) 1 ≡ gives (spent 1) (2 ∷ 2 ∷ 1 ∷ [])
+  pub Y-limit0 : run_call plan-Y (1 ∷ 2 ∷ 1 ∷ []) 0 ≡ gives (spent 0) (1 ∷ 2 ∷ 1 ∷ [])
+  pub Y-limit1 : run_call plan-Y (1 ∷ 2 ∷ 1 ∷ []) 1 ≡ gives (spent 1) (2 ∷ 2 ∷ 1 ∷ [])
   pub Y-limit1-loads : loads plan-Y (2 ∷ 2 ∷ 1 ∷ []) ≡ 5040 ∷ 12600 ∷ []
-  pub Y-limit2 : run_call false plan-Y (1 ∷ 2 ∷ 1 ∷ []) 2 ≡ gives (rest 2) (2 ∷ 1 ∷ 1 ∷ [])
+  pub Y-limit2 : run_call plan-Y (1 ∷ 2 ∷ 1 ∷ []) 2 ≡ gives (rest 2) (2 ∷ 1 ∷ 1 ∷ [])
   -- Z from a placement handed in to rest
-  pub Z-step1 : step_call false plan-Z (1 ∷ 1 ∷ 2 ∷ 2 ∷ []) ≡ gives (Swap 0 0 1 2) (2 ∷ 1 ∷ 1 ∷ 2 ∷ [])
-  pub Z-step2 : step_call false plan-Z (2 ∷ 1 ∷ 1 ∷ 2 ∷ []) ≡ gives (Swap 1 0 0 1) (1 ∷ 2 ∷ 1 ∷ 2 ∷ [])
-  pub Z-run : run_call false plan-Z (1 ∷ 1 ∷ 2 ∷ 2 ∷ []) 100_000 ≡ gives (rest 2) (1 ∷ 2 ∷ 1 ∷ 2 ∷ [])
+  pub Z-step1 : step_call plan-Z (1 ∷ 1 ∷ 2 ∷ 2 ∷ []) ≡ gives (Swap 0 0 1 2) (2 ∷ 1 ∷ 1 ∷ 2 ∷ [])
+  pub Z-step2 : step_call plan-Z (2 ∷ 1 ∷ 1 ∷ 2 ∷ []) ≡ gives (Swap 1 0 0 1) (1 ∷ 2 ∷ 1 ∷ 2 ∷ [])
+  pub Z-run : run_call plan-Z (1 ∷ 1 ∷ 2 ∷ 2 ∷ []) 100_000 ≡ gives (rest 2) (1 ∷ 2 ∷ 1 ∷ 2 ∷ [])
   pub Z-loads : loads plan-Z (1 ∷ 2 ∷ 1 ∷ 2 ∷ []) ≡ 15120 ∷ 15120 ∷ []

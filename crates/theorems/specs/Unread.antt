@@ -1,7 +1,7 @@
 -- A placement handed in is the first B of the words lent: words past them are never read and never written.
-use Rattle.std.specs.Prelude.{◌≡◌, Bool, List, ℕ, take, drop}
+use Rattle.std.specs.Prelude.{◌≡◌, List, ℕ, take, drop}
 use Rattle.model.specs.Plan.{Plan, block_count}
-use Rattle.model.specs.Refusal.{judge_in, accepted}
+use Rattle.model.specs.Refusal.{judge, accepted}
 use Rattle.model.specs.Calls.{Outcome, check_call, report_call, step_call, run_call}
 
 -- A call on the first B words alone: on two buffers that agree on these it answers alike, and both hold the same there afterwards.
@@ -11,13 +11,12 @@ pub record FirstAlone {A : Type 0} (blocks : ℕ) (call : List ℕ → Outcome A
       → take blocks (call words).items ≡ take blocks (call other).items
   pub beyond : (words : List ℕ) → drop blocks (call words).items ≡ drop blocks words
 
--- So is every call on a placement, in a hall that is running or not.
-pub record UnreadLaws (running : Bool) (bytes : List ℕ) (blocks : ℕ) : Type 0 where
-  pub check : FirstAlone blocks (check_call running bytes)
-  pub report : FirstAlone blocks (report_call running bytes)
-  pub step : FirstAlone blocks (step_call running bytes)
-  pub run : (limit : ℕ) → FirstAlone blocks (λ words. run_call running bytes words limit)
+-- So is every call on a placement.
+pub record UnreadLaws (bytes : List ℕ) (blocks : ℕ) : Type 0 where
+  pub check : FirstAlone blocks (check_call bytes)
+  pub report : FirstAlone blocks (report_call bytes)
+  pub step : FirstAlone blocks (step_call bytes)
+  pub run : (limit : ℕ) → FirstAlone blocks (λ words. run_call bytes words limit)
 
 abbrev pub BeyondUnread : Type 0
-BeyondUnread =
-    (running : Bool) (bytes : List ℕ) (p : Plan) → judge_in running bytes ≡ accepted p → UnreadLaws running bytes (block_count p)
+BeyondUnread = (bytes : List ℕ) (p : Plan) → judge bytes ≡ accepted p → UnreadLaws bytes (block_count p)

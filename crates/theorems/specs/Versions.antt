@@ -1,20 +1,19 @@
--- Document 02, U1 and U4 to U8: plans of two versions with the same fields are equal but for the version, and what a call answers goes by
+-- Document 02, U1 and U4 to U7: plans of two versions with the same fields are equal but for the version, and what a call answers goes by
 -- the version's most copies and by row 23 alone: where these say the same of both versions, all calls but the converter's answer the same.
--- In a running hall it goes by the most copies alone, and for an arrival also by the width of the popularity field.
-use Rattle.std.specs.Prelude.{◌≡◌, Bool, true, false, List, ℕ, ◌*◌, ◌^◌, ◌<◌, ◌≤◌, min, length}
+use Rattle.std.specs.Prelude.{◌≡◌, List, ℕ, ◌*◌, ◌<◌, ◌≤◌, min, length}
 use Rattle.model.specs.declared.Entry.{Entry}
-use Rattle.model.specs.Plan.{Block, Plan, machines, places, max_replicas, mark_in, version_in, racks_in, rack_size_in, feeds_in, capacity_in, budget_in, block_count_in, latest_version, format_of, record_at, block_in}
-use Rattle.model.specs.Refusal.{check23, refusal, Verdict, refused, accepted, judge_in, judge}
+use Rattle.model.specs.Plan.{Plan, machines, places, max_replicas, mark_in, version_in, racks_in, rack_size_in, feeds_in, capacity_in, budget_in, block_count_in, latest_version, format_of, record_at, block_in}
+use Rattle.model.specs.Refusal.{check23, refusal, Verdict, refused, accepted, judge}
 use Rattle.model.specs.Replication.{chosen}
 use Rattle.model.specs.Placement.{first_placement}
 use Rattle.model.specs.Steps.{next_step, run}
 use Rattle.model.specs.Calls.{counts_call, first_call, check_call, report_call, step_call, run_call}
 use Rattle.model.specs.ReadLog.{read_call, popularity_call}
-use Rattle.model.specs.Recordings.{arrive_call, delete_call}
 use Rattle.model.specs.Listing.{listing_of, printed}
-use Rattle.model.specs.Writing.{AreBytes, plan_bytes}
+use Rattle.model.specs.Writing.{plan_bytes}
 use Rattle.model.specs.Conversion.{with_version}
 use Rattle.theory.specs.Refusal.{PastRow23}
+use Rattle.theory.specs.Writing.{AreBytes}
 
 -- The verdict that accepts the same plan in another version.
 abbrev pub verdict_with : ℕ → Verdict → Verdict
@@ -71,33 +70,17 @@ pub record SameFields (from to : ℕ) (old new : List ℕ) : Type 0 where
   pub old-length : length old ≡ record_at (format_of from) (block_count_in old)
   pub new-length : length new ≡ record_at (format_of to) (block_count_in old)
 
--- The verdict is the same but for the plan's version, and so is what every call on a placement or on reads answers and leaves; in a hall
--- that is running or in one that is not.
-pub record SameCalls (running : Bool) (to : ℕ) (old new : List ℕ) : Type 0 where
-  pub verdict : judge_in running new ≡ verdict_with to (judge_in running old)
-  pub check : (words : List ℕ) → check_call running new words ≡ check_call running old words
-  pub report : (words : List ℕ) → report_call running new words ≡ report_call running old words
-  pub step : (words : List ℕ) → step_call running new words ≡ step_call running old words
-  pub run : (words : List ℕ) (limit : ℕ) → run_call running new words limit ≡ run_call running old words limit
-  pub read : (block tick : ℕ) (list : List Entry) (count : ℕ)
-      → read_call running new block tick list count ≡ read_call running old block tick list count
-  pub popularity : (block : ℕ) (list : List Entry) (count : ℕ)
-      → popularity_call running new block list count ≡ popularity_call running old block list count
-
--- A running hall's calls: these, arrivals and deletions. Row 24 goes by the width of the version's popularity field, so an arrival is the
--- same where its popularity fits three bytes, which every version's field has.
-pub record SameRunning (to : ℕ) (old new : List ℕ) : Type 0 where
-  pub calls : SameCalls true to old new
-  pub arrive : (b : Block) (words : List ℕ) → b.popularity < 256 ^ 3 → arrive_call new b words ≡ arrive_call old b words
-  pub delete : (block : ℕ) (words : List ℕ) → delete_call new block words ≡ delete_call old block words
-
--- Both halls' calls, counts, first placement and what is printed: that is every call but the converter's and those that write the next
--- plan's bytes, with the arrivals above.
+-- The verdict is the same but for the plan's version, and so is what every call but the converter's answers and leaves, and what is printed.
 pub record SameAnswers (to : ℕ) (old new : List ℕ) : Type 0 where
-  pub calls : SameCalls false to old new
-  pub running : SameRunning to old new
+  pub verdict : judge new ≡ verdict_with to (judge old)
   pub counts : (items : List ℕ) → counts_call new items ≡ counts_call old items
   pub first : (words : List ℕ) → first_call new words ≡ first_call old words
+  pub check : (words : List ℕ) → check_call new words ≡ check_call old words
+  pub report : (words : List ℕ) → report_call new words ≡ report_call old words
+  pub step : (words : List ℕ) → step_call new words ≡ step_call old words
+  pub run : (words : List ℕ) (limit : ℕ) → run_call new words limit ≡ run_call old words limit
+  pub read : (block tick : ℕ) (list : List Entry) (count : ℕ) → read_call new block tick list count ≡ read_call old block tick list count
+  pub popularity : (block : ℕ) (list : List Entry) (count : ℕ) → popularity_call new block list count ≡ popularity_call old block list count
   pub listing : (limit : ℕ) → printed new limit ≡ printed old limit
 
 abbrev pub Versions : Type 0
@@ -106,13 +89,6 @@ Versions =
     → SameUpper from to (racks_in old * rack_size_in old)
     → SameRow23 from to (racks_in old * rack_size_in old * capacity_in old) (budget_in old)
     → SameAnswers to old new
-
--- Row 23 is not made in a running hall: there the most copies alone have to be the same, whatever the budget.
-abbrev pub RunningVersions : Type 0
-RunningVersions =
-    (from to : ℕ) → Described from → Described to → (old new : List ℕ) → SameFields from to old new
-    → SameUpper from to (racks_in old * rack_size_in old)
-    → SameRunning to old new
 
 -- Where row 23 does not say the same: a version before 4, version 4, and a budget above M × C. A refusal by a row before 23 stays, and
 -- whatever else was answered, acceptance too, becomes 23.
@@ -140,11 +116,10 @@ Twins =
     → Twin 3 bytes p
 
 -- The converse fails exactly by 23: an accepted version 3 plan has a version 4 twin, with F = R, where its budget can be used, and
--- otherwise that file is refused 23. A running hall's calls answer the same either way.
+-- otherwise that file is refused 23.
 pub record LaterTwin (bytes : List ℕ) (p : Plan) : Type 0 where
   pub usable : p.budget ≤ places p → Twin 4 bytes p
   pub unusable : places p < p.budget → judge (plan_bytes (with_version 4 p)) ≡ refused 23
-  pub running : SameRunning 4 bytes (plan_bytes (with_version 4 p))
 
 abbrev pub LaterTwins : Type 0
 LaterTwins =

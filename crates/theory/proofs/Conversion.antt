@@ -1,7 +1,7 @@
 -- Laws of the converter's definitions: the result's length, which bytes it takes, and how the call's outcome follows.
 -- Assumes nothing.
 use mathlib.Core.Path.{◌≡◌, ap, ◌∙◌}
-use mathlib.Core.Bool.{Bool, not, ◌||◌, false}
+use mathlib.Core.Bool.{Bool, not, ◌||◌}
 use mathlib.Core.List.{List}
 use Prim.Native.Nat.{ℕ, zero, suc, ◌<◌, ◌≤◌}
 use native.Mathlib.Nat.{pos_of_ne-zero}
@@ -9,7 +9,7 @@ use native.Mathlib.Omega.{arith}
 use lib.Dec.{eqb, ltb, lit≤}
 use lib.ListN.{length}
 use Rattle.model.specs.Plan.{Plan, block_count, common_length, mark_in, version_in, format_of, record_at, plan_in}
-use Rattle.model.specs.Refusal.{refuse_if, or_else, mark, check1, check2, check3, refusal, refused, accepted, verdict, judge, judge_in}
+use Rattle.model.specs.Refusal.{refuse_if, or_else, mark, check1, check2, check3, refusal, refused, accepted, verdict, judge}
 use Rattle.model.specs.Calls.{refuse}
 use Rattle.model.specs.Listing.{wrote}
 use Rattle.model.specs.Conversion.{converted_version, written_version, with_version, converted, convert_refusal, convert_verdict, result_refusal, convert_call}
@@ -30,7 +30,7 @@ convert_refusal-le bytes =
     let version = version_in bytes in
     row (ltb (length bytes) common_length) 1 _ (lit≤ tt)
     (row (not (eqb (mark_in bytes) mark)) 2 _ (lit≤ tt)
-    (row (eqb version 0 || ltb converted_version version) 3 _ (lit≤ tt) (refusal-le false bytes)))
+    (row (eqb version 0 || ltb converted_version version) 3 _ (lit≤ tt) (refusal-le bytes)))
   where
     row : (t : Bool) (code later : ℕ) → code ≤ 23 → later ≤ 23 → refuse_if t code later ≤ 23
     row = refuse_if-all (λ n. n ≤ 23)
@@ -49,7 +49,7 @@ module _ (bytes : List ℕ) (code : ℕ)
   convert_verdict-marked some = convert_verdict-refused bytes code (rows (refusal bytes) ∙ or_else-some code _ some) (pos_of_ne-zero some)
 
   pub convert_verdict-judged : code ≡ 0 → convert_verdict bytes ≡ judge bytes
-  unfolding convert_verdict convert_refusal judge_in
+  unfolding convert_verdict convert_refusal judge
   convert_verdict-judged none = ap (λ (n : ℕ). verdict n (plan_in bytes)) (rows (refusal bytes) ∙ ap (λ (n : ℕ). or_else n (refusal bytes)) none)
 
 -- ── convert_call ──────────────────────────────────────────────────────────────────────────────────

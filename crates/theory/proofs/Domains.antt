@@ -14,7 +14,7 @@ use lib.ListN.{length}
 use Rattle.order.specs.Sum.{delta}
 use Rattle.order.proofs.Sums.{sum-cong, sum_ones}
 use Rattle.model.specs.Plan.{Plan, rack_of, domain, machines, common_length, latest_version, mark_in, version_in, racks_in, rack_size_in, feeds_in, capacity_in, block_count_in, format_of, format_in, header_length, record_at, plan_in}
-use Rattle.model.specs.Refusal.{refuse_if, mark, max_machines, max_capacity, max_blocks, check1, check2, check3, check4, check5, check6, check7, refusal, refusal_in}
+use Rattle.model.specs.Refusal.{refuse_if, mark, max_machines, max_capacity, max_blocks, check1, check2, check3, check4, check5, check6, check7, refusal}
 use Rattle.theory.specs.Domains.{Domains, EarlyFeeds}
 use Rattle.theory.proofs.Plan.{domain-lt, domain-rack, member-sum}
 use Rattle.theory.proofs.PlacementFirst.{position-domain}
@@ -46,7 +46,7 @@ other_row false row later l e = (refl, e)
 
 -- where F is R, a plan that reaches row 22 passes it, and no later row has its number
 row22-early : (bytes : List ℕ) → version_in bytes < 4 → refusal bytes ≡ 22 → ⊥
-unfolding refusal_in check1 check2 check3 check4 check5 check6 check7
+unfolding refusal check1 check2 check3 check4 check5 check6 check7
 row22-early bytes early e =
     let r = racks_in bytes in
     let s = rack_size_in bytes in
@@ -60,7 +60,7 @@ row22-early bytes early e =
     let z5 = other_row (eqb (capacity_in bytes) 0 || ltb max_capacity (capacity_in bytes)) 4 _ (omega arith) passed in
     let z6 = other_row (leb (header_length (format_in bytes)) (length bytes) && ltb max_blocks b) 5 _ (omega arith) z5.1 in
     let z7 = other_row (not (eqb (length bytes) (record_at (format_in bytes) b))) 6 _ (omega arith) z6.1 in
-    ⊎_elim (λ l. omega (arith, z7.1, l)) (λ e. omega (arith, z7.1, e)) (plan_refusal-cases false (plan_in bytes))
+    ⊎_elim (λ l. omega (arith, z7.1, l)) (λ e. omega (arith, z7.1, e)) (plan_refusal-cases (plan_in bytes))
 
 pub early-feeds : EarlyFeeds
 early-feeds bytes = record { are-racks = feeds_in-early bytes; row22-later = later }

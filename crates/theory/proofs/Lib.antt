@@ -6,12 +6,10 @@ pub mod Widths
 pub mod Replication
 pub mod Placement
 pub mod PlacementFirst
-pub mod Deletions
 pub mod Domains
 pub mod Steps
 pub mod StepsLocal
 pub mod StepsNext
-pub mod Running
 pub mod Units
 pub mod Calls
 pub mod ReadLog
@@ -19,5 +17,3 @@ pub mod Listing
 pub mod Writing
 pub mod WritingPlan
 pub mod Conversion
-pub mod Arrivals
-pub mod NextPlan

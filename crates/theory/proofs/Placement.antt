@@ -6,20 +6,19 @@ use mathlib.Core.Bool.{Bool, true, false, cond}
 use mathlib.Core.List.{List}
 use mathlib.Core.Logic.{◌⊎◌, inl, inr, ◌↔◌}
 use Prim.Native.Nat.{ℕ, zero, suc, ◌+◌, ◌*◌, ◌-◌, ◌/◌, ◌%◌, ◌^◌, ◌≤◌, ◌<◌, min}
-use native.Mathlib.Nat.{not-suc-le-zero, lt_of_lt_of_le, zero-mul, mul-zero, one-mul, mul-add, mul_comm, mul-le-mul_left, div-eq_of_lt, div-eq-sub-div, div-one, two-pow-succ, sub-add_cancel}
+use native.Mathlib.Nat.{not-suc-le-zero, lt_of_lt_of_le, zero-mul, one-mul, div-eq_of_lt, div-eq-sub-div, div-one, two-pow-succ, sub-add_cancel}
 use native.Mathlib.Numerals.{one-add}
-use native.Mathlib.Decide.{dec_le, dec_lt, ℕ_discrete}
+use native.Mathlib.Decide.{dec_le, dec_lt}
 use native.Mathlib.Omega.{arith}
-use borrow.Author.Tests.{eqb-true}
 use lib.Dec.{eqb, eqb-suc-suc}
 use lib.Pow.{pow_pos, pow_mono, shr-shr}
 use lib.ListN.{length, get_or-eq_default}
 use Rattle.order.specs.Sum.{sum, delta}
-use Rattle.order.proofs.Booleans.{bool_cases, and-iff, if-iff, leb-iff, ltb_iff}
-use Rattle.order.proofs.Sums.{sum-cong, sum_mono, sum-none, sum-const, sum-add, sum-scale, sum-exchange, sum-term, sum-index, sum-delta, sum-point, delta-same, delta-other, delta-sym}
+use Rattle.order.proofs.Booleans.{and-iff, if-iff, leb-iff, ltb_iff}
+use Rattle.order.proofs.Sums.{sum-cong, sum-none, sum-scale, sum-exchange, sum-term, delta-same, delta-other}
 use Rattle.order.proofs.Ranges.{sum-groups}
 use Rattle.order.proofs.Extremes.{allb-iff, largest-cong}
-use Rattle.model.specs.Plan.{Plan, machines, places, domain, domains, domain_size, block_count, block_of, is_paired, partner, upper}
+use Rattle.model.specs.Plan.{Plan, machines, domain, domains, domain_size, block_count, block_of, is_paired, partner, upper}
 use Rattle.model.specs.Replication.{copy_limit, FeasibleCounts, share, largest_share}
 use Rattle.model.specs.Placement.{bit, word_of, held, replicas, replicas_in, domains_used, count_of, used, Feasible, all_within, all_spread, all_fit, kept_apart, all_apart, counts_feasible, is_feasible, share_of, load, max_share}
 use Rattle.theory.specs.Refusal.{Shaped, Valid}
@@ -99,17 +98,6 @@ bit-add-below w (suc M) (suc n) h l off =
     let later = bit-add-below (w / 2) M n (omega arith) (omega arith) (sym (bit_high w n) ∙ off) in
     omega arith
 
--- two words of M bits that agree in each are one
-pub bit-same : (M w u : ℕ) → w < 2 ^ M → u < 2 ^ M → ((k : ℕ) → k < M → bit w k ≡ bit u k) → w ≡ u
-bit-same zero w u hw hu e = omega arith
-bit-same (suc M) w u hw hu e =
-    let p = two-pow-succ M in
-    let low : w % 2 ≡ u % 2 = sym (bit-low w) ∙ e 0 (omega arith) ∙ bit-low u in
-    let high : w / 2 ≡ u / 2 =
-    bit-same M (w / 2) (u / 2) (omega arith) (omega arith) (λ k l. sym (bit_high w k) ∙ e (suc k) (omega arith) ∙ bit_high u k)
-    in
-    omega arith
-
 odd-before : (q r : ℕ) → q ≡ r + 1 → q % 2 ≡ 1 → r % 2 ≡ 0
 odd-before q r e odd = omega arith
 
@@ -142,24 +130,6 @@ held_word words m i on = go (dec_lt i (length words))
 pub held-apart : (words : List ℕ) (m i j : ℕ) → held words m i ≡ 1 → held words m j ≡ 0 → j ≡ i → ⊥
 held-apart words m i j on off e = omega (arith, ap (held words m) e)
 
--- ── replicas ─────────────────────────────────────────────────────────────────────────────────────
-pub replicas-zero : (p : Plan) → replicas p 0 ≡ 0
-unfolding replicas
-replicas-zero p = sum-cong (machines p) (bit 0) (λ m. 0) (λ m l. bit-zero m) ∙ sum-none (machines p)
-
--- a word with more bits has no fewer copies
-pub replicas-mono : (p : Plan) (w u : ℕ) → ((k : ℕ) → bit w k ≤ bit u k) → replicas p w ≤ replicas p u
-unfolding replicas
-replicas-mono p w u le = sum_mono (machines p) (bit w) (bit u) (λ k l. le k)
-
--- a copy more
-pub replicas-add : (p : Plan) (w n : ℕ) → n < machines p → bit w n ≡ 0 → replicas p (w + 2 ^ n) ≡ replicas p w + 1
-unfolding replicas
-replicas-add p w n l off =
-    sum-cong (machines p) (bit (w + 2 ^ n)) (λ k. bit w k + delta n k) (λ k h. bit-add w n off k ∙ ap (λ (x : ℕ). bit w k + x) (delta-sym k n))
-    ∙ sum-add (machines p) (bit w) (delta n)
-    ∙ ap (λ (x : ℕ). sum (machines p) (bit w) + x) (sum-point (machines p) n l)
-
 -- ── replicas_in ───────────────────────────────────────────────────────────────────────────────────
 pick : (t : Bool) (x : ℕ) → cond t x 0 ≡ cond t 1 0 * x
 pick true x = sym (one-mul x)
@@ -185,49 +155,11 @@ replicas_in-turns p shaped w d l =
     ∙ sum-exchange (turns p) p.rack_size (λ q x. bit w (q * (domains p * p.rack_size) + (d * p.rack_size + x)))
 
 -- a copy counts in its domain
-pub replicas_in-held : (p : Plan) (w m : ℕ) → m < machines p → bit w m ≤ replicas_in p w (domain p m)
+replicas_in-held : (p : Plan) (w m : ℕ) → m < machines p → bit w m ≤ replicas_in p w (domain p m)
 replicas_in-held p w m l =
     let term = sum-term (machines p) (λ k. delta (domain p k) (domain p m) * bit w k) m l in
     rw (replicas_in-delta p w (domain p m))
     (rw (delta-same (domain p m) (domain p m) refl, one-mul (bit w m)) at term)
-
--- a domain with a copy has a machine that holds it
-pub replicas_in-some : (p : Plan) (w d : ℕ) → 0 < replicas_in p w d → (m : ℕ) × (m < machines p) × (domain p m ≡ d) × (bit w m ≡ 1)
-unfolding replicas_in
-replicas_in-some p w d some =
-    let found = sum-index (machines p) (λ m. 0) (λ m. cond (eqb (domain p m) d) (bit w m) 0) (rw (sum-none (machines p)) some) in
-    let m = found.0 in
-    let here = go m (bool_cases (eqb (domain p m) d)) found.2 in
-    (m, found.1, here.0, here.1)
-  where
-    go : (m : ℕ) → (eqb (domain p m) d ≡ true) ⊎ (eqb (domain p m) d ≡ false) → 0 < cond (eqb (domain p m) d) (bit w m) 0
-        → (domain p m ≡ d) × (bit w m ≡ 1)
-    go m (inl e) l = let on = rw e at l in (eqb-true (domain p m) d e, omega (arith, bit_le w m))
-    go m (inr e) l = let on = rw e at l in absurd (omega arith)
-
-pub replicas_in-zero : (p : Plan) (d : ℕ) → replicas_in p 0 d ≡ 0
-replicas_in-zero p d =
-    replicas_in-delta p 0 d
-    ∙ sum-cong (machines p) _ (λ m. 0) (λ m l. ap (λ (x : ℕ). delta (domain p m) d * x) (bit-zero m) ∙ mul-zero (delta (domain p m) d))
-    ∙ sum-none (machines p)
-
-pub replicas_in-mono : (p : Plan) (w u d : ℕ) → ((k : ℕ) → bit w k ≤ bit u k) → replicas_in p w d ≤ replicas_in p u d
-replicas_in-mono p w u d le =
-    rw (replicas_in-delta p w d, replicas_in-delta p u d)
-    (sum_mono (machines p) _ _ (λ m l. mul-le-mul_left (delta (domain p m) d) (le m)))
-
--- a copy more is one more in its domain
-pub replicas_in-add : (p : Plan) (w n d : ℕ) → n < machines p → bit w n ≡ 0 → replicas_in p (w + 2 ^ n) d ≡ replicas_in p w d + delta (domain p n) d
-replicas_in-add p w n d l off =
-    replicas_in-delta p (w + 2 ^ n) d
-    ∙ sum-cong (machines p) _ (λ k. weight k * bit w k + delta k n * weight k)
-    (λ k h. ap (λ (x : ℕ). weight k * x) (bit-add w n off k) ∙ mul-add (weight k) (bit w k) (delta k n)
-    ∙ ap (λ (x : ℕ). weight k * bit w k + x) (mul_comm (weight k) (delta k n)))
-    ∙ sum-add (machines p) (λ k. weight k * bit w k) (λ k. delta k n * weight k)
-    ∙ (omega (arith, replicas_in-delta p w d, sum-delta (machines p) n weight l))
-  where
-    weight : ℕ → ℕ
-    weight k = delta (domain p k) d
 
 -- ── domains_used ──────────────────────────────────────────────────────────────────────────────────
 -- a word with a copy lies in a domain
@@ -236,50 +168,6 @@ unfolding domains_used
 domains_used-pos p shaped w m l on =
     let used = replicas_in-held p w m l in
     omega (arith, sum-term (domains p) (λ d. min 1 (replicas_in p w d)) (domain p m) (domain-lt p shaped m))
-
-pub domains_used-zero : (p : Plan) → domains_used p 0 ≡ 0
-unfolding domains_used
-domains_used-zero p =
-    sum-cong (domains p) (λ d. min 1 (replicas_in p 0 d)) (λ d. 0) (λ d l. ap (min 1) (replicas_in-zero p d)) ∙ sum-none (domains p)
-
-pub domains_used-mono : (p : Plan) (w u : ℕ) → ((k : ℕ) → bit w k ≤ bit u k) → domains_used p w ≤ domains_used p u
-unfolding domains_used
-domains_used-mono p w u le =
-    sum_mono (domains p) (λ d. min 1 (replicas_in p w d)) (λ d. min 1 (replicas_in p u d))
-    (λ d l. let more = replicas_in-mono p w u d le in omega arith)
-
--- a copy in a domain that had none: one domain more
-pub domains_used-add : (p : Plan) → Shaped p → (w n : ℕ) → n < machines p → replicas_in p w (domain p n) ≡ 0
-    → domains_used p (w + 2 ^ n) ≡ domains_used p w + 1
-unfolding domains_used
-domains_used-add p shaped w n l none =
-    sum-cong (domains p) _ (λ d. min 1 (replicas_in p w d) + delta (domain p n) d) (λ d h. at d (ℕ_discrete (domain p n) d))
-    ∙ sum-add (domains p) (λ d. min 1 (replicas_in p w d)) (delta (domain p n))
-    ∙ ap (λ (x : ℕ). sum (domains p) (λ d. min 1 (replicas_in p w d)) + x) (sum-point (domains p) (domain p n) (domain-lt p shaped n))
-  where
-    off : bit w n ≡ 0
-    off = omega (arith, replicas_in-held p w n l)
-
-    at : (d : ℕ) → Dec (domain p n ≡ d) → min 1 (replicas_in p (w + 2 ^ n) d) ≡ min 1 (replicas_in p w d) + delta (domain p n) d
-    at d (yes e) =
-        let here : replicas_in p w d ≡ 0 = rw (← e) none in
-        let one = delta-same (domain p n) d e in
-        omega (arith, replicas_in-add p w n d l off)
-    at d (no h) =
-        let same = delta-other (domain p n) d h in
-        omega (arith, replicas_in-add p w n d l off)
-
--- ── used ─────────────────────────────────────────────────────────────────────────────────────────
--- all copies, counted by block and by machine
-pub used-total : (p : Plan) (words : List ℕ) → sum (block_count p) (count_of p words) ≡ sum (machines p) (used p words)
-unfolding replicas used
-used-total p words = sum-exchange (block_count p) (machines p) (λ i m. held words m i)
-
--- where no machine is above its capacity, they are at most as many as the places
-pub used-places : (p : Plan) (words : List ℕ) → ((m : ℕ) → m < machines p → used p words m ≤ p.capacity)
-    → sum (block_count p) (count_of p words) ≤ places p
-used-places p words fits =
-    omega (arith, used-total p words, sum_mono (machines p) (used p words) (λ m. p.capacity) fits, sum-const (machines p) p.capacity)
 
 -- ── Feasible ─────────────────────────────────────────────────────────────────────────────────────
 -- lawful at counts, lawful at those that agree on the blocks
@@ -301,10 +189,14 @@ feasible-own p count words f = feasible-same p count (count_of p words) words (�
 
 -- a block with copies has a word
 pub feasible-length : (p : Plan) → Valid p → (count : ℕ → ℕ) (words : List ℕ) → Feasible p count words → block_count p ≤ length words
+unfolding replicas
 feasible-length p valid count words f = go (dec_le (block_count p) (length words))
   where
     none : count_of p words (length words) ≡ 0
-    none = ap (replicas p) (get_or-eq_default words 0 (omega arith)) ∙ replicas-zero p
+    none =
+        ap (replicas p) (get_or-eq_default words 0 (omega arith))
+        ∙ sum-cong (machines p) (bit 0) (λ m. 0) (λ m l. bit-zero m)
+        ∙ sum-none (machines p)
 
     go : Dec (block_count p ≤ length words) → block_count p ≤ length words
     go (yes l) = l

@@ -15,11 +15,10 @@ use lib.Dec.{leb, ltb, eqb, lit≤}
 use lib.ListN.{length}
 use Rattle.order.proofs.Booleans.{no-contradiction, and-iff, eqb-iff, or-false, or3-false, pos-eqb, in-range}
 use Rattle.order.proofs.Searches.{first-none, none_below, first-all}
-use Rattle.model.specs.Plan.{Block, Plan, places, domains, block_count, block_of, marks_pair, pairs_next, upper, min_total, common_length, latest_version, Format, format_in, header_length, record_at, plan_in, unbudgeted, mark_in, version_in, racks_in, rack_size_in, feeds_in, capacity_in, block_count_in}
-use Rattle.model.specs.Refusal.{refuse_if, or_else, is_refusal, mark, max_machines, max_capacity, max_blocks, check1, check2, check3, check4, check22, check5, check6, check7, check8, check9, alike, check17, check23, check10, check11, check12, block_refusal, blocks_refusal, pair_refusal, pairs_refusal, budget_refusal, plan_refusal_in, plan_refusal, refusal_in, refusal, refused, accepted, verdict, plan_for, judge_in, judge}
+use Rattle.model.specs.Plan.{Block, Plan, places, domains, block_count, block_of, marks_pair, pairs_next, upper, min_total, common_length, latest_version, Format, format_in, header_length, record_at, plan_in, mark_in, version_in, racks_in, rack_size_in, feeds_in, capacity_in, block_count_in}
+use Rattle.model.specs.Refusal.{refuse_if, or_else, is_refusal, mark, max_machines, max_capacity, max_blocks, check1, check2, check3, check4, check22, check5, check6, check7, check8, check9, alike, check17, check23, check10, check11, check12, block_refusal, blocks_refusal, pair_refusal, pairs_refusal, plan_refusal, refusal, refused, accepted, verdict, judge}
 use Rattle.theory.specs.Refusal.{ValidBlock, ValidPair, Shaped, Valid, PastRow17, PastRow23, AcceptedLaws}
 use Rattle.theory.proofs.Plan.{plan_in-block_count}
-use Rattle.theory.proofs.Running.{unbudgeted-valid}
 
 -- ── refuse_if ─────────────────────────────────────────────────────────────────────────────────────
 -- a check that gives 0 has a false condition, and so have the later ones
@@ -45,10 +44,6 @@ and_no false = refl
 pub or_else-some : (code later : ℕ) → (code ≡ 0 → ⊥) → or_else code later ≡ code
 or_else-some zero later h = absurd (h refl)
 or_else-some (suc code) later h = refl
-
-pub or_else-zero : (code later : ℕ) → or_else code later ≡ 0 → (code ≡ 0) × (later ≡ 0)
-or_else-zero zero later e = (refl, e)
-or_else-zero (suc code) later e = absurd (omega (arith, e))
 
 pub or_else-all : (P : ℕ → Type 0) (code later : ℕ) → P code → P later → P (or_else code later)
 or_else-all P zero later here else = else
@@ -161,22 +156,23 @@ unfolding check12
 check12-enough lent count later l = rw (le-ltb lent count l)
 
 -- ── block_refusal ─────────────────────────────────────────────────────────────────────────────────
--- what rows 8 and 9 leave of a block's entries
-pub entries-zero : (most all least spread : ℕ) → check8 most least (check9 all least spread 0) ≡ 0
-    → (1 ≤ least) × (least ≤ most) × (1 ≤ spread) × (spread ≤ least) × (spread ≤ all)
-unfolding check8 check9
-entries-zero most all least spread e =
+block_refusal-zero : (p : Plan) (i : ℕ) → block_refusal p i ≡ 0 → ValidBlock p i
+unfolding block_refusal check8 check9
+block_refusal-zero p i e =
+    let b = block_of p i in
     let z8 = refuse_if-zero _ _ _ e in
     let z9 = refuse_if-zero _ _ _ z8.1 in
-    let range = in-range least most z8.0 in
-    let parts = or3-false (eqb spread 0) (ltb least spread) (ltb all spread) z9.0 in
-    (range.0, range.1, pos_of_ne-zero (eqb-false _ _ parts.0), ltb-false _ _ parts.1, ltb-false _ _ parts.2)
-
-block_refusal-zero : (p : Plan) (i : ℕ) → block_refusal p i ≡ 0 → ValidBlock p i
-unfolding block_refusal
-block_refusal-zero p i e =
-    let z = entries-zero (upper p i) (domains p) (block_of p i).min_replicas (block_of p i).min_domains e in
-    record { min-pos = z.0; min-upper = z.1; domains-pos = z.2; domains-min = z.3; domains-all = z.4 }
+    let range = in-range b.min_replicas (upper p i) z8.0 in
+    let parts =
+    or3-false (eqb b.min_domains 0) (ltb b.min_replicas b.min_domains) (ltb (domains p) b.min_domains) z9.0
+    in
+    record {
+      min-pos = range.0;
+      min-upper = range.1;
+      domains-pos = pos_of_ne-zero (eqb-false _ _ parts.0);
+      domains-min = ltb-false _ _ parts.1;
+      domains-all = ltb-false _ _ parts.2;
+    }
 
 pub block_refusal-valid : (p : Plan) (i : ℕ) → ValidBlock p i → block_refusal p i ≡ 0
 unfolding block_refusal check8 check9
@@ -296,13 +292,12 @@ pairs_refusal-cases p =
 abbrev pub total_refusal : Plan → ℕ
 total_refusal p = check10 p.budget (min_total p) (check11 (places p) (min_total p) 0)
 
--- Row 11 alone, which a running hall is left with.
-abbrev pub places_refusal : Plan → ℕ
-places_refusal p = check11 (places p) (min_total p) 0
+abbrev pub budget_refusal : Plan → ℕ
+budget_refusal p = check23 p.version (places p) p.budget (total_refusal p)
 
-pub plan_refusal-shaped : (running : Bool) (p : Plan) → Shaped p → plan_refusal_in running p ≡ budget_refusal running p (places_refusal p)
-unfolding plan_refusal_in blocks_refusal pairs_refusal
-plan_refusal-shaped running p shaped =
+pub plan_refusal-shaped : (p : Plan) → Shaped p → plan_refusal p ≡ budget_refusal p
+unfolding plan_refusal blocks_refusal pairs_refusal
+plan_refusal-shaped p shaped =
     let n = block_count p in
     rw (
       first-none is_refusal 0 refl (block_refusal p) n (λ i l. ap is_refusal (block_refusal-valid p i (shaped.block i l))),
@@ -312,43 +307,31 @@ plan_refusal-shaped running p shaped =
 pub plan_refusal-valid : (p : Plan) → Valid p → plan_refusal p ≡ 0
 unfolding check10 check11
 plan_refusal-valid p valid =
-    plan_refusal-shaped false p valid.shaped
+    plan_refusal-shaped p valid.shaped
     ∙ check23-passed p.version (places p) p.budget (total_refusal p) valid.budget-usable
     ∙ (rw (le-ltb p.budget (min_total p) valid.in-budget, le-ltb (places p) (min_total p) valid.in-places))
 
--- in a running hall row 11 decides
-pub plan_refusal-running : (p : Plan) → Shaped p → min_total p ≤ places p → plan_refusal_in true p ≡ 0
-unfolding check11
-plan_refusal-running p shaped room = plan_refusal-shaped true p shaped ∙ (rw (le-ltb (places p) (min_total p) room))
-
 -- the numbers of its rows
-pub plan_refusal-cases : (running : Bool) (p : Plan) → (plan_refusal_in running p ≤ 17) ⊎ (plan_refusal_in running p ≡ 23)
-unfolding plan_refusal_in check23 check10 check11
-plan_refusal-cases running p =
+pub plan_refusal-cases : (p : Plan) → (plan_refusal p ≤ 17) ⊎ (plan_refusal p ≡ 23)
+unfolding plan_refusal check23 check10 check11
+plan_refusal-cases p =
     or_else-all Row (blocks_refusal p) _ (inl (le_trans (blocks_refusal-le p) (lit≤ tt)))
     (or_else-all Row (pairs_refusal p) _ (inl (⊎_elim (λ e. omega (arith, e)) (λ e. omega (arith, e)) (pairs_refusal-cases p)))
-    (budget running))
+    (refuse_if-all Row (leb 4 p.version && ltb (places p) p.budget) 23 _ (inr refl)
+    (refuse_if-all Row (ltb p.budget (min_total p)) 10 _ (inl (lit≤ tt))
+    (refuse_if-all Row (ltb (places p) (min_total p)) 11 0 (inl (lit≤ tt)) (inl (lit≤ tt))))))
   where
     Row : ℕ → Type 0
     Row n = (n ≤ 17) ⊎ (n ≡ 23)
 
-    places_row : Row (refuse_if (ltb (places p) (min_total p)) 11 0)
-    places_row = refuse_if-all Row (ltb (places p) (min_total p)) 11 0 (inl (lit≤ tt)) (inl (lit≤ tt))
-
-    budget : (running : Bool) → Row (budget_refusal running p (refuse_if (ltb (places p) (min_total p)) 11 0))
-    budget true = places_row
-    budget false =
-        refuse_if-all Row (leb 4 p.version && ltb (places p) p.budget) 23 _ (inr refl)
-        (refuse_if-all Row (ltb p.budget (min_total p)) 10 _ (inl (lit≤ tt)) places_row)
-
-plan_refusal-le : (running : Bool) (p : Plan) → plan_refusal_in running p ≤ 23
-plan_refusal-le running p = ⊎_elim (λ l. le_trans l (lit≤ tt)) (λ e. omega (arith, e)) (plan_refusal-cases running p)
+plan_refusal-le : (p : Plan) → plan_refusal p ≤ 23
+plan_refusal-le p = ⊎_elim (λ l. le_trans l (lit≤ tt)) (λ e. omega (arith, e)) (plan_refusal-cases p)
 
 -- ── refusal ──────────────────────────────────────────────────────────────────────────────────────
 -- a plan's refusal has a number up to 23
-pub refusal-le : (running : Bool) (bytes : List ℕ) → refusal_in running bytes ≤ 23
-unfolding refusal_in check1 check2 check3 check4 check22 check5 check6 check7
-refusal-le running bytes =
+pub refusal-le : (bytes : List ℕ) → refusal bytes ≤ 23
+unfolding refusal check1 check2 check3 check4 check22 check5 check6 check7
+refusal-le bytes =
     let r = racks_in bytes in
     let s = rack_size_in bytes in
     let f = feeds_in bytes in
@@ -362,7 +345,7 @@ refusal-le running bytes =
     (row (eqb c 0 || ltb max_capacity c) 5 _ (lit≤ tt)
     (row (leb (header_length (format_in bytes)) (length bytes) && ltb max_blocks b) 6 _ (lit≤ tt)
     (row (not (eqb (length bytes) (record_at (format_in bytes) b))) 7 _ (lit≤ tt)
-    (plan_refusal-le running (plan_in bytes)))))))))
+    (plan_refusal-le (plan_in bytes)))))))))
   where
     row : (t : Bool) (code later : ℕ) → code ≤ 23 → later ≤ 23 → refuse_if t code later ≤ 23
     row = refuse_if-all (λ n. n ≤ 23)
@@ -398,13 +381,13 @@ module _ (code : ℕ) (past : PastRow17 code) where
   or_else-past (suc row) later early e = absurd (not-row (suc row) (omega arith) early e)
 
 -- what rows 1 to 9, 17 and 22 leave
-rows-past : (running : Bool) (code : ℕ) → PastRow17 code → (bytes : List ℕ) → refusal_in running bytes ≡ code
+rows-past : (code : ℕ) → PastRow17 code → (bytes : List ℕ) → refusal bytes ≡ code
     → (1 ≤ racks_in bytes) × (1 ≤ rack_size_in bytes) × (racks_in bytes * rack_size_in bytes ≤ max_machines)
     × (1 ≤ feeds_in bytes) × (racks_in bytes % feeds_in bytes ≡ 0) × (1 ≤ capacity_in bytes) × (capacity_in bytes ≤ max_capacity) × (block_count_in bytes ≤ max_blocks)
     × (length bytes ≡ record_at (format_in bytes) (block_count_in bytes)) × (blocks_refusal (plan_in bytes) ≡ 0) × (pairs_refusal (plan_in bytes) ≡ 0)
-    × (budget_refusal running (plan_in bytes) (places_refusal (plan_in bytes)) ≡ code)
-unfolding refusal_in check1 check2 check3 check4 check22 check5 check6 check7 plan_refusal_in
-rows-past running code past bytes e =
+    × (budget_refusal (plan_in bytes) ≡ code)
+unfolding refusal check1 check2 check3 check4 check22 check5 check6 check7 plan_refusal
+rows-past code past bytes e =
     let r = racks_in bytes in
     let s = rack_size_in bytes in
     let f = feeds_in bytes in
@@ -431,11 +414,11 @@ rows-past running code past bytes e =
     pairs-early (inl e) = inr (omega (arith, e), omega (arith, e))
     pairs-early (inr e) = inl (omega (arith, e))
 
-module _ (running : Bool) (bytes : List ℕ) (past : PastRow17 (refusal_in running bytes)) where
+module _ (bytes : List ℕ) (past : PastRow17 (refusal bytes)) where
   pub refusal-shaped : Shaped (plan_in bytes)
   unfolding plan_in
   refusal-shaped =
-      let z = rows-past running (refusal_in running bytes) past bytes refl in
+      let z = rows-past (refusal bytes) past bytes refl in
       record {
         racks-pos = z.0;
         size-pos = z.1;
@@ -450,16 +433,16 @@ module _ (running : Bool) (bytes : List ℕ) (past : PastRow17 (refusal_in runni
       }
 
   pub refusal-length : length bytes ≡ record_at (format_in bytes) (block_count_in bytes)
-  refusal-length = (rows-past running (refusal_in running bytes) past bytes refl).8
+  refusal-length = (rows-past (refusal bytes) past bytes refl).8
 
-  pub refusal-budget : refusal_in running bytes ≡ budget_refusal running (plan_in bytes) (places_refusal (plan_in bytes))
-  refusal-budget = sym (rows-past running (refusal_in running bytes) past bytes refl).11
+  pub refusal-budget : refusal bytes ≡ budget_refusal (plan_in bytes)
+  refusal-budget = sym (rows-past (refusal bytes) past bytes refl).11
 
 -- past row 23, a budget of version 4 can be used, and rows 10 and 11 decide
 module _ (bytes : List ℕ) (past : PastRow23 (refusal bytes)) where
   pub refusal-usable : 4 ≤ (plan_in bytes).version → (plan_in bytes).budget ≤ places (plan_in bytes)
   refusal-usable late = elim (dec_lt (places (plan_in bytes)) (plan_in bytes).budget) [
-    | yes above ↦ absurd (not23 past (refusal-budget false bytes (inr past) ∙ check23-above _ _ _ _ late above))
+    | yes above ↦ absurd (not23 past (refusal-budget bytes (inr past) ∙ check23-above _ _ _ _ late above))
     | no within ↦ omega arith
   ]
     where
@@ -469,7 +452,7 @@ module _ (bytes : List ℕ) (past : PastRow23 (refusal bytes)) where
       not23 (inr (inr is)) e = omega (arith, is, e)
 
   pub refusal-total : refusal bytes ≡ total_refusal (plan_in bytes)
-  refusal-total = refusal-budget false bytes (inr past) ∙ check23-passed _ _ _ (total_refusal (plan_in bytes)) refusal-usable
+  refusal-total = refusal-budget bytes (inr past) ∙ check23-passed _ _ _ (total_refusal (plan_in bytes)) refusal-usable
 
 -- a plan that no row turns back
 pub refusal-zero : (bytes : List ℕ) → refusal bytes ≡ 0 → Valid (plan_in bytes)
@@ -477,40 +460,24 @@ refusal-zero bytes e =
     let past : PastRow23 (refusal bytes) = inr (inr e) in
     let z10 = check10-zero _ _ _ (sym (refusal-total bytes past) ∙ e) in
     let z11 = check11-zero _ _ _ z10.1 in
-    record { shaped = refusal-shaped false bytes (inr past); budget-usable = refusal-usable bytes past; in-budget = z10.0; in-places = z11.0 }
-
--- what a running hall is left with: the shape, and room for the least copies
-pub refusal-running : (bytes : List ℕ) → refusal_in true bytes ≡ 0 → Valid (unbudgeted (plan_in bytes))
-refusal-running bytes e =
-    let past : PastRow17 (refusal_in true bytes) = inr (inr (inr e)) in
-    let z = check11-zero _ _ _ (sym (refusal-budget true bytes past) ∙ e) in
-    unbudgeted-valid (plan_in bytes) (refusal-shaped true bytes past) z.0
-
-pub refusal-valid : (running : Bool) (bytes : List ℕ) → refusal_in running bytes ≡ 0 → Valid (plan_for running bytes)
-refusal-valid true bytes e = refusal-running bytes e
-refusal-valid false bytes e = refusal-zero bytes e
-
-pub plan_for-blocks : (running : Bool) (bytes : List ℕ) → block_count (plan_for running bytes) ≡ block_count (plan_in bytes)
-plan_for-blocks true bytes = refl
-plan_for-blocks false bytes = refl
+    record { shaped = refusal-shaped bytes (inr past); budget-usable = refusal-usable bytes past; in-budget = z10.0; in-places = z11.0 }
 
 -- ── judge ────────────────────────────────────────────────────────────────────────────────────────
-pub judge-refused : (running : Bool) (bytes : List ℕ) (code : ℕ) → refusal_in running bytes ≡ code → 1 ≤ code
-    → judge_in running bytes ≡ refused code
-unfolding judge_in
-judge-refused running bytes zero e l = absurd (omega arith)
-judge-refused running bytes (suc code) e l = ap (λ (n : ℕ). verdict n (plan_for running bytes)) e
+pub judge-refused : (bytes : List ℕ) (code : ℕ) → refusal bytes ≡ code → 1 ≤ code → judge bytes ≡ refused code
+unfolding judge
+judge-refused bytes zero e l = absurd (omega arith)
+judge-refused bytes (suc code) e l = ap (λ (n : ℕ). verdict n (plan_in bytes)) e
 
-pub judge-accepted : (running : Bool) (bytes : List ℕ) → refusal_in running bytes ≡ 0 → judge_in running bytes ≡ accepted (plan_for running bytes)
-unfolding judge_in
-judge-accepted running bytes e = ap (λ (n : ℕ). verdict n (plan_for running bytes)) e
+pub judge-accepted : (bytes : List ℕ) → refusal bytes ≡ 0 → judge bytes ≡ accepted (plan_in bytes)
+unfolding judge
+judge-accepted bytes e = ap (λ (n : ℕ). verdict n (plan_in bytes)) e
 
 -- a refusal has a number
-pub judge-some : (running : Bool) (bytes : List ℕ) (code : ℕ) → judge_in running bytes ≡ refused code → 1 ≤ code
-unfolding judge_in
-judge-some running bytes code e = go (refusal_in running bytes) e
+pub judge-some : (bytes : List ℕ) (code : ℕ) → judge bytes ≡ refused code → 1 ≤ code
+unfolding judge
+judge-some bytes code e = go (refusal bytes) e
   where
-    go : (n : ℕ) → verdict n (plan_for running bytes) ≡ refused code → 1 ≤ code
+    go : (n : ℕ) → verdict n (plan_in bytes) ≡ refused code → 1 ≤ code
     go zero e = absurd (let z : ◌≡◌ {A = ℕ} 0 1 = cc in omega arith)
     go (suc n) e = let same : suc n ≡ code = cc in omega arith
 
@@ -518,45 +485,24 @@ pub verdict-accepted : (code : ℕ) (p q : Plan) → verdict code p ≡ accepted
 verdict-accepted zero p q e = (refl, cc)
 verdict-accepted (suc code) p q e = absurd (let z : ◌≡◌ {A = ℕ} 0 1 = cc in omega arith)
 
-pub judge-passed : (running : Bool) (bytes : List ℕ) (p : Plan) → judge_in running bytes ≡ accepted p → refusal_in running bytes ≡ 0
-unfolding judge_in
-judge-passed running bytes p e = (verdict-accepted (refusal_in running bytes) (plan_for running bytes) p e).0
-
 -- An accepted plan is the one that the bytes hold, it is valid, and its length is that of its header and B records.
 pub accepted-laws : AcceptedLaws
-unfolding judge_in
-accepted-laws running bytes p e =
-    let z = verdict-accepted (refusal_in running bytes) (plan_for running bytes) p e in
+unfolding judge
+accepted-laws bytes p e =
+    let z = verdict-accepted (refusal bytes) (plan_in bytes) p e in
     record {
       held = sym z.1;
-      valid = rw z.1 at (refusal-valid running bytes z.0);
-      length-is =
-          refusal-length running bytes (inr (inr (inr z.0)))
-          ∙ ap (record_at (format_in bytes)) (sym (plan_in-block_count bytes) ∙ sym (plan_for-blocks running bytes) ∙ ap block_count z.1);
+      valid = rw z.1 at (refusal-zero bytes z.0);
+      length-is = refusal-length bytes (inr (inr (inr z.0))) ∙ ap (record_at (format_in bytes)) (sym (plan_in-block_count bytes) ∙ ap block_count z.1);
     }
 
 -- an accepted plan's bytes pass rows 2 and 3
-pub accepted-mark : (running : Bool) (bytes : List ℕ) (p : Plan) → judge_in running bytes ≡ accepted p
+pub accepted-mark : (bytes : List ℕ) (p : Plan) → judge bytes ≡ accepted p
     → (mark_in bytes ≡ mark) × (1 ≤ version_in bytes) × (version_in bytes ≤ latest_version)
-unfolding judge_in refusal_in check1 check2 check3
-accepted-mark running bytes p e =
-    let z1 = refuse_if-zero (ltb (length bytes) common_length) 0 _ (verdict-accepted (refusal_in running bytes) (plan_for running bytes) p e).0 in
+unfolding judge refusal check1 check2 check3
+accepted-mark bytes p e =
+    let z1 = refuse_if-zero (ltb (length bytes) common_length) 0 _ (verdict-accepted (refusal bytes) (plan_in bytes) p e).0 in
     let z2 = refuse_if-zero (not (eqb (mark_in bytes) mark)) 1 _ z1.1 in
     let z3 = refuse_if-zero (eqb (version_in bytes) 0 || ltb latest_version (version_in bytes)) 2 _ z2.1 in
     let range = in-range (version_in bytes) latest_version z3.0 in
     (eqb-true (mark_in bytes) mark (not-false _ z2.0), range.0, range.1)
-
--- the header's rows are the same: where the plan's give the same code, so do all
-pub refusal-same : (bytes : List ℕ) → plan_refusal_in true (plan_in bytes) ≡ plan_refusal_in false (plan_in bytes)
-    → refusal_in true bytes ≡ refusal_in false bytes
-unfolding refusal_in
-refusal-same bytes e = rw e
-
--- a plan that is accepted with its budget is accepted without it, in a running hall
-pub accepted-running : (bytes : List ℕ) (p : Plan) → judge bytes ≡ accepted p → judge_in true bytes ≡ accepted (unbudgeted p)
-unfolding judge_in
-accepted-running bytes p e =
-    let z = verdict-accepted (refusal bytes) (plan_in bytes) p e in
-    let valid = refusal-zero bytes z.0 in
-    let rows = plan_refusal-running (plan_in bytes) valid.shaped valid.in-places ∙ sym (plan_refusal-valid (plan_in bytes) valid) in
-    judge-accepted true bytes (refusal-same bytes rows ∙ z.0) ∙ ap (λ (q : Plan). accepted (unbudgeted q)) z.1

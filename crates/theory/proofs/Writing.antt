@@ -6,20 +6,20 @@ use mathlib.Core.List.{List, [], ◌∷◌, ◌++◌, append_assoc}
 use Prim.Native.Nat.{ℕ, zero, suc, ◌+◌, ◌*◌, ◌-◌, ◌/◌, ◌%◌, ◌^◌, ◌<◌, ◌≤◌}
 use native.Mathlib.Nat.{pow-suc, mul_comm, mul-le-mul_left, mul-le-mul_right, add-zero, not-suc-le-zero}
 use native.Mathlib.Numerals.{add-one}
-use native.Mathlib.Decide.{ℕ_discrete, dec_lt}
+use native.Mathlib.Decide.{ℕ_discrete}
 use native.Mathlib.Omega.{arith}
 use lib.Arith.{digits_div, digits_mod}
 use lib.Dec.{eqb, lit<}
-use lib.ListN.{length, get_or, take, drop, length-append, get_or-append}
-use lib.Seq.{take-length, take-add, drop-drop, get_or-drop, take-append_seam, drop-append_seam, take-take, drop-cons, get_or-take, get_or-append-add}
+use lib.ListN.{length, get_or, take, drop, length-append}
+use lib.Seq.{take-length, take-add, drop-drop, get_or-drop, take-append_seam, drop-append_seam, take-take, drop-cons, get_or-take}
 use Rattle.order.specs.Table.{joined}
 use Rattle.order.proofs.Booleans.{pos-eqb}
 use Rattle.order.proofs.Tables.{joined_length}
 use Rattle.model.specs.Plan.{Block, Plan, machines, block_count, field, header_length, mark_in, version_in, racks_in, rack_size_in, feeds_in, capacity_in, budget_in, block_count_in, Format, format_of, min_replicas_at, min_domains_at, pair_byte_at, record_length, block_at}
 use Rattle.model.specs.Refusal.{mark}
-use Rattle.model.specs.Writing.{AreBytes, bytes_of, header_bytes, record_bytes}
+use Rattle.model.specs.Writing.{bytes_of, header_bytes, record_bytes}
 use Rattle.theory.specs.Refusal.{Shaped}
-use Rattle.theory.specs.Writing.{BlockFits, Layouts, PlanFits}
+use Rattle.theory.specs.Writing.{AreBytes, BlockFits, Layouts, PlanFits}
 use Rattle.theory.proofs.Plan.{domains-le, field_bound, field-narrow}
 
 -- ── Stands ───────────────────────────────────────────────────────────────────────────────────────
@@ -84,19 +84,6 @@ byte-stands bytes at b h =
     ap (λ (n : ℕ). get_or bytes n 0) (sym (add-zero at))
     ∙ sym (get_or-drop at bytes 0 0) ∙ sym (get_or-take 1 (drop at bytes) 0 0 (omega arith)) ∙ ap (λ (s : List ℕ). get_or s 0 0) h
 
--- ── AreBytes ─────────────────────────────────────────────────────────────────────────────────────
--- none, and two lists of them one after the other
-none-bytes : AreBytes []
-none-bytes i = omega arith
-
-pub append-bytes : (xs ys : List ℕ) → AreBytes xs → AreBytes ys → AreBytes (xs ++ ys)
-append-bytes xs ys first next i = elim (dec_lt i (length xs)) [
-  | yes l ↦ rw (get_or-append xs ys 0 i l) (first i)
-  | no l ↦
-      let place : i ≡ length xs + (i - length xs) = omega arith in
-      rw (place, get_or-append-add xs ys (i - length xs) 0) (next (i - length xs))
-]
-
 -- ── bytes_of ──────────────────────────────────────────────────────────────────────────────────────
 pub bytes_of-length : (width n : ℕ) → length (bytes_of width n) ≡ width
 unfolding bytes_of
@@ -115,15 +102,6 @@ pub bytes_of-more : (width n : ℕ) → (width ≡ 0 → ⊥) → bytes_of width
 unfolding bytes_of
 bytes_of-more zero n some = absurd (some refl)
 bytes_of-more (suc width) n some = let e : suc width - 1 ≡ width = omega arith in rw e
-
-pub bytes_of-bytes : (width n : ℕ) → AreBytes (bytes_of width n)
-unfolding bytes_of
-bytes_of-bytes zero n = none-bytes
-bytes_of-bytes (suc width) n = append-bytes (bytes_of width (n / 256)) (n % 256 ∷ []) (bytes_of-bytes width (n / 256)) one
-  where
-    one : AreBytes (n % 256 ∷ [])
-    one zero = omega arith
-    one (suc i) = omega arith
 
 -- where a number's bytes stand, that number is read
 pub bytes_of-read : (bytes : List ℕ) (at width n : ℕ) → n < 256 ^ width → Stands bytes at (bytes_of width n) → field bytes at width ≡ n
@@ -168,11 +146,6 @@ module _ (bytes : List ℕ) (at c : ℕ) (f : ℕ → List ℕ) (long : (i : ℕ
     | no d ↦ joined-each n (stands-first bytes at (joined n f) (f n) (c * n) (front_long n) h) i (omega arith)
   ]
 
-pub joined_bytes : (n : ℕ) (f : ℕ → List ℕ) → ((i : ℕ) → AreBytes (f i)) → AreBytes (joined n f)
-unfolding joined
-joined_bytes zero f each = none-bytes
-joined_bytes (suc n) f each = append-bytes (joined n f) (f n) (joined_bytes n f each) (each n)
-
 -- ── written ──────────────────────────────────────────────────────────────────────────────────────
 -- Fields, each a width and a number, written one after the other behind a piece; and where they end if it ends at k.
 abbrev written : List ℕ → List (ℕ × ℕ) → List ℕ
@@ -198,11 +171,6 @@ next-length x k long width n = simp (length-append, bytes_of-length, long)
 written-length : (x : List ℕ) (k : ℕ) → length x ≡ k → (fs : List (ℕ × ℕ)) → length (written x fs) ≡ ending k fs
 written-length x k long [] = long
 written-length x k long (f ∷ fs) = written-length (x ++ bytes_of f.0 f.1) (k + f.0) (next-length x k long f.0 f.1) fs
-
-written-bytes : (x : List ℕ) → AreBytes x → (fs : List (ℕ × ℕ)) → AreBytes (written x fs)
-written-bytes x first [] = first
-written-bytes x first (f ∷ fs) =
-    written-bytes (x ++ bytes_of f.0 f.1) (append-bytes x (bytes_of f.0 f.1) first (bytes_of-bytes f.0 f.1)) fs
 
 ending-le : (k : ℕ) (fs : List (ℕ × ℕ)) → k ≤ ending k fs
 ending-le k [] = omega arith
@@ -286,9 +254,6 @@ header_bytes-length p =
     rw (header_bytes-written p)
     (let long = written-length (bytes_of 3 mark) 3 (bytes_of-length 3 mark) (header_fields p) in omega arith)
 
-pub header_bytes-bytes : (p : Plan) → AreBytes (header_bytes p)
-header_bytes-bytes p = rw (header_bytes-written p) (written-bytes (bytes_of 3 mark) (bytes_of-bytes 3 mark) (header_fields p))
-
 -- a plan's numbers fit the header
 header-fit : (p : Plan) → Shaped p → PlanFits p → Fit (header_fields p)
 header-fit p shaped fits =
@@ -349,11 +314,6 @@ unfolding record_bytes
 record_bytes-length f b =
     let width = f.popularity_width in
     written-length (bytes_of width b.popularity) width (bytes_of-length width b.popularity) (record_fields f b)
-
-pub record_bytes-bytes : (f : Format) (b : Block) → AreBytes (record_bytes f b)
-unfolding record_bytes
-record_bytes-bytes f b =
-    written-bytes (bytes_of f.popularity_width b.popularity) (bytes_of-bytes f.popularity_width b.popularity) (record_fields f b)
 
 -- where a block's record stands, that block is read; the record of the block that is read stands where it was read, and it fits
 module _ (f : Format) (bytes : List ℕ) (at : ℕ) where

@@ -2,11 +2,9 @@
 -- read.
 -- Assumes nothing.
 use mathlib.Core.Path.{◌≡◌, refl, ap, sym, ◌∙◌}
-use mathlib.Core.Logic.{inr}
-use mathlib.Core.Bool.{false, true, Bool}
 use mathlib.Core.List.{List}
 use Prim.Native.Nat.{ℕ, suc, ◌+◌, ◌*◌, ◌<◌, ◌≤◌}
-use native.Mathlib.Nat.{zero-add, mul-le-mul_left, mul-le-mul}
+use native.Mathlib.Nat.{zero-add, mul-le-mul_left}
 use native.Mathlib.Omega.{arith}
 use borrow.Author.Tests.{le-ltb, eq-eqb}
 use lib.ListN.{length, length-append}
@@ -14,14 +12,14 @@ use lib.Seq.{ext_get_or}
 use Rattle.order.specs.Table.{table, joined}
 use Rattle.order.proofs.Booleans.{pos-eqb}
 use Rattle.order.proofs.Tables.{joined_length, length-table, get_d-table}
-use Rattle.model.specs.Plan.{Plan, machines, block_count, no_block, block_of, common_length, latest_version, mark_in, version_in, block_count_in, format_of, format_in, header_length, record_length, record_at, block_in, plan_in, unbudgeted}
-use Rattle.model.specs.Refusal.{mark, max_machines, max_capacity, max_blocks, check1, check2, check3, check4, check5, check7, plan_refusal, refusal, accepted, refusal_in, plan_for, judge_in, plan_refusal_in}
-use Rattle.model.specs.Writing.{AreBytes, header_bytes, record_bytes, plan_bytes}
+use Rattle.model.specs.Plan.{Plan, machines, block_count, no_block, block_of, common_length, latest_version, mark_in, version_in, block_count_in, format_of, format_in, header_length, record_length, record_at, block_in, plan_in}
+use Rattle.model.specs.Refusal.{mark, max_machines, max_capacity, max_blocks, check1, check2, check3, check4, check5, check7, plan_refusal, refusal, accepted}
+use Rattle.model.specs.Writing.{header_bytes, record_bytes, plan_bytes}
 use Rattle.theory.specs.Refusal.{Shaped}
-use Rattle.theory.specs.Writing.{BlockFits, PlanFits, ReadsWritten, WritesRead, AcceptedFits, RunningWritten}
+use Rattle.theory.specs.Writing.{AreBytes, BlockFits, PlanFits, ReadsWritten, WritesRead, AcceptedFits}
 use Rattle.theory.proofs.Plan.{field_bound, plan_in-block_count, plan_in-block_of}
-use Rattle.theory.proofs.Refusal.{check22-passed, check6-long, plan_refusal-valid, judge-accepted, accepted-laws, accepted-mark, plan_refusal-running, plan_for-blocks, judge-passed, refusal-shaped}
-use Rattle.theory.proofs.Writing.{append-bytes, joined_bytes, header_bytes-bytes, record_bytes-bytes, Stands, stands-all, stands-whole, stands-both, stands-first, stands-next, joined-stands, joined-each, record_bytes-length, record_bytes-read, record_bytes-stands, record_bytes-fits, HeaderIs, header_bytes-length, header_bytes-read, header_bytes-stands}
+use Rattle.theory.proofs.Refusal.{check22-passed, check6-long, plan_refusal-valid, judge-accepted, accepted-laws, accepted-mark}
+use Rattle.theory.proofs.Writing.{Stands, stands-all, stands-whole, stands-both, stands-first, stands-next, joined-stands, joined-each, record_bytes-length, record_bytes-read, record_bytes-stands, record_bytes-fits, HeaderIs, header_bytes-length, header_bytes-read, header_bytes-stands}
 
 -- ── plan_bytes ────────────────────────────────────────────────────────────────────────────────────
 -- The records of a plan's blocks, each of its format's length.
@@ -36,12 +34,6 @@ unfolding plan_bytes
 plan_bytes-length p =
     let all = joined_length (block_count p) _ (records p) (λ i l. records-length p i) in
     rw (length-append, header_bytes-length, all) (omega arith)
-
-pub plan_bytes-bytes : (p : Plan) → AreBytes (plan_bytes p)
-unfolding plan_bytes
-plan_bytes-bytes p =
-    append-bytes (header_bytes p) (joined (block_count p) (records p)) (header_bytes-bytes p)
-    (joined_bytes (block_count p) (records p) (λ i. record_bytes-bytes (format_of p.version) (block_of p i)))
 
 -- a header and records that stand one after the other are the plan's bytes, and the other way round
 module _ (bytes : List ℕ) (p : Plan) where
@@ -119,7 +111,7 @@ module _ (bytes : List ℕ) (each : AreBytes bytes) where
           let product : record_length f * suc i ≤ record_length f * block_count_in bytes = mul-le-mul_left (record_length f) l in
           rw (plan_in-block_of bytes i l) (record_bytes-stands f bytes (record_at f i) each (omega arith))
 
-  pub plan_in-fits : 1 ≤ version_in bytes → version_in bytes ≤ latest_version → PlanFits (plan_in bytes)
+  plan_in-fits : 1 ≤ version_in bytes → version_in bytes ≤ latest_version → PlanFits (plan_in bytes)
   unfolding plan_in block_in
   plan_in-fits some latest =
       record {
@@ -135,9 +127,9 @@ module _ (bytes : List ℕ) (each : AreBytes bytes) where
 
 -- ── refusal ──────────────────────────────────────────────────────────────────────────────────────
 -- the rows on the header turn no such file back
-pub refusal-written : (running : Bool) (p : Plan) → Shaped p → PlanFits p → refusal_in running (plan_bytes p) ≡ plan_refusal_in running p
-unfolding refusal_in check1 check2 check3 check4 check5 check7
-refusal-written running p shaped fits =
+pub refusal-written : (p : Plan) → Shaped p → PlanFits p → refusal (plan_bytes p) ≡ plan_refusal p
+unfolding refusal check1 check2 check3 check4 check5 check7
+refusal-written p shaped fits =
     let is = header_is p shaped fits in
     let f = format_of p.version in
     rw (
@@ -167,45 +159,20 @@ refusal-written running p shaped fits =
 -- ── judge ────────────────────────────────────────────────────────────────────────────────────────
 pub reads-written : ReadsWritten
 reads-written p valid fits =
-    judge-accepted false (plan_bytes p) (refusal-written false p valid.shaped fits ∙ plan_refusal-valid p valid)
+    judge-accepted (plan_bytes p) (refusal-written p valid.shaped fits ∙ plan_refusal-valid p valid)
     ∙ ap accepted (plan_in-written p valid.shaped fits)
-
-pub running-written : RunningWritten
-running-written p shaped room fits =
-    judge-accepted true (plan_bytes p) (refusal-written true p shaped fits ∙ plan_refusal-running p shaped room)
-    ∙ ap (λ (q : Plan). accepted (unbudgeted q)) (plan_in-written p shaped fits)
 
 pub writes-read : WritesRead
 unfolding plan_in
-writes-read running bytes each p e =
+writes-read bytes each p e =
     let f = format_in bytes in
-    let laws = accepted-laws running bytes p e in
-    let held : block_count p ≡ block_count (plan_in bytes) = ap block_count laws.held ∙ plan_for-blocks running bytes in
-    let size = laws.length-is ∙ ap (record_at f) held in
+    let laws = accepted-laws bytes p e in
+    let size = laws.length-is ∙ ap (λ (q : Plan). record_at f (block_count q)) laws.held in
     let count = ap (record_at f) (plan_in-block_count bytes) in
-    let stands = plan_in-stands bytes each (accepted-mark running bytes p e).0 (omega (arith, size, count)) in
-    stands-whole bytes (plan_bytes (plan_in bytes)) (plan_bytes-length (plan_in bytes) ∙ sym size) stands
-
--- a plan that fits its file fits it with its places for its budget
-pub unbudgeted-fits : (p : Plan) → Shaped p → PlanFits p → PlanFits (unbudgeted p)
-unbudgeted-fits p shaped fits =
-    let room = mul-le-mul shaped.machines-max shaped.capacity-max in
-    record {
-      version-pos = fits.version-pos;
-      version-max = fits.version-max;
-      feeds-racks = fits.feeds-racks;
-      budget-fits = omega (arith, room);
-      block-fits = fits.block-fits;
-    }
+    let stands = plan_in-stands bytes each (accepted-mark bytes p e).0 (omega (arith, size, count)) in
+    rw laws.held (stands-whole bytes (plan_bytes (plan_in bytes)) (plan_bytes-length (plan_in bytes) ∙ sym size) stands)
 
 pub accepted-fits : AcceptedFits
-accepted-fits running bytes each p e = rw (accepted-laws running bytes p e).held (go running e)
-  where
-    fits : (running : Bool) → judge_in running bytes ≡ accepted p → PlanFits (plan_in bytes)
-    fits running e = let z = accepted-mark running bytes p e in plan_in-fits bytes each z.1 z.2
-
-    go : (running : Bool) → judge_in running bytes ≡ accepted p → PlanFits (plan_for running bytes)
-    go false e = fits false e
-    go true e =
-        let past = judge-passed true bytes p e in
-        unbudgeted-fits (plan_in bytes) (refusal-shaped true bytes (inr (inr (inr past)))) (fits true e)
+accepted-fits bytes each p e =
+    let z = accepted-mark bytes p e in
+    rw (accepted-laws bytes p e).held (plan_in-fits bytes each z.1 z.2)

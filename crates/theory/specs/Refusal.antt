@@ -1,7 +1,7 @@
 -- What the rows of the table leave of a plan, and the laws of an accepted one, for everything above the reader.
-use Rattle.std.specs.Prelude.{◌≡◌, Bool, true, false, List, ◌⊎◌, length, ℕ, suc, ◌%◌, ◌<◌, ◌≤◌}
-use Rattle.model.specs.Plan.{Plan, machines, places, domains, block_count, block_of, pairs_next, upper, min_total, format_in, record_at}
-use Rattle.model.specs.Refusal.{max_machines, max_capacity, max_blocks, plan_for, judge_in, accepted}
+use Rattle.std.specs.Prelude.{◌≡◌, true, false, List, ◌⊎◌, length, ℕ, suc, ◌%◌, ◌<◌, ◌≤◌}
+use Rattle.model.specs.Plan.{Plan, machines, places, domains, block_count, block_of, pairs_next, upper, min_total, format_in, plan_in, record_at}
+use Rattle.model.specs.Refusal.{max_machines, max_capacity, max_blocks, judge, accepted}
 
 -- What rows 8 and 9 leave of block i: 1 ≤ least ≤ the upper count, 1 ≤ spread ≤ least, spread ≤ the domains.
 pub record ValidBlock (p : Plan) (i : ℕ) : Type 0 where
@@ -47,12 +47,11 @@ PastRow23 code = (code ≡ 10) ⊎ (code ≡ 11) ⊎ (code ≡ 0)
 abbrev pub PastRow17 : ℕ → Type 0
 PastRow17 code = (code ≡ 23) ⊎ PastRow23 code
 
--- An accepted plan is the one that the bytes hold, in a running hall without its budget; it is valid, and the bytes are its header and B
--- records.
-pub record Accepted (running : Bool) (bytes : List ℕ) (p : Plan) : Type 0 where
-  pub held : p ≡ plan_for running bytes
+-- An accepted plan is the one that the bytes hold, it is valid, and the bytes are its header and B records.
+pub record Accepted (bytes : List ℕ) (p : Plan) : Type 0 where
+  pub held : p ≡ plan_in bytes
   pub valid : Valid p
   pub length-is : length bytes ≡ record_at (format_in bytes) (block_count p)
 
 abbrev pub AcceptedLaws : Type 0
-AcceptedLaws = (running : Bool) (bytes : List ℕ) (p : Plan) → judge_in running bytes ≡ accepted p → Accepted running bytes p
+AcceptedLaws = (bytes : List ℕ) (p : Plan) → judge bytes ≡ accepted p → Accepted bytes p

@@ -1,9 +1,13 @@
 -- Document 02, U4: what holds of record layouts, over the popularity field's width and whether there is a pair byte; and of whole files.
-use Rattle.std.specs.Prelude.{◌≡◌, Bool, true, List, ◌++◌, ℕ, ◌+◌, ◌^◌, ◌<◌, ◌≤◌, length, take, drop}
-use Rattle.model.specs.Plan.{Block, Plan, places, unbudgeted, min_total, plan_in, block_count, block_of, latest_version, Format, format_of, record_length, block_at}
-use Rattle.model.specs.Refusal.{judge_in, judge, accepted}
-use Rattle.model.specs.Writing.{AreBytes, record_bytes, plan_bytes}
-use Rattle.theory.specs.Refusal.{Shaped, Valid}
+use Rattle.std.specs.Prelude.{◌≡◌, List, ◌++◌, ℕ, ◌+◌, ◌^◌, ◌<◌, ◌≤◌, length, get_or, take, drop}
+use Rattle.model.specs.Plan.{Block, Plan, block_count, block_of, latest_version, Format, format_of, record_length, block_at}
+use Rattle.model.specs.Refusal.{judge, accepted}
+use Rattle.model.specs.Writing.{record_bytes, plan_bytes}
+use Rattle.theory.specs.Refusal.{Valid}
+
+-- Every number of the list is a byte.
+abbrev pub AreBytes : List ℕ → Type 0
+AreBytes bytes = (i : ℕ) → get_or bytes i 0 < 256
 
 -- The block's numbers fit the widths of a format.
 pub record BlockFits (f : Format) (b : Block) : Type 0 where
@@ -34,17 +38,12 @@ pub record PlanFits (p : Plan) : Type 0 where
   pub budget-fits : p.budget < 256 ^ 4
   pub block-fits : (i : ℕ) → i < block_count p → BlockFits (format_of p.version) (block_of p i)
 
--- Reading what was written gives the plan; writing what accepted bytes hold gives them back; an accepted plan fits.
+-- Reading what was written gives the plan; writing an accepted plan in its version's layout gives its bytes back; an accepted plan fits.
 abbrev pub ReadsWritten : Type 0
 ReadsWritten = (p : Plan) → Valid p → PlanFits p → judge (plan_bytes p) ≡ accepted p
 
--- In a running hall reading what was written gives the plan without its budget, which need not be usable.
-abbrev pub RunningWritten : Type 0
-RunningWritten = (p : Plan) → Shaped p → min_total p ≤ places p → PlanFits p → judge_in true (plan_bytes p) ≡ accepted (unbudgeted p)
-
 abbrev pub WritesRead : Type 0
-WritesRead =
-    (running : Bool) (bytes : List ℕ) → AreBytes bytes → (p : Plan) → judge_in running bytes ≡ accepted p → plan_bytes (plan_in bytes) ≡ bytes
+WritesRead = (bytes : List ℕ) → AreBytes bytes → (p : Plan) → judge bytes ≡ accepted p → plan_bytes p ≡ bytes
 
 abbrev pub AcceptedFits : Type 0
-AcceptedFits = (running : Bool) (bytes : List ℕ) → AreBytes bytes → (p : Plan) → judge_in running bytes ≡ accepted p → PlanFits p
+AcceptedFits = (bytes : List ℕ) → AreBytes bytes → (p : Plan) → judge bytes ≡ accepted p → PlanFits p

@@ -1,8 +1,8 @@
 -- The list of 4,200 entries by value, as the walks of `log` cite it, and what they hand to `reads::read`.
 -- Assumes nothing.
-use Rattle.std.proofs.Common.{Bool, length-take-le, MutBor}
+use Rattle.std.proofs.Common.{length-take-le, MutBor}
 use Rattle.readlog.proofs.Prelude.{◌≡◌, refl, sym, subst, List, [], ◌∷◌, ℕ, ◌≤◌, ◌<◌, ◌^◌, T, lit<, length, take}
-use Rattle.readlog.proofs.Prelude.{Ura, full_share, Ty, named, w32, w64, Val, vint, vbool, SProp, ent, Lft, GName, Share, flft, Memory, Routine, sem, Fun}
+use Rattle.readlog.proofs.Prelude.{Ura, full_share, Ty, named, w32, w64, Val, vint, SProp, ent, Lft, GName, Share, flft, Memory, Routine, sem, Fun}
 use Rattle.readlog.proofs.Prelude.{‵, ◌$◌, ◌∵◌, !, qed, move, join, fsplit, fjoin, frame, done, Is, uint_Makes, u32, RefT, slice_val, ShrSlice, Room, owned, nothing, Contract, triple_of}
 use Rattle.readlog.proofs.Entries.{entry_row}
 use mir.Syntax.{Mutability, erased, ty_ref}
@@ -12,8 +12,7 @@ use base.Fml.{Fml, fsep}
 use types.Logic.{Logic, sem}
 use denote.RattleType.{RattleType}
 use denote.Laws.{Makes}
-use denote.Builtin.{u8, u64, bool}
-use denote.Plain.{bool_Makes}
+use denote.Builtin.{u8, u64}
 use denote.Memory.{pointee}
 use denote.Array.{Array, Array-Typed, Array-Makes}
 use denote.Slice.{slice_ty, MutSlice}
@@ -57,7 +56,7 @@ module _ {M : Type 1} {𝓤 : Ura M} (𝓛 : Logic 𝓤) (mem : Memory → SProp
   Read = triple_of 𝓛 read.signature (read.spec 𝓛 mem run)
 
 module _ {M : Type 1} {𝓤 : Ura M} (𝓛 : Logic 𝓤) (mem : Memory → SProp 𝓤) (run : Routine → Fun 𝓤) (κ : Lft) (q : Share)
-    (p : MutBor (List ℕ)) (running : Bool) (block tick : ℕ) (xs : List Entry) (lent count b ν : ℕ) (δ : GName) where
+    (p : MutBor (List ℕ)) (block tick : ℕ) (xs : List Entry) (lent count b ν : ℕ) (δ : GName) where
   abbrev vp : Val
   vp = slice_val p.ref_ptr (length p.now)
 
@@ -70,8 +69,8 @@ module _ {M : Type 1} {𝓤 : Ura M} (𝓛 : Logic 𝓤) (mem : Memory → SProp
       (κ, (ν ∷ [], tt)),
       (q, (full_share, tt)),
       tt,
-      (p, (running, (block, (tick, (at_first entry_row b lent xs δ, (count, tt)))))),
-      (vp ∷ [], (vbool running ∷ [], (vint w32 block ∷ [], (vint w32 tick ∷ [], (first_vals entry_row b lent xs, (vint w64 count ∷ [], tt)))))),
+      (p, (block, (tick, (at_first entry_row b lent xs δ, (count, tt))))),
+      (vp ∷ [], (vint w32 block ∷ [], (vint w32 tick ∷ [], (first_vals entry_row b lent xs, (vint w64 count ∷ [], tt))))),
     ),
     tt,
   )
@@ -84,5 +83,4 @@ module _ {M : Type 1} {𝓤 : Ura M} (𝓛 : Logic 𝓤) (mem : Memory → SProp
       nothing ! $ move ! (2 ∷ 0 ∷ []) $ join ! $ move ! (3 ∷ 0 ∷ []) $ join ! $ nothing ! $
       owned ! u64 (Is u64) (uint_Makes 𝓛 w64) count (vint w64 count ∷ []) (refl, gc) $ fjoin ! $ move ! (2 ∷ 0 ∷ []) $ fjoin ! $
       owned ! u32 (Is u32) (uint_Makes 𝓛 w32) tick (vint w32 tick ∷ []) (refl, gt) $ fjoin ! $
-      owned ! u32 (Is u32) (uint_Makes 𝓛 w32) block (vint w32 block ∷ []) (refl, gb) $ fjoin ! $
-      owned ! bool (Is bool) (bool_Makes 𝓛) running (vbool running ∷ []) refl $ fjoin ! $ move ! (2 ∷ 0 ∷ []) $ fjoin ! $ move ! (1 ∷ 0 ∷ []) $ join ! $ frame ! $ done !
+      owned ! u32 (Is u32) (uint_Makes 𝓛 w32) block (vint w32 block ∷ []) (refl, gb) $ fjoin ! $ move ! (2 ∷ 0 ∷ []) $ fjoin ! $ move ! (1 ∷ 0 ∷ []) $ join ! $ frame ! $ done !

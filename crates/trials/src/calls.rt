@@ -3,17 +3,8 @@ use crate::output::Line;
 use conversion::ConvertAnswer;
 use header::Header;
 use plan::Reading;
-use recordings::{ArriveAnswer, DeleteAnswer};
 use search::Step;
 use service::{CheckAnswer, CountsAnswer, FirstAnswer, ReportAnswer, RunAnswer, StepAnswer};
-
-// The entries of a new block.
-#[derive(Drop)]
-pub struct NewBlock {
-    pub popularity: u64,
-    pub least: u64,
-    pub spread: u64,
-}
 
 // A plan's fields: racks, machines per rack, capacity, budget, blocks.
 fn put_header(line: Line, h: Header) -> Line {
@@ -66,9 +57,9 @@ fn first_line(bytes: &[u8], words: &mut [u64]) -> Line {
 }
 
 // Checks the placement: the number of blocks.
-fn check_line(bytes: &[u8], running: bool, words: &[u64]) -> Line {
+fn check_line(bytes: &[u8], words: &[u64]) -> Line {
     let line = Line::new(b"check");
-    let answer = service::check(bytes, running, words);
+    let answer = service::check(bytes, words);
     match answer {
         CheckAnswer::Refused(code) => line.refused(code),
         CheckAnswer::Feasible(blocks) => line.number(blocks as u64),
@@ -76,9 +67,9 @@ fn check_line(bytes: &[u8], running: bool, words: &[u64]) -> Line {
 }
 
 // Reports on the placement: largest load, smallest load, sum of loads, largest share.
-fn report_line(bytes: &[u8], running: bool, words: &[u64]) -> Line {
+fn report_line(bytes: &[u8], words: &[u64]) -> Line {
     let line = Line::new(b"report");
-    let answer = service::report(bytes, running, words);
+    let answer = service::report(bytes, words);
     match answer {
         ReportAnswer::Refused(code) => line.refused(code),
         ReportAnswer::Reported(report, top) => line
@@ -108,9 +99,9 @@ fn put_move(line: Line, m: usize, n: usize, i: usize) -> Line {
 }
 
 // Takes one step: the step taken, or rest.
-fn step_line(bytes: &[u8], running: bool, words: &mut [u64]) -> Line {
+fn step_line(bytes: &[u8], words: &mut [u64]) -> Line {
     let line = Line::new(b"step");
-    let answer = service::step(bytes, running, words);
+    let answer = service::step(bytes, words);
     match answer {
         StepAnswer::Refused(code) => line.refused(code),
         StepAnswer::Next(step) => put_step(line, step),
@@ -118,9 +109,9 @@ fn step_line(bytes: &[u8], running: bool, words: &mut [u64]) -> Line {
 }
 
 // Runs with a step limit: how the run ended, and the number of steps taken.
-fn run_line(bytes: &[u8], running: bool, words: &mut [u64], limit: u32) -> Line {
+fn run_line(bytes: &[u8], words: &mut [u64], limit: u32) -> Line {
     let line = Line::new(b"run");
-    let answer = service::run(bytes, running, words, limit);
+    let answer = service::run(bytes, words, limit);
     match answer {
         RunAnswer::Refused(code) => line.refused(code),
         RunAnswer::Rested(steps) => line.text(b" rest").number(steps as u64),
@@ -128,42 +119,13 @@ fn run_line(bytes: &[u8], running: bool, words: &mut [u64], limit: u32) -> Line 
     }
 }
 
-// A new block arrives: its word.
-fn arrive_line(bytes: &[u8], new: NewBlock, words: &mut [u64]) -> Line {
-    let line = Line::new(b"arrive");
-    let answer = recordings::arrive(bytes, new.popularity, new.least, new.spread, words);
-    match answer {
-        ArriveAnswer::Refused(code) => line.refused(code),
-        ArriveAnswer::Arrived(word) => line.number(word),
-    }
-}
-
-// A block is deleted: how many blocks went, and the first number removed.
-fn delete_line(bytes: &[u8], block: u32, words: &mut [u64]) -> Line {
-    let line = Line::new(b"delete");
-    let answer = recordings::delete(bytes, block, words);
-    match answer {
-        DeleteAnswer::Refused(code) => line.refused(code),
-        DeleteAnswer::Deleted(count, first) => line.number(count as u64).number(first as u64),
-    }
-}
-
-// The call of an op on the words lent: f, k, r, s, a or x, and otherwise u. The number is a run's limit, or the block to delete.
-pub fn words_line(
-    bytes: &[u8],
-    running: bool,
-    words: &mut [u64],
-    op: u8,
-    number: u32,
-    new: NewBlock,
-) -> Line {
+// The call of an op on the words lent: f, k, r or s, and otherwise u.
+pub fn words_line(bytes: &[u8], words: &mut [u64], op: u8, limit: u32) -> Line {
     match op {
         b'f' => first_line(bytes, words),
-        b'k' => check_line(bytes, running, words),
-        b'r' => report_line(bytes, running, words),
-        b's' => step_line(bytes, running, words),
-        b'a' => arrive_line(bytes, new, words),
-        b'x' => delete_line(bytes, number, words),
-        _ => run_line(bytes, running, words, number),
+        b'k' => check_line(bytes, words),
+        b'r' => report_line(bytes, words),
+        b's' => step_line(bytes, words),
+        _ => run_line(bytes, words, limit),
     }
 }

@@ -45,7 +45,6 @@ pub fn pack(list: [Entry; 4200], log: &mut [u64]) {
 // A read on the first `lent` entries: its answer.
 pub fn read_answer(
     plan: &[u8],
-    running: bool,
     block: u32,
     tick: u32,
     mut list: [Entry; 4200],
@@ -54,13 +53,12 @@ pub fn read_answer(
 ) -> ReadsAnswer
     requires { lent ≤ 4200 }
 {
-    reads::read(plan, running, block, tick, &mut list[..lent], count)
+    reads::read(plan, block, tick, &mut list[..lent], count)
 }
 
 // The same read: the list that it leaves.
 pub fn read_list(
     plan: &[u8],
-    running: bool,
     block: u32,
     tick: u32,
     mut list: [Entry; 4200],
@@ -69,14 +67,13 @@ pub fn read_list(
 ) -> [Entry; 4200]
     requires { lent ≤ 4200 }
 {
-    reads::read(plan, running, block, tick, &mut list[..lent], count);
+    reads::read(plan, block, tick, &mut list[..lent], count);
     list
 }
 
 // A block's popularity in the first `lent` entries.
 pub fn popularity_answer(
     plan: &[u8],
-    running: bool,
     block: u32,
     list: [Entry; 4200],
     lent: usize,
@@ -84,7 +81,7 @@ pub fn popularity_answer(
 ) -> ReadsAnswer
     requires { lent ≤ 4200 }
 {
-    reads::popularity(plan, running, block, &list[..lent], count)
+    reads::popularity(plan, block, &list[..lent], count)
 }
 
 // The line with an answer more.

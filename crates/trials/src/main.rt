@@ -1,19 +1,16 @@
-// Plays a stream of trials from standard input: each record sets the plan's bytes, the words, the list of reads, whether the hall is
-// running or the entries of new blocks, or makes a call.
+// Plays a stream of trials from standard input: each record sets the plan's bytes, the words or the list of reads, or makes a call.
 // A call writes one line: its answer, and the digest of the lent buffer's items and those behind them.
 mod calls;
 mod digest;
 mod input;
 mod log;
-mod next;
 mod output;
 
-use calls::NewBlock;
 use input::Head;
 use output::Line;
 
 // The lengths of the current plan and of the parts of the words and of the list that are lent; the list's count of entries, and the block
-// that the calls on it are about; whether the calls are told that the hall is running, and the entries of later new blocks.
+// that the calls on it are about.
 #[derive(Drop)]
 struct Current {
     plan: usize,
@@ -21,8 +18,6 @@ struct Current {
     entries: usize,
     count: u64,
     block: u32,
-    running: bool,
-    new: NewBlock,
 }
 
 // What a record does: the stream goes on, ends as it should, or is not in its format.
@@ -136,30 +131,6 @@ fn take_block(block: u32, mut current: Current) -> Turn {
     Turn::On(current)
 }
 
-// Flag record: whether the calls are told that the hall is running from now on.
-fn take_flag(running: bool, mut current: Current) -> Turn {
-    current.running = running;
-    Turn::On(current)
-}
-
-// New block record of n bytes: the popularity, least copies and spread of new blocks from now on.
-fn take_new(n: usize, mut current: Current) -> Turn {
-    if n != 24 {
-        return Turn::Bad;
-    }
-    let mut numbers = [0u64; 3];
-    if !fill_words(&mut numbers, 3) {
-        return Turn::Bad;
-    }
-    let new = NewBlock {
-        popularity: numbers[0],
-        least: numbers[1],
-        spread: numbers[2],
-    };
-    current.new = new;
-    Turn::On(current)
-}
-
 // Judges the plan.
 fn try_plan(plan: &[u8], current: Current) -> Turn {
     let size = input::at_most(current.plan, plan.len());
@@ -197,31 +168,11 @@ fn try_convert(plan: &[u8], n: usize, current: Current) -> Turn {
     Turn::On(current)
 }
 
-// Makes the plan with a new block, in a buffer of n bytes. Where it is kept, it is the current plan from now on.
-fn try_with(plan: &mut [u8], n: usize, kept: bool, mut current: Current) -> Turn {
-    let room = input::at_most(n, 65536);
-    let mut space = input::filled();
-    let size = current.plan;
-    current.plan = next::with_block(plan, size, current.new, kept, &mut space[..room]);
-    Turn::On(current)
-}
-
-// Makes the plan without the block that a number says, in a buffer of n bytes. Where it is kept, it is the current plan from now on.
-fn try_without(plan: &mut [u8], n: usize, number: u32, mut current: Current) -> Turn {
-    let room = input::at_most(n, 65536);
-    let mut space = input::filled();
-    let size = current.plan;
-    current.plan = next::without_block(plan, size, number, &mut space[..room]);
-    Turn::On(current)
-}
-
 // Makes a call on the lent words; the digest is that of all words.
-fn try_words(plan: &[u8], words: &mut [u64], current: Current, op: u8, number: u32) -> Turn {
+fn try_words(plan: &[u8], words: &mut [u64], current: Current, op: u8, limit: u32) -> Turn {
     let size = input::at_most(current.plan, plan.len());
     let lent = input::at_most(current.lent, words.len());
-    let running = current.running;
-    let new = current.new;
-    let line = calls::words_line(&plan[..size], running, &mut words[..lent], op, number, new);
+    let line = calls::words_line(&plan[..size], &mut words[..lent], op, limit);
     line.hex(digest::of_words(words)).write();
     Turn::On(current)
 }
@@ -230,12 +181,11 @@ fn try_words(plan: &[u8], words: &mut [u64], current: Current, op: u8, number: u
 fn try_read(plan: &[u8], log: &mut [u64], mut current: Current, tick: u32) -> Turn {
     let size = input::at_most(current.plan, plan.len());
     let lent = input::at_most(current.entries, 4200);
-    let running = current.running;
     let block = current.block;
     let count = current.count;
     let list = log::unpacked(log);
-    let answer = log::read_answer(&plan[..size], running, block, tick, list, lent, count);
-    let after = log::read_list(&plan[..size], running, block, tick, list, lent, count);
+    let answer = log::read_answer(&plan[..size], block, tick, list, lent, count);
+    let after = log::read_list(&plan[..size], block, tick, list, lent, count);
     log::pack(after, log);
     log::put_answer(Line::new(b"read"), answer)
         .hex(digest::of_words(log))
@@ -248,10 +198,8 @@ fn try_read(plan: &[u8], log: &mut [u64], mut current: Current, tick: u32) -> Tu
 fn try_popularity(plan: &[u8], log: &[u64], current: Current) -> Turn {
     let size = input::at_most(current.plan, plan.len());
     let lent = input::at_most(current.entries, 4200);
-    let running = current.running;
-    let block = current.block;
     let list = log::unpacked(log);
-    let answer = log::popularity_answer(&plan[..size], running, block, list, lent, current.count);
+    let answer = log::popularity_answer(&plan[..size], current.block, list, lent, current.count);
     log::put_answer(Line::new(b"popularity"), answer)
         .hex(digest::of_words(log))
         .write();
@@ -277,16 +225,10 @@ fn apply(
         b'M' => lend_entries(n, current),
         b'N' => take_count(n, number, current),
         b'B' => take_block(number, current),
-        b'H' => take_flag(number == 1, current),
-        b'A' => take_new(n, current),
         b'p' => try_plan(plan, current),
         b'c' => try_counts(plan, n, current),
         b'v' => try_convert(plan, n, current),
-        b'w' => try_with(plan, n, number == 1, current),
-        b'y' => try_without(plan, n, number, current),
-        b'f' | b'k' | b'r' | b's' | b'u' | b'a' | b'x' => try_words(
-            plan, words, current, op, number,
-        ),
+        b'f' | b'k' | b'r' | b's' | b'u' => try_words(plan, words, current, op, number),
         b'd' => try_read(plan, log, current, number),
         b'o' => try_popularity(plan, log, current),
         b'E' => Turn::End,
@@ -311,12 +253,6 @@ fn play(plan: &mut [u8], words: &mut [u64], log: &mut [u64]) {
         entries: 0,
         count: 0,
         block: 0,
-        running: false,
-        new: NewBlock {
-            popularity: 0,
-            least: 0,
-            spread: 0,
-        },
     };
     let mut turns = u32::MAX;
     while turns > 0 {

@@ -13,22 +13,22 @@ use lib.Dec.{leb, ltb, eqb}
 use lib.ListN.{get_or}
 use Rattle.order.specs.Search.{allb}
 use Rattle.order.proofs.Sums.{sum-none, sum-index}
-use Rattle.order.proofs.Booleans.{bool_cases, not_so, and-iff, leb-iff}
-use Rattle.order.proofs.Extremes.{allb-cong, allb-step, allb-at}
+use Rattle.order.proofs.Booleans.{bool_cases, not_so}
+use Rattle.order.proofs.Extremes.{allb-cong, allb-step}
 use Rattle.model.specs.Plan.{Plan, machines, block_count, is_paired, partner}
-use Rattle.model.specs.Calls.{is_counted}
+use Rattle.model.specs.Replication.{need}
 use Rattle.model.specs.Placement.{bit, word_of, replicas, count_of, domains_used, all_within, all_spread, all_fit, all_apart}
 use Rattle.theory.specs.Refusal.{Shaped}
 use Rattle.theory.proofs.Placement.{bit_le, bit-above-from, domains_used-pos, all_within-iff, all_apart-iff}
 use Rattle.theory.proofs.Plan.{partner-below, partner-other}
 use Rattle.cluster.specs.declared.Cluster.{Cluster}
 use Rattle.cluster.specs.Cluster.{machines_in, ClusterOf}
-use Rattle.cluster.specs.Blocks.{linked_to, mate, least_in, most_in, spread_in, copies_in, DemandsOf, ProfilesOf}
-use Rattle.cluster.proofs.Laws.{cluster-capacity, cluster-blocks, cluster-machines, mate-paired, mate-single, demands-least, demands-most, copies_in-within, profiles-spread, profiles-mate}
+use Rattle.cluster.specs.Blocks.{linked_to, mate, spread_in, copies_in, DemandsOf, ProfilesOf}
+use Rattle.cluster.proofs.Laws.{cluster-capacity, cluster-blocks, cluster-machines, mate-paired, mate-single, copies_in-within, profiles-spread, profiles-mate}
 use Rattle.needs.specs.Needs.{NeedOf}
 use Rattle.needs.proofs.Laws.{need-of}
 use Rattle.loads.specs.declared.Loads.{Loads}
-use Rattle.validation.specs.Validation.{all_counted_by, is_needed, is_allowed, all_allowed, HeldAsked, CountedAs, rows_code, CountsJudged, HeldAt, CopiesOf, Apart}
+use Rattle.validation.specs.Validation.{all_counted_at, HeldAt, CopiesOf, Apart}
 
 -- a loop that tests: none yet, and one more that passes
 pub allb-none : (test : ℕ → Bool) → allb 0 test ≡ true
@@ -41,6 +41,10 @@ allb-more n test before here = rw (allb-step n test, here) before
 -- row 13
 abbrev pub is_within : List ℕ → ℕ → ℕ → Bool
 is_within words M i = ltb (word_of words i) (2 ^ M)
+
+-- row 14
+abbrev pub is_counted : Plan → List ℕ → ℕ → ℕ → Bool
+is_counted p words figure i = eqb (count_of p words i) (need p figure i)
 
 -- row 15
 abbrev pub is_spread : Plan → List ℕ → List ℕ → ℕ → Bool
@@ -63,29 +67,21 @@ module _ (p : Plan) (words : List ℕ) (c : Cluster) where
   unfolding all_within
   within-row of = rw (cluster-blocks p c of, cluster-machines p c of)
 
-  pub counted-row : (passes : ℕ → ℕ → Bool) → ClusterOf p c
-      → allb c.blocks (λ i. passes i (count_of p words i)) ≡ all_counted_by p passes words
-  unfolding all_counted_by
-  counted-row passes of = rw (cluster-blocks p c of)
+  -- the copies that a word names and those that its block needs are the model's
+  pub counted-at : (demands : List ℕ) (figure : ℕ) → DemandsOf p c demands → all_within p words ≡ true
+      → (i k : ℕ) → i < c.blocks → NeedOf (get_or demands i 0) figure k
+      → is_counted p words figure i ≡ eqb (copies_in (word_of words i)) k
+  counted-at demands figure of within i k l found =
+      let i-in : i < block_count p = rw (cluster-blocks p c of.cluster) at l in
+      let held =
+      copies_in-within p of.cluster.valid.shaped.machines-max (word_of words i) ((all_within-iff p words).0 within i i-in)
+      in
+      ap₂ eqb (sym held) (sym (need-of p c demands of i figure k l found).0)
 
-  -- row 14 of one block: its copies are those that its word names, and what is asked of them is the model's
-  module _ (demands : List ℕ) (of : DemandsOf p c demands) (within : all_within p words ≡ true) (i : ℕ) (l : i < c.blocks) where
-    held_at : copies_in (word_of words i) ≡ count_of p words i
-    held_at =
-        let i-in : i < block_count p = rw (cluster-blocks p c of.cluster) at l in
-        copies_in-within p of.cluster.valid.shaped.machines-max (word_of words i) ((all_within-iff p words).0 within i i-in)
-
-    pub needed-at : (figure k : ℕ) → NeedOf (get_or demands i 0) figure k
-        → is_needed figure p i (count_of p words i) ≡ eqb (copies_in (word_of words i)) k
-    needed-at figure k found = ap₂ eqb (sym held_at) (sym (need-of p c demands of i figure k l found).0)
-
-    allowed_at : is_allowed (word_of words i) (get_or demands i 0) ≡ is_counted true p i (count_of p words i)
-    allowed_at = rw (held_at, demands-least p c demands of i l, demands-most p c demands of i l) refl
-
-  allowed-row : (demands : List ℕ) → DemandsOf p c demands → all_within p words ≡ true
-      → all_allowed c words demands ≡ all_counted_by p (is_counted true p) words
-  allowed-row demands of within =
-      allb-cong c.blocks _ _ (allowed_at demands of within) ∙ counted-row (is_counted true p) of.cluster
+  pub counted-row : (figure : ℕ) → ClusterOf p c
+      → allb c.blocks (is_counted p words figure) ≡ all_counted_at p (need p figure) words
+  unfolding all_counted_at
+  counted-row figure of = rw (cluster-blocks p c of)
 
   module _ (count : ℕ → ℕ) (profiles : List ℕ) (held : HeldAt p count c words profiles) where
     of : ProfilesOf p count c profiles
@@ -140,53 +136,3 @@ module _ (p : Plan) (words : List ℕ) (c : Cluster) where
       let cluster = of.cluster-of in
       rw (cluster-machines p c cluster, cluster-capacity p c cluster)
       (allb-cong (machines p) _ _ (λ m l. ap (λ (x : ℕ). leb x p.capacity) (of.copies-are m (rw (cluster-machines p c cluster) l))))
-
--- copies that the demands allow are what row 14 of a running hall asks
-pub allowed-counted : (c : Cluster) (words demands : List ℕ) (r : Bool) → r ≡ all_allowed c words demands
-    → CountedAs c words demands (is_counted true) r
-allowed-counted c words demands r e =
-    record {
-      is = λ p of within. e ∙ allowed-row p words c demands of within;
-      at_least = λ all i l. (each all i l).0;
-      at_most = λ all i l. (each all i l).1;
-    }
-  where
-    each : r ≡ true → (i : ℕ) → i < c.blocks
-        → (least_in (get_or demands i 0) ≤ copies_in (word_of words i)) × (copies_in (word_of words i) ≤ most_in (get_or demands i 0))
-    each all i l =
-        let word = word_of words i in
-        let demand = get_or demands i 0 in
-        (and-iff (leb (least_in demand) (copies_in word)) (leb (copies_in word) (most_in demand))
-        (leb-iff (least_in demand) (copies_in word)) (leb-iff (copies_in word) (most_in demand))
-        ).0 (allb-at c.blocks _ (sym e ∙ all) i l)
-
--- rows 13 and 14 from what each says; where both pass, the words fit the demands
-pub rows-judged : (c : Cluster) (words demands : List ℕ) (passes : Plan → ℕ → ℕ → Bool) (within counted : Bool)
-    → HeldAsked c words demands → ((p : Plan) → ClusterOf p c → within ≡ all_within p words) → CountedAs c words demands passes counted
-    → CountsJudged c words demands passes (rows_code within counted)
-unfolding rows_code
-rows-judged c words demands passes false counted asked row of =
-    record { code_is = λ p demands-of. rw (sym (row p demands-of.cluster)) refl; fit = λ e. absurd (omega arith) }
-rows-judged c words demands passes true false asked row counts =
-    record {
-      code_is = λ p of.
-          let within = sym (row p of.cluster) in
-          rw (within, sym (counts.is p of within)) refl;
-      fit = λ e. absurd (omega arith);
-    }
-rows-judged c words demands passes true true asked row counts =
-    record {
-      code_is = λ p of.
-          let within = sym (row p of.cluster) in
-          rw (within, sym (counts.is p of within)) refl;
-      fit = λ e p of.
-          record {
-            demands-fit = asked.demands-fit;
-            word_room = asked.word_room;
-            within = λ i l.
-                rw (cluster-machines p c of.cluster)
-                ((all_within-iff p words).0 (sym (row p of.cluster)) i (rw (cluster-blocks p c of.cluster) at l));
-            at_least = counts.at_least refl;
-            at_most = counts.at_most refl;
-          };
-    }

@@ -1,5 +1,5 @@
 -- What the rows of a placement handed in are given.
-use Rattle.std.specs.Prelude.{◌≡◌, Bool, true, not, ◌&&◌, List, ℕ, ◌+◌, ◌<◌, ◌≤◌, leb, eqb, length, get_or}
+use Rattle.std.specs.Prelude.{◌≡◌, Bool, true, not, List, ℕ, ◌+◌, ◌<◌, ◌≤◌, eqb, length, get_or}
 use Rattle.order.specs.Search.{allb}
 use Rattle.model.specs.Plan.{Plan, block_count, upper}
 use Rattle.model.specs.Refusal.{refuse_if}
@@ -7,7 +7,7 @@ use Rattle.model.specs.Replication.{need}
 use Rattle.model.specs.Placement.{bit, word_of, count_of, used, all_within, all_spread, all_fit, all_apart}
 use Rattle.cluster.specs.declared.Cluster.{Cluster}
 use Rattle.cluster.specs.Cluster.{machines_in, InRange, ClusterOf}
-use Rattle.cluster.specs.Blocks.{least_in, most_in, linked_to, copies_in, DemandsFit, DemandsOf, CountsFit, ProfilesOf, PlacementFits}
+use Rattle.cluster.specs.Blocks.{least_in, most_in, linked_to, copies_in, DemandsOf, CountsFit, ProfilesOf, PlacementFits}
 use Rattle.needs.specs.Needs.{FigureAsked}
 use Rattle.loads.specs.declared.Loads.{Loads}
 use Rattle.loads.specs.Loads.{LoadsOf}
@@ -22,38 +22,19 @@ pub record CountsAsked (c : Cluster) (words demands : List ℕ) (figure : ℕ) :
   pub figure-asked : FigureAsked c demands figure
   pub word_room : c.blocks ≤ length words
 
--- The same without a figure, of a running hall.
-pub record HeldAsked (c : Cluster) (words demands : List ℕ) : Type 0 where
-  pub demands-fit : DemandsFit c demands
-  pub word_room : c.blocks ≤ length words
+-- Row 14 for any counts; at the chosen counts it is the model's `all_counted`.
+unfoldable pub all_counted_at : Plan → (ℕ → ℕ) → List ℕ → Bool
+all_counted_at p count words = allb (block_count p) (λ i. eqb (count_of p words i) (count i))
 
--- Row 14 by any test of a block's copies; with the model's `is_counted` it is the model's `all_counted`.
-unfoldable pub all_counted_by : Plan → (ℕ → ℕ → Bool) → List ℕ → Bool
-all_counted_by p passes words = allb (block_count p) (λ i. passes i (count_of p words i))
-
--- A block's copies are those that it needs within the figure. At the best figure this is the model's test of a hall that is not running.
-abbrev pub is_needed : ℕ → Plan → ℕ → ℕ → Bool
-is_needed figure p i count = eqb count (need p figure i)
-
--- A word's copies are ones that its demand allows, from the least to the most: in a running hall that is all that row 14 asks.
-abbrev pub is_allowed : ℕ → ℕ → Bool
-is_allowed word demand = leb (least_in demand) (copies_in word) && leb (copies_in word) (most_in demand)
-
-abbrev pub all_allowed : Cluster → List ℕ → List ℕ → Bool
-all_allowed c words demands = allb c.blocks (λ i. is_allowed (word_of words i) (get_or demands i 0))
-
--- Whether every block's copies pass a test; where they do, they are copies that its demand allows.
-pub record CountedAs (c : Cluster) (words demands : List ℕ) (passes : Plan → ℕ → ℕ → Bool) (r : Bool) : Type 0 where
-  pub is : (p : Plan) → DemandsOf p c demands → all_within p words ≡ true → r ≡ all_counted_by p (passes p) words
+-- Whether every block has the copies that it needs within the figure; where it has, they are copies that its demand allows.
+pub record CountedAs (c : Cluster) (words demands : List ℕ) (figure : ℕ) (r : Bool) : Type 0 where
+  pub is : (p : Plan) → DemandsOf p c demands → all_within p words ≡ true → r ≡ all_counted_at p (need p figure) words
   pub at_least : r ≡ true → (i : ℕ) → i < c.blocks → least_in (get_or demands i 0) ≤ copies_in (word_of words i)
   pub at_most : r ≡ true → (i : ℕ) → i < c.blocks → copies_in (word_of words i) ≤ most_in (get_or demands i 0)
 
--- Rows 13 and 14, by any test of a block's copies; then rows 15, 16 and 18, which no count enters.
-unfoldable pub rows_code : Bool → Bool → ℕ
-rows_code within counted = refuse_if (not within) 13 (refuse_if (not counted) 14 0)
-
-abbrev pub counts_refusal : Plan → (ℕ → ℕ → Bool) → List ℕ → ℕ
-counts_refusal p passes words = rows_code (all_within p words) (all_counted_by p passes words)
+-- Rows 13 and 14, for any counts; then rows 15, 16 and 18, which no count enters.
+unfoldable pub counts_refusal : Plan → (ℕ → ℕ) → List ℕ → ℕ
+counts_refusal p count words = refuse_if (not (all_within p words)) 13 (refuse_if (not (all_counted_at p count words)) 14 0)
 
 unfoldable pub layout_refusal : Plan → List ℕ → ℕ
 layout_refusal p words =
@@ -62,9 +43,9 @@ layout_refusal p words =
     (refuse_if (not (all_apart p words)) 18
     0))
 
--- Rows 13 and 14 by a test; where both pass, the counts held fit the demands.
-pub record CountsJudged (c : Cluster) (words demands : List ℕ) (passes : Plan → ℕ → ℕ → Bool) (r : ℕ) : Type 0 where
-  pub code_is : (p : Plan) → DemandsOf p c demands → r ≡ counts_refusal p (passes p) words
+-- Rows 13 and 14 at the needs within the figure; where both pass, the counts held fit the demands.
+pub record CountsJudged (c : Cluster) (words demands : List ℕ) (figure r : ℕ) : Type 0 where
+  pub code_is : (p : Plan) → DemandsOf p c demands → r ≡ counts_refusal p (need p figure) words
   pub fit : r ≡ 0 → (p : Plan) → DemandsOf p c demands → CountsFit c words demands
 
 -- The profiles of plan p's blocks at counts that are at most the upper counts, and words in which every block has a copy.

@@ -4,10 +4,9 @@ ghost use Rattle.std.specs.Prelude.{◌≡◌, Bool, List, ◌↔◌, ℕ, ◌<�
 ghost use Rattle.model.specs.Plan.{Plan};
 ghost use Rattle.model.specs.Refusal.{max_machines};
 ghost use Rattle.model.specs.Placement.{replicas, domains_used, all_within, all_spread, all_fit, all_apart};
-ghost use Rattle.model.specs.Calls.{is_counted};
 ghost use Rattle.cluster.specs.Cluster.{machines_in, InRange, ClusterOf};
 ghost use Rattle.cluster.specs.Blocks.{spread_in, PlacementFits};
-ghost use Rattle.validation.specs.Validation.{WordsAsked, CountsAsked, HeldAsked, is_needed, is_allowed, all_allowed, CountedAs, rows_code, CountsJudged, HeldAt, CopiesOf, Apart, LayoutAsked, layout_refusal};
+ghost use Rattle.validation.specs.Validation.{WordsAsked, CountsAsked, CountedAs, CountsJudged, HeldAt, CopiesOf, Apart, LayoutAsked, layout_refusal};
 
 use cluster::Cluster;
 use loads::Loads;
@@ -28,11 +27,10 @@ fn all_within(words: &[u64], cluster: Cluster) -> bool
     true
 }
 
-// Row 14: whether every block has the copies that it needs within a figure. It is the row's test where the words name only
-// machines below M.
+// Row 14: whether every block has the copies that it needs within a figure. The words name only machines below M.
 fn all_counted(words: &[u64], demands: &[u64], cluster: Cluster, figure: u64) -> bool
     requires { CountsAsked cluster words.now demands.now figure }
-    ensures { CountedAs cluster words.now demands.now (is_needed figure) result }
+    ensures { CountedAs cluster words.now demands.now figure result }
 {
     let scale = needs::scale_of(figure);
     let mut i: usize = 0;
@@ -45,63 +43,18 @@ fn all_counted(words: &[u64], demands: &[u64], cluster: Cluster, figure: u64) ->
     true
 }
 
-// Whether a word's copies are ones that its demand allows, from the least to the most.
-fn is_allowed(word: u64, demand: u64) -> bool
-    ensures { result ≡ is_allowed word demand }
-{
-    let copies = bits::count_set(word);
-    if copies < cluster::least_of(demand) {
-        return false;
-    }
-    copies <= cluster::most_of(demand)
-}
-
-// Row 14 of a running hall: whether every block has copies from its least to its upper count.
-fn all_allowed(words: &[u64], demands: &[u64], cluster: Cluster) -> bool
-    requires { HeldAsked cluster words.now demands.now }
-    ensures { result ≡ all_allowed cluster words.now demands.now }
-{
-    let mut i: usize = 0;
-    while i < cluster.blocks {
-        if !is_allowed(words[i], demands[i]) {
-            return false;
-        }
-        i += 1;
-    }
-    true
-}
-
-// Rows 13 and 14 in one number, 0 where both pass: whether every word names only machines below M, and whether its copies pass.
-fn rows_code(within: bool, counted: bool) -> u8
-    ensures { result ≡ rows_code within counted }
-{
-    if !within {
-        return 13;
-    }
-    if !counted {
-        return 14;
-    }
-    0
-}
-
 // Rows 13 and 14 of a placement of enough words, before any share or load is made; 0 where both pass.
 pub fn counts_refusal(words: &[u64], demands: &[u64], cluster: Cluster, figure: u64) -> u8
     requires { CountsAsked cluster words.now demands.now figure }
-    ensures { CountsJudged cluster words.now demands.now (is_needed figure) result }
+    ensures { CountsJudged cluster words.now demands.now figure result }
 {
-    let within = all_within(words, cluster);
-    let counted = all_counted(words, demands, cluster, figure);
-    rows_code(within, counted)
-}
-
-// The same rows in a running hall, where a block may have any copies that its demand allows.
-pub fn held_refusal(words: &[u64], demands: &[u64], cluster: Cluster) -> u8
-    requires { HeldAsked cluster words.now demands.now }
-    ensures { CountsJudged cluster words.now demands.now (is_counted Bool.true) result }
-{
-    let within = all_within(words, cluster);
-    let allowed = all_allowed(words, demands, cluster);
-    rows_code(within, allowed)
+    if !all_within(words, cluster) {
+        return 13;
+    }
+    if !all_counted(words, demands, cluster, figure) {
+        return 14;
+    }
+    0
 }
 
 // Whether a block that has a copy lies in as many failure domains as its spread says. They are counted for a spread above one alone.

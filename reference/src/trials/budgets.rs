@@ -266,5 +266,5 @@ fn reads(w: &mut Writer, rng: &mut Rng) {
         with(&k().fed(2), u32::MAX),
     ];
     reads_with(w, &plans.each_ref().map(|bytes| &bytes[..]));
-    random_histories(w, rng, 3, &[4], false);
+    random_histories(w, rng, 3, &[4]);
 }

@@ -530,5 +530,5 @@ fn reads(w: &mut Writer, rng: &mut Rng) {
         &H_4[..36],
     ];
     reads_with(w, &plans);
-    random_histories(w, rng, 4, &[4], false);
+    random_histories(w, rng, 4, &[4]);
 }

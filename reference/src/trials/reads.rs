@@ -17,7 +17,7 @@ pub fn all(w: &mut Writer, rng: &mut Rng) {
     popularities_of_pairs(w);
     unordered_lists(w);
     w.title("reads: random histories");
-    random_histories(w, rng, 60, &[1, 2], false);
+    random_histories(w, rng, 60, &[1, 2]);
 }
 
 /// A record of any numbers that are not 0, so that one written shows.
@@ -213,14 +213,12 @@ pub(super) fn reads_with(w: &mut Writer, plans: &[&[u8]]) {
     }
 }
 
-/// Random histories over short lists, with a few strange records behind, and plans of these versions, in a hall that is
-/// running or not, as the stream has been told.
+/// Random histories over short lists, with a few strange records behind, and plans of these versions.
 pub(super) fn random_histories(
     w: &mut Writer,
     rng: &mut Rng,
     number: usize,
     versions: &'static [u16],
-    running: bool,
 ) {
     for k in 0..number {
         let manner = Manner {
@@ -229,11 +227,9 @@ pub(super) fn random_histories(
             damaged: k % 3 == 2,
             dense: rng.once_in(3),
             versions,
-            running,
         };
         let mut list = vec![Entry::default(); manner.room];
         let mut caller = Caller {
-            running,
             list: list.clone(),
             ..Caller::default()
         };

@@ -275,5 +275,5 @@ fn reads(w: &mut Writer, rng: &mut Rng) {
         &H_3[..35],
     ];
     reads_with(w, &plans);
-    random_histories(w, rng, 4, &[3], false);
+    random_histories(w, rng, 4, &[3]);
 }

@@ -1,19 +1,16 @@
 //! Plans, placements and comparisons that the tests share.
 #![allow(dead_code)]
 
-use bpl::{Arrival, Deleted, Entry, Hall, Refusal, Report, RunEnd, Step};
+use bpl::{Entry, Refusal, Report, RunEnd, Step};
 use placement_reference::calls;
-use placement_reference::changes::Entries;
 use placement_reference::damage::*;
 use placement_reference::gen::{
-    draft, filled, leaning, loose, noise, placement, sized, too_long, Draft, Rng, Size, MEDIUM,
-    SMALL, TINY,
+    draft, filled, leaning, noise, placement, sized, too_long, Draft, Rng, Size, MEDIUM, SMALL,
+    TINY,
 };
-use placement_reference::lists;
-use placement_reference::plan::{read, read_in, Plan};
+use placement_reference::plan::{read, Plan};
 use placement_reference::reads;
 use placement_reference::steps::{self, End, Kind};
-use placement_reference::years::entries;
 
 /// What stands in a buffer before a call, so that a write is seen.
 pub const PATTERN: u64 = 0xA5C3_96F0_1B2D_4E87;
@@ -134,7 +131,7 @@ pub fn damaged(rng: &mut Rng) -> Vec<u8> {
     once
 }
 
-/// Bytes of either sort, at times with a budget about M × C, or with any, of which a running hall takes no notice.
+/// Bytes of either sort, at times with a budget about M × C.
 pub fn any_bytes(rng: &mut Rng) -> Vec<u8> {
     match rng.below(12) {
         0..=2 => damaged(rng),
@@ -142,28 +139,8 @@ pub fn any_bytes(rng: &mut Rng) -> Vec<u8> {
             let size = size(rng);
             near_places(rng, size).bytes()
         }
-        4 => of_any_budget(rng),
         _ => accepted(rng).bytes(),
     }
-}
-
-/// A plan that a running hall accepts, with a budget of any copies.
-pub fn of_any_budget(rng: &mut Rng) -> Vec<u8> {
-    let draft = accepted(rng);
-    let most = rng.one_of(&[draft.least_sum() + 1, draft.places() + 2, 1 << 32]);
-    let budget = rng.below(most) as u32;
-    draft.with_budget(budget).bytes()
-}
-
-/// Both sorts of halls, and what the reference takes for them.
-pub const HALLS: [Hall; 2] = [Hall::Planned, Hall::Running];
-
-pub fn is_running(hall: Hall) -> bool {
-    hall == Hall::Running
-}
-
-pub fn any_hall(rng: &mut Rng) -> Hall {
-    rng.one_of(&HALLS)
 }
 
 /// B words for a plan: a good placement, a damaged one, or random words.
@@ -183,29 +160,13 @@ pub fn any_placement(rng: &mut Rng, plan: &Plan) -> Vec<u64> {
     }
 }
 
-/// B words for the plan of a running hall: a placement of any lawful counts, or a damaged one.
-pub fn running_placement(rng: &mut Rng, plan: &Plan) -> Vec<u64> {
-    let rows = match rng.below(8) {
-        0 => [(); 5].map(|()| rng.once_in(3)),
-        1 => {
-            let row = rng.below(5) as usize;
-            std::array::from_fn(|k| k == row)
-        }
-        _ => return loose(rng, plan),
-    };
-    broken_in(rng, plan, true, rows).unwrap_or_else(|| loose(rng, plan))
-}
-
 /// Words to lend with these bytes: a placement and spare words behind it, or one too few, or any.
 pub fn lent_words(rng: &mut Rng, bytes: &[u8]) -> Vec<u64> {
-    let Ok(running) = read_in(bytes, true) else {
+    let Ok(plan) = read(bytes) else {
         let number = rng.below(20) as usize;
         return patterned(number);
     };
-    let mut words = match read(bytes) {
-        Ok(plan) if rng.below(4) > 0 => any_placement(rng, &plan),
-        _ => running_placement(rng, &running),
-    };
+    let mut words = any_placement(rng, &plan);
     if rng.once_in(12) {
         words.pop();
         return words;
@@ -213,56 +174,6 @@ pub fn lent_words(rng: &mut Rng, bytes: &[u8]) -> Vec<u64> {
     let spare = rng.below(4) as usize;
     words.extend(patterned(spare));
     words
-}
-
-/// A new block for the plan in these bytes, at times one that row 24 refuses.
-pub fn any_arrival(rng: &mut Rng, bytes: &[u8]) -> Arrival {
-    let Ok(plan) = read_in(bytes, true) else {
-        let [popularity, least, spread] = [(); 3].map(|()| rng.below(3));
-        return Arrival {
-            popularity,
-            least,
-            spread,
-        };
-    };
-    let fit = entries(rng, &plan);
-    if rng.once_in(8) {
-        return arrival_of(unfit(rng, &plan, fit));
-    }
-    arrival_of(fit)
-}
-
-/// The number of a block, mostly of the plan in these bytes.
-pub fn any_block(rng: &mut Rng, bytes: &[u8]) -> u32 {
-    let blocks = read_in(bytes, true).map_or(3, |plan| plan.blocks.len()) as u64;
-    let beyond = [blocks, blocks + 1, 1 << 16, 1 << 31, 0xFFFF_FFFF];
-    let block = match rng.below(8) {
-        0 => rng.one_of(&beyond),
-        _ => rng.below(blocks.max(1)),
-    };
-    block as u32
-}
-
-/// The reference's entries of a new block as the binding's, and back.
-pub fn arrival_of(entries: Entries) -> Arrival {
-    Arrival {
-        popularity: entries.popularity,
-        least: entries.least,
-        spread: entries.spread,
-    }
-}
-
-pub fn entries_of(arrival: Arrival) -> Entries {
-    Entries {
-        popularity: arrival.popularity,
-        least: arrival.least,
-        spread: arrival.spread,
-    }
-}
-
-/// The reference's deletion as the binding's.
-pub fn deleted_of((count, first): (usize, usize)) -> Deleted {
-    Deleted { count, first }
 }
 
 /// The version that the bytes tell, if they reach so far.
@@ -286,17 +197,6 @@ pub fn buffer_lengths(rng: &mut Rng, bytes: &[u8]) -> [usize; 3] {
         _ => rng.below(2 * need as u64) as usize,
     };
     [near, any, need]
-}
-
-/// Lengths for the buffer of a next plan: about that of the plan, and any.
-pub fn next_lengths(rng: &mut Rng, bytes: &[u8]) -> [usize; 2] {
-    let near = (bytes.len() + 10).saturating_sub(rng.below(24) as usize);
-    let any = match rng.below(4) {
-        0 => 0,
-        1 => rng.below(bytes.len() as u64 + 8) as usize,
-        _ => bpl::MAX_PLAN_BYTES,
-    };
-    [near, any]
 }
 
 /// Words that all differ.
@@ -370,42 +270,6 @@ pub fn end_of((end, steps): (End, u32)) -> RunEnd {
     }
 }
 
-/// What the reference's call asks for, as the binding's.
-pub fn request_of(request: lists::Request) -> bpl::Request {
-    match request {
-        lists::Request::Check => bpl::Request::Check,
-        lists::Request::Step => bpl::Request::Step,
-        lists::Request::Run(limit) => bpl::Request::Run(limit),
-        lists::Request::Arrive(entries) => bpl::Request::Arrive(arrival_of(entries)),
-        lists::Request::Delete(block) => bpl::Request::Delete(block),
-    }
-}
-
-/// The reference's call as the binding's; the other bytes are handed in beside the script.
-pub fn call_of(call: &lists::Call) -> bpl::Call {
-    let own = bpl::Call::new(request_of(call.request)).lending(call.lent);
-    let told = if call.running { own.running() } else { own };
-    match call.other {
-        Some(_) => told.with_other(),
-        None => told,
-    }
-}
-
-/// The binding's reply is the reference's.
-pub fn same_reply(said: bpl::Reply, expected: lists::Reply) {
-    use lists::Reply::*;
-    match (said, expected) {
-        (bpl::Reply::Refused(refusal), Refused(row)) => assert_eq!(refusal.number(), row),
-        (bpl::Reply::Checked, Checked) => {}
-        (bpl::Reply::Stepped(step), Stepped(next)) => assert_eq!(step, next.map(step_of)),
-        (bpl::Reply::Ran(run), Ran(end, steps)) => assert_eq!(run, end_of((end, steps))),
-        (bpl::Reply::Arrived(word), Arrived(other)) => assert_eq!(word, other),
-        (bpl::Reply::Deleted(went), Deleted(n, first)) => assert_eq!(went, deleted_of((n, first))),
-        _ => panic!("{said:?} for {expected:?}"),
-    }
-    assert_eq!(said.says_rest(), expected.says_rest());
-}
-
 /// A refused call left the buffer as it was, and any call the items past the plan's blocks.
 pub fn kept<T: PartialEq + std::fmt::Debug>(
     refused: bool,
@@ -416,12 +280,10 @@ pub fn kept<T: PartialEq + std::fmt::Debug>(
     if refused {
         assert_eq!(before, after, "a refused call wrote");
     } else {
-        let blocks = blocks_of(bytes);
+        let blocks = read(bytes)
+            .expect("an answered call has a plan")
+            .blocks
+            .len();
         assert_eq!(before[blocks..], after[blocks..], "a call wrote past B");
     }
-}
-
-/// The number of blocks that the bytes tell, if a running hall accepts them.
-pub fn blocks_of(bytes: &[u8]) -> usize {
-    read_in(bytes, true).map_or(0, |plan| plan.blocks.len())
 }

@@ -1,7 +1,6 @@
 -- `admission::admit` meets its contract: a refused plan's code is the call's, and an accepted plan goes on to row 12.
 -- Assumes nothing.
 use borrow.Author.Rules.{rules}
-use mathlib.Core.Bool.{false}
 use mathlib.Core.Path.{sym, ◌∙◌}
 use native.Mathlib.Omega.{arith}
 use Rattle.theory.proofs.Calls.{call_refusal-refused}
@@ -35,7 +34,7 @@ returns c =
     let refuses = sym (rw c.before.before.reading.given.1 at c.before.before.before.before.read.ensures) in
     record {
       code_is = c.turned-back.ensures ∙ sym (call_refusal-refused _ _ _ refuses);
-      ready = λ e. absurd (omega (arith, c.turned-back.ensures, judge-some false _ _ refuses));
+      ready = λ e. absurd (omega (arith, c.turned-back.ensures, judge-some _ _ refuses));
     }
 
 same_length : tie.Need-same-length

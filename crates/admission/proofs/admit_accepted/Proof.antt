@@ -1,7 +1,6 @@
 -- `admission::admit_accepted` meets its contract: an accepted plan is refused 12 where too few items are lent, and prepared otherwise.
 -- Assumes nothing.
 use borrow.Author.Rules.{rules}
-use mathlib.Core.Bool.{false}
 use mathlib.Core.Path.{sym, ◌∙◌}
 use native.Mathlib.Nat.{le_trans}
 use native.Mathlib.Omega.{arith}
@@ -20,7 +19,7 @@ turned-back-requires c κs = search rules
 returns : tie.Need-returns
 returns c =
     let pre = c.before.before.before.before.before.before.requires in
-    let of = (accepted-header _ _ _ pre.0).cluster-of in
+    let of = (accepted-header _ _ pre.0).cluster-of in
     let short = rw (cluster-blocks _ _ of) at c.before.if1.true in
     record {
       code_is = c.turned-back.ensures ∙ sym (call_refusal-accepted _ _ _ pre.0 ∙ check12-short _ _ 0 short);
@@ -30,7 +29,7 @@ returns c =
 prepare-requires : tie.Need-prepare-requires
 prepare-requires c κs =
     let pre = c.before.before.before.before.before.before.requires in
-    record { running = false; accepts = pre.0; room = le_trans (cluster-range _ _ (accepted-header _ _ _ pre.0).cluster-of).blocks-max pre.1 }
+    record { accepts = pre.0; room = le_trans (cluster-range _ _ (accepted-header _ _ pre.0).cluster-of).blocks-max pre.1 }
 
 same_length : tie.Need-same-length
 same_length c = search rules
@@ -38,7 +37,7 @@ same_length c = search rules
 returns-2 : tie.Need-returns-2
 returns-2 c =
     let pre = c.before.before.before.before.before.before.before.before.before.requires in
-    let of = (accepted-header _ _ _ pre.0).cluster-of in
+    let of = (accepted-header _ _ pre.0).cluster-of in
     let enough = rw (cluster-blocks _ _ of) at c.before.before.before.before.if1.false in
     record {
       code_is = sym (call_refusal-accepted _ _ _ pre.0 ∙ check12-enough _ _ 0 enough);

@@ -57,7 +57,6 @@ returns c p of =
             some = λ i l. counts-pos p _ _ _ of asked.fit i (inside i l);
           })
           within;
-      version-is = refl;
       cluster-is = refl;
       prepared = prepared;
       loads-of = summed.sum-words.ensures;

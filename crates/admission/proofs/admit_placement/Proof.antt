@@ -10,13 +10,13 @@ use Rattle.admission.proofs.admit_placement.Statement.{statement}
 use Rattle.admission.proofs.admit_placement.Tie as tie
 use Rattle.admission.proofs.admit_words.Reads as admit-words-reads
 use Rattle.admission.proofs.refused_placement.Reads as refused-placement-reads
-use Rattle.plan.proofs.read_in.Reads as read-in-reads
+use Rattle.plan.proofs.read.Reads as read-reads
 
-abbrev entry : tie.After-read-in → tie.Start
+abbrev entry : tie.After-read → tie.Start
 entry c = let known = c.before in known.before.before.before
 
-read-in-requires : tie.Need-read-in-requires
-read-in-requires c κs = search rules
+read-requires : tie.Need-read-requires
+read-requires c κs = search rules
 
 enum-known-reading : tie.Need-enum-known-reading
 enum-known-reading c = search rules
@@ -32,17 +32,17 @@ unfolding verdict_of
 admit-words-requires c κs =
     let matched = c.before.before in
     let answered = matched.before.before in
-    (sym (rw matched.reading2.given.1 at answered.read-in.ensures), (entry answered).requires)
+    (sym (rw matched.reading2.given.1 at answered.read.ensures), (entry answered).requires)
 
 returns : tie.Need-returns
 unfolding verdict_of
 returns c =
     let matched = c.before.before in
     let answered = matched.before.before in
-    let refuses = sym (rw matched.reading.given.1 at answered.read-in.ensures) in
+    let refuses = sym (rw matched.reading.given.1 at answered.read.ensures) in
     record {
       code_is = c.refused-placement.ensures ∙ sym (call_refusal-refused _ _ _ refuses);
-      ready = λ e. absurd (omega (arith, c.refused-placement.ensures, judge-some _ _ _ refuses));
+      ready = λ e. absurd (omega (arith, c.refused-placement.ensures, judge-some _ _ refuses));
     }
 
 same_length : tie.Need-same-length
@@ -55,7 +55,7 @@ pub admit-placement-spec : {M : Type 1} → statement M
 admit-placement-spec =
     tie.close
     (tie.spec
-    read-in-requires
+    read-requires
     enum-known-reading
     refused-placement-requires
     enum-known-reading-2

@@ -23,7 +23,7 @@ machines-requires c κs = search rules
 
 mul-places : tie.Need-overflow-mul-places
 mul-places c =
-    let laws = accepted-header _ _ _ (entry (decoded c.before)).requires.accepts in
+    let laws = accepted-header _ _ (entry (decoded c.before)).requires.accepts in
     omega (arith, mul-le-mul c.before.machines.ensures.1 (cluster-range _ _ laws.cluster-of).capacity-max)
 
 smaller-requires : tie.Need-smaller-requires
@@ -37,7 +37,7 @@ returns c =
     let measured = c.before.before in
     let made = (decoded measured).decode.ensures in
     let allowed = rw measured.machines.ensures.0 at c.smaller.ensures in
-    record { fit = made.fit; limited = limited-of _ _ _ (accepted-header _ _ _ (entry (decoded measured)).requires.accepts) _ _ made _ allowed }
+    record { fit = made.fit; limited = limited-of _ _ (accepted-header _ _ (entry (decoded measured)).requires.accepts) _ _ made _ allowed }
 
 pub demand-all-spec : {M : Type 1} → statement M
 demand-all-spec =

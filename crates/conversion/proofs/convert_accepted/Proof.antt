@@ -18,7 +18,7 @@ format-of-requires : tie.Need-format-of-requires
 format-of-requires c κs = search rules
 
 record-at-requires : tie.Need-record-at-requires
-record-at-requires c κs = (c.format-of.ensures.1, (accepted-of _ _ _ c.before.before.before.before.requires.accepts).in-range.blocks-max)
+record-at-requires c κs = (c.format-of.ensures.1, (accepted-of _ _ c.before.before.before.before.requires.accepts).in-range.blocks-max)
 
 -- the size that was compared is the new file's
 size_is : (c : tie.After-record-at)

@@ -41,7 +41,7 @@ all_room c =
     rw (new_records-read _ _ _ _ start.requires.accepts c.format-in.ensures.0) at start.requires.room
 
 format-in-requires : tie.Need-format-in-requires invariant-loop decreases-loop
-format-in-requires c κs = common-in _ _ _ (accepted-of _ _ _ c.before.before.requires.accepts)
+format-in-requires c κs = common-in _ _ (accepted-of _ _ c.before.before.requires.accepts)
 
 loop-holds : tie.Need-loop-init invariant-loop decreases-loop
 loop-holds c = (omega arith, refl, rw (joined-zero _) (put-none _ _))
@@ -53,7 +53,7 @@ put-record-requires c κs =
     let format = read.format-in.ensures in
     let l = c.before.if1.true in
     record {
-      inside = (block_at _ _ _ (accepted-of _ _ _ read.before.before.before.requires.accepts) _ format.0 format.1 _ l).inside;
+      inside = (block_at _ _ (accepted-of _ _ read.before.before.before.requires.accepts) _ format.0 format.1 _ l).inside;
       room = joined-room _ _ _ _ _ (all_room read) l at.loop.invariant.2;
     }
 

@@ -6,7 +6,7 @@ use native.Mathlib.Omega.{arith}
 use borrow.Author.Rules.{rules}
 use lib.ListN.{length}
 use Rattle.model.specs.Plan.{mark_in, version_in, racks_in, rack_size_in, feeds_in, capacity_in, block_count_in, latest_version, Format, format_in, record_at}
-use Rattle.model.specs.Refusal.{or_else, check1, check2, check3, check4, check22, check5, check6, check7, refusal_in}
+use Rattle.model.specs.Refusal.{or_else, check1, check2, check3, check4, check22, check5, check6, check7, refusal}
 use Rattle.theory.proofs.Refusal.{or_else-some, check4-zero, check22-zero, check5-zero, check6-rest, check6-zero, check7-zero}
 use Rattle.header.specs.Header.{header_counted, counted_blocks}
 use Rattle.header.specs.declared.Header.{Header}
@@ -67,10 +67,10 @@ mark-refusal-requires : tie.Need-mark-refusal-requires
 mark-refusal-requires c κs = search rules
 
 returns : tie.Need-returns
-unfolding refusal_in
+unfolding refusal
 returns c =
     record {
-      is = λ running. c.before.mark-refusal.ensures.code _ ∙ or_else-some _ _ c.if1.true;
+      is = c.before.mark-refusal.ensures.code _ ∙ or_else-some _ _ c.if1.true;
       some = omega arith;
     }
 
@@ -89,11 +89,11 @@ hall-refusal-requires : tie.Need-hall-refusal-requires
 hall-refusal-requires c κs = search rules
 
 returns-2 : tie.Need-returns-2
-unfolding refusal_in
+unfolding refusal
 returns-2 c =
     let read = c.before.before.before in
     record {
-      is = λ running. past-mark read.before.before _ ∙ hall-code c.before _ ∙ or_else-some _ _ c.if2.true;
+      is = past-mark read.before.before _ ∙ hall-code c.before _ ∙ or_else-some _ _ c.if2.true;
       some = omega arith;
     }
 
@@ -107,13 +107,12 @@ size-refusal-requires c κs =
     }
 
 returns-3 : tie.Need-returns-3
-unfolding refusal_in
+unfolding refusal
 returns-3 c =
     let hall = c.before.before in
     let read = hall.before.before.before in
     record {
       is =
-          λ running.
           past-mark read.before.before _
           ∙ past-hall hall _
           ∙ size-code c.before _
@@ -122,7 +121,7 @@ returns-3 c =
     }
 
 returns-4 : tie.Need-returns-4
-unfolding refusal_in
+unfolding refusal
 returns-4 c =
     let hall = c.before.before in
     let read = hall.before.before.before in
@@ -138,7 +137,6 @@ returns-4 c =
     record {
       fields = rw same at read.fields.ensures.0;
       left =
-          λ running.
           past-mark read.before.before _
           ∙ past-hall hall _
           ∙ size-code c.before _

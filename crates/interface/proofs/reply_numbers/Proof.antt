@@ -27,14 +27,6 @@ returns-5 : tie.Need-returns-5
 unfolding reply_numbers reply_is
 returns-5 c = rw c.before.reply4.given.1
 
-returns-6 : tie.Need-returns-6
-unfolding reply_numbers reply_is
-returns-6 c = rw c.before.reply5.given.1
-
-returns-7 : tie.Need-returns-7
-unfolding reply_numbers reply_is
-returns-7 c = rw c.before.reply6.given.1
-
 pub reply-numbers-spec : {M : Type 1} → statement M
 reply-numbers-spec =
     tie.close
@@ -54,12 +46,8 @@ reply-numbers-spec =
     (λ c. search rules)
     (λ c. search rules)
     (λ c. search rules)
-    (λ c. search rules)
-    (λ c. search rules)
     returns
     returns-2
     returns-3
     returns-4
-    returns-5
-    returns-6
-    returns-7)
+    returns-5)

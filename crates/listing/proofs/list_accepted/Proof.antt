@@ -16,15 +16,15 @@ prefix-length : (n : ℕ) → n ≤ max_blocks → length (take n (replicate {A 
 prefix-length n l = length-take-le n (replicate {A = ℕ} max_blocks 0) l
 
 array-borrow-prefix-words : tie.Need-array-borrow-prefix-words
-array-borrow-prefix-words c = (cluster-range _ _ (accepted-header _ _ _ c.before.before.before.requires.accepts).cluster-of).blocks-max
+array-borrow-prefix-words c = (cluster-range _ _ (accepted-header _ _ c.before.before.before.requires.accepts).cluster-of).blocks-max
 
 slice-aggregate-put-listing : tie.Need-slice-aggregate-put-listing
-slice-aggregate-put-listing c = sym (prefix-length _ (cluster-range _ _ (accepted-header _ _ _ c.before.before.before.before.requires.accepts).cluster-of).blocks-max)
+slice-aggregate-put-listing c = sym (prefix-length _ (cluster-range _ _ (accepted-header _ _ c.before.before.before.before.requires.accepts).cluster-of).blocks-max)
 
 put-listing-requires : tie.Need-put-listing-requires
 put-listing-requires c κs =
     let start = c.before.before.before.before.before in
-    record { asked = start.requires; words_are = prefix-length _ (cluster-range _ _ (accepted-header _ _ _ start.requires.accepts).cluster-of).blocks-max }
+    record { asked = start.requires; words_are = prefix-length _ (cluster-range _ _ (accepted-header _ _ start.requires.accepts).cluster-of).blocks-max }
 
 same_length : tie.Need-same-length
 same_length c = search rules

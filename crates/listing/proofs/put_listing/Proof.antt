@@ -16,7 +16,7 @@ run-first-requires c κs =
     let pre = c.before.before.before.before.before.before.requires in
     record {
       accepts = pre.asked.accepts;
-      profile-room = (cluster-range _ _ (accepted-header _ _ _ pre.asked.accepts).cluster-of).blocks-max;
+      profile-room = (cluster-range _ _ (accepted-header _ _ pre.asked.accepts).cluster-of).blocks-max;
       words_are = pre.words_are;
     }
 

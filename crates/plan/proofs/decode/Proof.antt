@@ -10,23 +10,22 @@ use borrow.Author.Count.{below_none, below_more}
 use lib.ListN.{length, length-set}
 use Rattle.order.specs.Table.{filled}
 use Rattle.order.proofs.Tables.{filled_none, filled_more}
-use Rattle.model.specs.Plan.{Plan, block_of}
+use Rattle.model.specs.Plan.{Plan, block_of, plan_in}
 use Rattle.theory.specs.Widths.{popularity_bound}
 use Rattle.theory.proofs.Plan.{upper-max}
 use Rattle.cluster.specs.declared.Cluster.{Cluster}
 use Rattle.cluster.specs.Blocks.{link_of, demand_of, DemandInRange, Linked, DemandsFit, DemandsOf}
 use Rattle.cluster.proofs.Laws.{cluster-range, cluster-blocks, cluster-block, linked-mate, demand_of-popularity, demand_of-least, demand_of-most, demand_of-link}
 use Rattle.header.specs.Format.{as_format}
-use Rattle.plan.specs.Reading.{plan_of}
-use Rattle.plan.proofs.Laws.{accepted-header, accepted-of, header-version, header-machines, header-records, demands-of, BlockAt, common-in, block_at}
+use Rattle.plan.proofs.Laws.{accepted-header, accepted-of, plan_in-version, plan_in-machines, plan_in-records, demands-of, BlockAt, common-in, block_at}
 use Rattle.plan.proofs.decode.Statement.{statement}
 use Rattle.plan.proofs.decode.Tie as tie
 
 abbrev invariant-loop : tie.invariant-loop
 invariant-loop bytes h demands₀ format cluster i₀ demands i =
     (i ≤ cluster.blocks)
-    × (demands ≡ filled i (demand_of (plan_of bytes h)) demands₀)
-    × ((k : ℕ) → k < i → (block_of (plan_of bytes h) k).popularity < popularity_bound)
+    × (demands ≡ filled i (demand_of (plan_in bytes)) demands₀)
+    × ((k : ℕ) → k < i → (block_of (plan_in bytes) k).popularity < popularity_bound)
     × (length demands ≡ length demands₀)
 
 abbrev decreases-loop : tie.decreases-loop
@@ -61,45 +60,41 @@ demands-fit p c demands of room narrow =
 -- the block at hand
 here : (c : tie.Then1 invariant-loop decreases-loop)
     → let at = c.before.before in
-    let a = at.before.before.before.before.before.args in
-    BlockAt a.bytes.now (plan_of a.bytes.now a.h) (as_format at.before.before.format-in.result) at.loop.i
+    BlockAt at.before.before.before.before.before.args.bytes.now (as_format at.before.before.format-in.result) at.loop.i
 here c =
     let read = c.before.before.before.before in
     let format = read.format-in.ensures in
-    block_at _ _ _ (accepted-of _ _ _ read.before.before.before.requires.accepts) _ format.0 format.1 _ c.if1.true
+    block_at _ _ (accepted-of _ _ read.before.before.before.requires.accepts) _ format.0 format.1 _ c.if1.true
 
 -- its link and its demand, as the model has them
 link-is : (c : tie.After-link invariant-loop decreases-loop)
     → let at = c.before.before.before in
-    let a = at.before.before.before.before.before.args in
-    c.link.result ≡ link_of (plan_of a.bytes.now a.h) at.loop.i
+    c.link.result ≡ link_of (plan_in at.before.before.before.before.before.args.bytes.now) at.loop.i
 link-is c =
     let read = c.before.before.before.before.before in
-    let header = accepted-of _ _ _ read.before.before.before.requires.accepts in
-    c.link.ensures.0 _ (header-records _ _ _ header _ read.format-in.ensures.0) (here c.before).below
+    c.link.ensures.0 _ (plan_in-records _ _ read.format-in.ensures.0) (here c.before).below
 
 demand-is : (c : tie.After-demand invariant-loop decreases-loop)
     → let at = c.before.before.before.before.before.before.before.before in
-    let a = at.before.before.before.before.before.args in
-    c.demand.result ≡ demand_of (plan_of a.bytes.now a.h) at.loop.i
+    c.demand.result ≡ demand_of (plan_in at.before.before.before.before.before.args.bytes.now) at.loop.i
 unfolding demand_of
 demand-is c =
     let racks = c.before.before in
     let read = racks.before.before in
     let linked = read.before in
     let start = linked.before.before.before.before.before.before.before.before in
-    let header = accepted-of _ _ _ start.requires.accepts in
+    let header = accepted-of _ _ start.requires.accepts in
     rw (
       (here linked.before).is,
       ← read.popularity.ensures.0,
       ← racks.before.min-replicas.ensures.0,
       ← racks.min-domains.ensures.0,
-      ← (c.before.upper-count.ensures.0 _ _ (header-version _ _ _ header) (header-machines _ _ _ header) (link-is linked)),
+      ← (c.before.upper-count.ensures.0 _ _ (plan_in-version _ _ header) (plan_in-machines _ _ header) (link-is linked)),
       ← (link-is linked),
     ) c.demand.ensures
 
 format-in-requires : tie.Need-format-in-requires invariant-loop decreases-loop
-format-in-requires c κs = common-in _ _ _ (accepted-of _ _ _ c.before.before.requires.accepts)
+format-in-requires c κs = common-in _ _ (accepted-of _ _ c.before.before.requires.accepts)
 
 loop-holds : tie.Need-loop-init invariant-loop decreases-loop
 loop-holds c = (omega arith, filled_none _ _, below_none _, refl)
@@ -119,7 +114,7 @@ min-domains-requires c κs = (here c.before.before.before).inside
 upper-count-requires : tie.Need-upper-count-requires invariant-loop decreases-loop
 upper-count-requires c κs =
     let start = c.before.before.before.before.before.before.before.before.before.before.before in
-    (accepted-of _ _ _ start.requires.accepts).in-range
+    (accepted-of _ _ start.requires.accepts).in-range
 
 demand-requires : tie.Need-demand-requires invariant-loop decreases-loop
 demand-requires c κs = search rules
@@ -154,9 +149,9 @@ returns : tie.Need-returns invariant-loop decreases-loop
 returns c =
     let at = c.before.before in
     let start = at.before.before.before.before.before in
-    let laws = accepted-header _ _ _ start.requires.accepts in
+    let laws = accepted-header _ _ start.requires.accepts in
     let all : at.loop.i ≡ start.args.h.cluster.blocks = omega arith in
-    let inv = rw all at at.loop.invariant in
+    let inv = rw (all, ← laws.held) at at.loop.invariant in
     let of = demands-of _ _ _ _ laws.cluster-of inv.1 in
     record { are = inv.1; fit = demands-fit _ _ _ of (omega arith) inv.2 }
 

@@ -11,7 +11,7 @@ use Rattle.order.proofs.Searches.{first-none, first-at}
 use Rattle.model.specs.Plan.{block_count, plan_in}
 use Rattle.model.specs.Refusal.{is_refusal, pair_refusal, pairs_refusal}
 use Rattle.records.proofs.Laws.{unpaired-refusal}
-use Rattle.plan.proofs.Laws.{passed-of, passed-format, header-blocks, header-records, records-in}
+use Rattle.plan.proofs.Laws.{passed-of, passed-format, plan_in-blocks, plan_in-records, records-in}
 use Rattle.plan.proofs.scan_pairs.Statement.{statement}
 use Rattle.plan.proofs.scan_pairs.Tie as tie
 
@@ -33,8 +33,8 @@ code_is c =
     let start = read.before.before in
     sym
     (c.pair-refusal.ensures _
-    (header-records _ _ _ (passed-of _ _ start.requires) _ (read.format-of.ensures.0 ∙ passed-format _ _ start.requires))
-    (header-blocks _ _ _ (passed-of _ _ start.requires)))
+    (plan_in-records _ _ (read.format-of.ensures.0 ∙ passed-format _ _ start.requires))
+    (plan_in-blocks _ _ (passed-of _ _ start.requires)))
 
 format-of-requires : tie.Need-format-of-requires invariant-loop decreases-loop
 format-of-requires c κs = search rules
@@ -42,9 +42,7 @@ format-of-requires c κs = search rules
 returns : tie.Need-returns invariant-loop decreases-loop
 returns c =
     let read = c.before.before in
-    let pre = read.before.before.requires in
-    let of = header-records _ _ _ (passed-of _ _ pre) _ (read.format-of.ensures.0 ∙ passed-format _ _ pre) in
-    sym (unpaired-refusal _ _ _ of c.if1.true)
+    sym (unpaired-refusal _ _ _ (plan_in-records _ _ (read.format-of.ensures.0 ∙ passed-format _ _ read.before.before.requires)) c.if1.true)
 
 loop-holds : tie.Need-loop-init invariant-loop decreases-loop
 loop-holds c = (omega arith, below_none _)
@@ -55,7 +53,7 @@ pair-refusal-requires c κs =
     let read = at.before.before.before.before in
     let pre = read.before.before.requires in
     let format = read.format-of.ensures in
-    (records-in _ _ _ (passed-of _ _ pre) _ (format.0 ∙ passed-format _ _ pre) format.1, c.if2.true)
+    (records-in _ _ (passed-of _ _ pre) _ (format.0 ∙ passed-format _ _ pre) format.1, c.if2.true)
 
 returns-2 : tie.Need-returns-2 invariant-loop decreases-loop
 unfolding pairs_refusal
@@ -64,7 +62,7 @@ returns-2 c =
     let start = at.before.before.before.before.before.before in
     let p = plan_in start.args.bytes.now in
     let refuses : 0 < c.before.pair-refusal.result = omega arith in
-    let within : at.loop.i < block_count p = rw (header-blocks _ _ _ (passed-of _ _ start.requires)) at c.before.before.if2.true in
+    let within : at.loop.i < block_count p = rw (plan_in-blocks _ _ (passed-of _ _ start.requires)) at c.before.before.if2.true in
     sym
     (first-at is_refusal 0 refl (pair_refusal p) (block_count p) at.loop.i within at.loop.invariant.1
     (rw (code_is c.before) (lt-ltb 0 c.before.pair-refusal.result refuses))
@@ -87,7 +85,7 @@ returns-3 c =
     let at = c.before.before in
     let start = at.before.before.before.before.before.before in
     let p = plan_in start.args.bytes.now in
-    let passed : at.loop.i ≡ block_count p = rw (← (header-blocks _ _ _ (passed-of _ _ start.requires))) (omega arith) in
+    let passed : at.loop.i ≡ block_count p = rw (← (plan_in-blocks _ _ (passed-of _ _ start.requires))) (omega arith) in
     sym (first-none is_refusal 0 refl (pair_refusal p) (block_count p) (rw passed at at.loop.invariant.1))
 
 pub scan-pairs-spec : {M : Type 1} → statement M

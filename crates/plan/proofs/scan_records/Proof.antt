@@ -13,7 +13,7 @@ use Rattle.order.proofs.Searches.{first-none, first-at}
 use Rattle.model.specs.Plan.{Block, block_count, block_of, upper, min_total, plan_in}
 use Rattle.model.specs.Refusal.{is_refusal, block_refusal, blocks_refusal}
 use Rattle.header.specs.Format.{as_format}
-use Rattle.plan.proofs.Laws.{passed-of, header-blocks, header-version, header-domains, header-machines, header-records, BlockAt, common-in, block_at}
+use Rattle.plan.proofs.Laws.{passed-of, plan_in-blocks, plan_in-version, plan_in-domains, plan_in-machines, plan_in-records, BlockAt, common-in, block_at}
 use Rattle.plan.proofs.scan_records.Statement.{statement}
 use Rattle.plan.proofs.scan_records.Tie as tie
 
@@ -30,12 +30,11 @@ decreases-loop bytes h format cluster total₀ i₀ total i = cluster.blocks - i
 -- the block at hand
 here : (c : tie.Then1 invariant-loop decreases-loop)
     → let at = c.before.before in
-    let bytes = at.before.before.before.before.args.bytes.now in
-    BlockAt bytes (plan_in bytes) (as_format at.before.before.format-in.result) at.loop.i
+    BlockAt at.before.before.before.before.args.bytes.now (as_format at.before.before.format-in.result) at.loop.i
 here c =
     let read = c.before.before.before.before in
     let format = read.format-in.ensures in
-    block_at _ _ _ (passed-of _ _ read.before.before.requires) _ format.0 format.1 _ c.if1.true
+    block_at _ _ (passed-of _ _ read.before.before.requires) _ format.0 format.1 _ c.if1.true
 
 -- its upper count and its code, as the model has them
 most-is : (c : tie.After-upper-count invariant-loop decreases-loop)
@@ -45,8 +44,8 @@ most-is c =
     let taken = c.before.before.before.before in
     let read = taken.before.before.before.before in
     let header = passed-of _ _ read.before.before.requires in
-    c.upper-count.ensures.0 _ _ (header-version _ _ _ header) (header-machines _ _ _ header)
-    (c.before.link.ensures.0 _ (header-records _ _ _ header _ read.format-in.ensures.0) (here taken).below)
+    c.upper-count.ensures.0 _ _ (plan_in-version _ _ header) (plan_in-machines _ _ header)
+    (c.before.link.ensures.0 _ (plan_in-records _ _ read.format-in.ensures.0) (here taken).below)
 
 code_is : (c : tie.After-block-refusal invariant-loop decreases-loop)
     → let at = c.before.before.before.before.before.before.before in
@@ -58,14 +57,14 @@ code_is c =
     rw (
       (here taken).is,
       ← (most-is c.before),
-      ← (header-domains _ _ _ (passed-of _ _ taken.before.before.before.before.before.before.requires)),
+      ← (plan_in-domains _ _ (passed-of _ _ taken.before.before.before.before.before.before.requires)),
       ← racks.before.min-replicas.ensures.0,
       ← racks.min-domains.ensures.0,
       c.block-refusal.ensures,
     )
 
 format-in-requires : tie.Need-format-in-requires invariant-loop decreases-loop
-format-in-requires c κs = common-in _ _ _ (passed-of _ _ c.before.requires)
+format-in-requires c κs = common-in _ _ (passed-of _ _ c.before.requires)
 
 loop-holds : tie.Need-loop-init invariant-loop decreases-loop
 loop-holds c = (omega arith, sym (sum-zero _), omega arith, below_none _)
@@ -127,7 +126,7 @@ returns-2 c =
     let at = c.before.before in
     let start = at.before.before.before.before in
     let p = plan_in start.args.bytes.now in
-    let passed : at.loop.i ≡ block_count p = rw (← (header-blocks _ _ _ (passed-of _ _ start.requires))) (omega arith) in
+    let passed : at.loop.i ≡ block_count p = rw (← (plan_in-blocks _ _ (passed-of _ _ start.requires))) (omega arith) in
     record {
       none = first-none is_refusal 0 refl (block_refusal p) (block_count p) (rw passed at at.loop.invariant.3);
       is = rw passed at at.loop.invariant.1;

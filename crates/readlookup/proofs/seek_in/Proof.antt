@@ -12,7 +12,7 @@ unfolding sought_in
 returns c = rw (plan_of-blocks _ _, le-ltb _ _ c.if1.true)
 
 mate-requires : tie.Need-mate-requires
-mate-requires c κs = let pre = c.before.before.before.before.requires in record { running = pre.running; accepts = pre.accepts; below = c.if1.false }
+mate-requires c κs = record { accepts = c.before.before.before.before.requires; below = c.if1.false }
 
 cast-t8 : tie.Need-overflow-cast-t8
 cast-t8 c = search rules

@@ -3,7 +3,7 @@
 use borrow.Author.Rules.{rules}
 use mathlib.Core.Path.{sym}
 use lib.Seq.{length-take-le}
-use Rattle.script.proofs.Laws.{part-is}
+use Rattle.script.proofs.Laws.{does-part}
 use Rattle.script.proofs.call_part.Statement.{statement}
 use Rattle.script.proofs.call_part.Tie as tie
 
@@ -25,7 +25,7 @@ same_length c = search rules
 returns : tie.Need-returns
 returns c =
     let called = c.before.before in
-    part-is _ _ _ _ _ called.before.before.smaller.ensures called.call-lent.ensures
+    does-part _ _ _ _ _ called.before.before.smaller.ensures called.call-lent.ensures
 
 pub call-part-spec : {M : Type 1} → statement M
 call-part-spec =

@@ -3,7 +3,6 @@
 use borrow.Author.Rules.{rules}
 use Rattle.service.specs.Entries.{run_outcome}
 use Rattle.script.specs.Script.{reply_is}
-use Rattle.script.specs.Turns.{change_by}
 use Rattle.script.proofs.Laws.{respond-run}
 use Rattle.script.proofs.run_lent.Statement.{statement}
 use Rattle.script.proofs.run_lent.Tie as tie
@@ -24,22 +23,28 @@ same_length : tie.Need-same-length
 same_length c = search rules
 
 returns : tie.Need-returns
-unfolding reply_is change_by run_outcome
-returns c = λ b block. respond-run _ _ _ _ _ (rw c.before.answer.given.1 at c.before.before.before.before.before.run.ensures)
+unfolding reply_is run_outcome
+returns c =
+    let called = c.before.before.before.before.before in
+    respond-run _ _ _ _ (rw c.before.answer.given.1 at called.run.ensures)
 
 same-length-2 : tie.Need-same-length-2
 same-length-2 c = search rules
 
 returns-2 : tie.Need-returns-2
-unfolding reply_is change_by run_outcome
-returns-2 c = λ b block. respond-run _ _ _ _ _ (rw c.before.answer2.given.1 at c.before.before.before.before.before.run.ensures)
+unfolding reply_is run_outcome
+returns-2 c =
+    let called = c.before.before.before.before.before in
+    respond-run _ _ _ _ (rw c.before.answer2.given.1 at called.run.ensures)
 
 same-length-3 : tie.Need-same-length-3
 same-length-3 c = search rules
 
 returns-3 : tie.Need-returns-3
-unfolding reply_is change_by run_outcome
-returns-3 c = λ b block. respond-run _ _ _ _ _ (rw c.before.answer3.given.1 at c.before.before.before.before.before.run.ensures)
+unfolding reply_is run_outcome
+returns-3 c =
+    let called = c.before.before.before.before.before in
+    respond-run _ _ _ _ (rw c.before.answer3.given.1 at called.run.ensures)
 
 pub run-lent-spec : {M : Type 1} → statement M
 run-lent-spec =

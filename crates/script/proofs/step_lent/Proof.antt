@@ -3,7 +3,6 @@
 use borrow.Author.Rules.{rules}
 use Rattle.service.specs.Entries.{step_outcome}
 use Rattle.script.specs.Script.{reply_is}
-use Rattle.script.specs.Turns.{change_by}
 use Rattle.script.proofs.Laws.{respond-step}
 use Rattle.script.proofs.step_lent.Statement.{statement}
 use Rattle.script.proofs.step_lent.Tie as tie
@@ -21,15 +20,19 @@ same_length : tie.Need-same-length
 same_length c = search rules
 
 returns : tie.Need-returns
-unfolding reply_is change_by step_outcome
-returns c = λ b block. respond-step _ _ _ _ (rw c.before.answer.given.1 at c.before.before.before.before.before.step.ensures)
+unfolding reply_is step_outcome
+returns c =
+    let called = c.before.before.before.before.before in
+    respond-step _ _ _ (rw c.before.answer.given.1 at called.step.ensures)
 
 same-length-2 : tie.Need-same-length-2
 same-length-2 c = search rules
 
 returns-2 : tie.Need-returns-2
-unfolding reply_is change_by step_outcome
-returns-2 c = λ b block. respond-step _ _ _ _ (rw c.before.answer2.given.1 at c.before.before.before.before.before.step.ensures)
+unfolding reply_is step_outcome
+returns-2 c =
+    let called = c.before.before.before.before.before in
+    respond-step _ _ _ (rw c.before.answer2.given.1 at called.step.ensures)
 
 pub step-lent-spec : {M : Type 1} → statement M
 step-lent-spec =

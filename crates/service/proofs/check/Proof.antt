@@ -18,7 +18,7 @@ admit-placement-requires c κs = search rules
 
 returns : tie.Need-returns
 unfolding check_outcome check_call
-returns c = placement-refused _ _ _ _ _ c.before.before.before.admit-placement.ensures _ c.if1.true
+returns c = placement-refused _ _ _ _ c.before.before.before.admit-placement.ensures _ c.if1.true
 
 returns-2 : tie.Need-returns-2
 unfolding check_outcome check_call
@@ -27,7 +27,7 @@ returns-2 c =
     let passed = c.before.if1.false in
     let of = (admitted.ready passed).prepared.profiles-of.cluster in
     ap (λ (n : ℕ). record { answer = answered n; items = c.before.before.before.before.before.before.before.before.args.words.now }) (cluster-blocks _ _ of)
-    ∙ placement-made _ _ _ _ _ admitted _ passed
+    ∙ placement-made _ _ _ _ admitted _ passed
 
 pub check-spec : {M : Type 1} → statement M
 check-spec =

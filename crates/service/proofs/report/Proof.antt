@@ -17,7 +17,7 @@ admit-placement-requires c κs = search rules
 
 returns : tie.Need-returns
 unfolding report_outcome report_call
-returns c = placement-refused _ _ _ _ _ c.before.before.before.admit-placement.ensures _ c.if1.true
+returns c = placement-refused _ _ _ _ c.before.before.before.admit-placement.ensures _ c.if1.true
 
 report-requires : tie.Need-report-requires
 report-requires c κs =
@@ -33,8 +33,8 @@ returns-2 c =
     let admitted = c.before.before.before.before.before.before.admit-placement.ensures in
     let passed = c.before.before.before.if1.false in
     ap (λ (r : Report). record { answer = answered r; items = c.before.before.before.before.before.before.before.before.before.before.args.words.now })
-    (report-is _ _ _ _ _ (admitted.ready passed) _ c.report.ensures)
-    ∙ placement-made _ _ _ _ _ admitted _ passed
+    (report-is _ _ _ _ (admitted.ready passed) _ c.report.ensures)
+    ∙ placement-made _ _ _ _ admitted _ passed
 
 pub report-spec : {M : Type 1} → statement M
 report-spec =

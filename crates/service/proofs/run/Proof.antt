@@ -20,7 +20,7 @@ same_length c = search rules
 
 returns : tie.Need-returns
 unfolding run_outcome run_call
-returns c = placement-refused _ _ _ _ _ c.before.before.before.admit-placement.ensures _ c.if1.true
+returns c = placement-refused _ _ _ _ c.before.before.before.admit-placement.ensures _ c.if1.true
 
 slice-aggregate-run : tie.Need-slice-aggregate-run
 slice-aggregate-run c = search rules
@@ -41,7 +41,7 @@ returns-2 c =
     let ran = c.before.before.before.run in
     ap (ran_answer ran.result.steps ran.new.0) (sym c.if2.true)
     ∙ ap run_answer (ran.ensures _ _ (admitted.ready passed).placement)
-    ∙ placement-made _ _ _ _ _ admitted _ passed
+    ∙ placement-made _ _ _ _ admitted _ passed
 
 same-length-3 : tie.Need-same-length-3
 same-length-3 c = search rules
@@ -54,7 +54,7 @@ returns-3 c =
     let ran = c.before.before.before.run in
     ap (ran_answer ran.result.steps ran.new.0) (sym c.if2.false)
     ∙ ap run_answer (ran.ensures _ _ (admitted.ready passed).placement)
-    ∙ placement-made _ _ _ _ _ admitted _ passed
+    ∙ placement-made _ _ _ _ admitted _ passed
 
 pub run_spec : {M : Type 1} → statement M
 run_spec =

@@ -22,7 +22,7 @@ same_length c = search rules
 
 returns : tie.Need-returns
 unfolding step_outcome step_call
-returns c = placement-refused _ _ _ _ _ c.before.before.before.admit-placement.ensures _ c.if1.true
+returns c = placement-refused _ _ _ _ c.before.before.before.admit-placement.ensures _ c.if1.true
 
 slice-aggregate-step : tie.Need-slice-aggregate-step
 slice-aggregate-step c = search rules
@@ -42,7 +42,7 @@ returns-2 c =
     let passed = c.before.before.before.before.before.before.before.if1.false in
     let stepped = c.before.before.step.ensures _ _ (admitted.ready passed).placement in
     ap₂ (λ (s : Step) (w : List ℕ). record { answer = answered s; items = w }) stepped.step_is stepped.words_are
-    ∙ placement-made _ _ _ _ _ admitted _ passed
+    ∙ placement-made _ _ _ _ admitted _ passed
 
 pub step_spec : {M : Type 1} → statement M
 step_spec =

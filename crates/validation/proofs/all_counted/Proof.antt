@@ -15,11 +15,10 @@ use Rattle.order.specs.Search.{allb}
 use Rattle.order.proofs.Booleans.{no-contradiction}
 use Rattle.order.proofs.Extremes.{allb-false}
 use Rattle.model.specs.Plan.{Plan}
-use Rattle.model.specs.Placement.{word_of, count_of, all_within}
+use Rattle.model.specs.Placement.{word_of, all_within}
 use Rattle.cluster.specs.Blocks.{least_in, most_in, copies_in, DemandsOf}
 use Rattle.needs.specs.Needs.{NeedAsked, NeedOf}
-use Rattle.validation.specs.Validation.{is_needed}
-use Rattle.validation.proofs.Laws.{allb-none, allb-more, needed-at, counted-row}
+use Rattle.validation.proofs.Laws.{allb-none, allb-more, is_counted, counted-at, counted-row}
 use Rattle.validation.proofs.all_counted.Statement.{statement}
 use Rattle.validation.proofs.all_counted.Tie as tie
 
@@ -32,7 +31,7 @@ abbrev invariant-loop : tie.invariant-loop
 invariant-loop words demands cluster figure scale i₀ i =
     (i ≤ cluster.blocks)
     × ((k : ℕ) → k < i → Allowed words demands k)
-    × ((p : Plan) → DemandsOf p cluster demands → all_within p words ≡ true → allb i (λ k. is_needed figure p k (count_of p words k)) ≡ true)
+    × ((p : Plan) → DemandsOf p cluster demands → all_within p words ≡ true → allb i (is_counted p words figure) ≡ true)
 
 abbrev decreases-loop : tie.decreases-loop
 decreases-loop words demands cluster figure scale i₀ i = cluster.blocks - i
@@ -89,9 +88,9 @@ module _ (c : tie.After-needed invariant-loop decreases-loop) where
   At = inside.before.before
 
   here : (p : Plan) → let a = (entry At).args in DemandsOf p a.cluster a.demands.now → all_within p a.words.now ≡ true
-      → is_needed a.figure p At.loop.i (count_of p a.words.now At.loop.i) ≡ eqb (copies_in (word_of a.words.now At.loop.i)) c.needed.result
+      → is_counted p a.words.now a.figure At.loop.i ≡ eqb (copies_in (word_of a.words.now At.loop.i)) c.needed.result
   here p of within =
-      needed-at p (entry At).args.words.now _ _ of within At.loop.i inside.if1.taken _ c.needed.result c.needed.ensures
+      counted-at p (entry At).args.words.now _ _ _ of within At.loop.i c.needed.result inside.if1.taken c.needed.ensures
 
 returns : tie.Need-returns invariant-loop decreases-loop
 returns c =
@@ -102,7 +101,7 @@ returns c =
       is = λ p of within.
           let differs = ne_eqb _ _ (rw (counted called).count_set.ensures at c.if2.true) in
           sym (allb-false a.cluster.blocks _ at.loop.i (inside called).if1.true (here called p of within ∙ differs))
-          ∙ counted-row p a.words.now a.cluster (is_needed a.figure p) of.cluster;
+          ∙ counted-row p a.words.now a.cluster a.figure of.cluster;
       at_least = λ e. no-contradiction (sym e);
       at_most = λ e. no-contradiction (sym e);
     }
@@ -138,7 +137,7 @@ returns-2 c =
     let done : at.loop.i ≡ a.cluster.blocks = omega arith in
     record {
       is = λ p of within.
-          sym (rw done at (at.loop.invariant.2 p of within)) ∙ counted-row p a.words.now a.cluster (is_needed a.figure p) of.cluster;
+          sym (rw done at (at.loop.invariant.2 p of within)) ∙ counted-row p a.words.now a.cluster a.figure of.cluster;
       at_least = λ e i l. (at.loop.invariant.1 i (omega arith)).0;
       at_most = λ e i l. (at.loop.invariant.1 i (omega arith)).1;
     }
