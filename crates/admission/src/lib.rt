@@ -1,4 +1,6 @@
 // The one way in for the entries: a plan's bytes are judged, its counts chosen, and a placement handed in is judged with it.
+#![tactic(auto)]
+
 ghost use Rattle.std.specs.Prelude.{◌≡◌, ◌≤◌, length};
 ghost use Rattle.model.specs.Refusal.{max_blocks, judge, accepted};
 ghost use Rattle.model.specs.Plan.{Plan};
@@ -12,7 +14,7 @@ use loads::Loads;
 use plan::Reading;
 
 // What a call on a plan begins with: the refusal code, 0 for none; the cluster, and the largest share at the chosen counts.
-#[derive(Drop)]
+#[derive(Clone, Copy)]
 pub struct Intake {
     pub code: u8,
     pub cluster: Cluster,
@@ -20,7 +22,7 @@ pub struct Intake {
 }
 
 // What a call on a placement begins with: these, and the loads and copies of the machines.
-#[derive(Drop)]
+#[derive(Clone, Copy)]
 pub struct Placement {
     pub code: u8,
     pub cluster: Cluster,

@@ -1,4 +1,6 @@
 // Steps over the words of a placement: the next one, one taken, a run of them. The loads follow each step.
+#![tactic(auto)]
+
 ghost use Rattle.std.specs.Prelude.{◌≡◌, ℕ};
 ghost use Rattle.model.specs.Plan.{Plan};
 ghost use Rattle.model.specs.Steps.{run};
@@ -15,7 +17,7 @@ use search::{Found, Step};
 use transfers::Hit;
 
 // How a run ended, and the number of steps taken.
-#[derive(Drop)]
+#[derive(Clone, Copy)]
 pub struct Ran {
     pub rested: bool,
     pub steps: u32,

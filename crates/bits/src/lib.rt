@@ -1,4 +1,6 @@
 // Bits of a 64-bit word. Bit m of a placement's word says whether machine m holds the block.
+#![tactic(auto)]
+
 ghost use Rattle.std.specs.Prelude.{◌≡◌, Bool, ◌↔◌, ℕ, ◌+◌, ◌*◌, ◌-◌, ◌%◌, ◌<◌, ◌≤◌, ◌^◌, min, ltb};
 ghost use Rattle.order.specs.Sum.{sum};
 ghost use Rattle.model.specs.Plan.{Plan};

@@ -1,6 +1,8 @@
 // The functions that the archive exports to C: thin wrappers over the public entries, on numbers and slices alone.
 // Each judges the length of `out`, makes its call and has the answer told (`codes`).
 // Each returns 0 or the number of a refusal, and writes only where it returns 0.
+#![tactic(auto)]
+
 ghost use Rattle.std.specs.Prelude.{[], ◌≡◌};
 ghost use Rattle.model.specs.Refusal.{verdict_code, judge};
 ghost use Rattle.model.specs.Calls.{counts_call, first_call, check_call, report_call, step_call, run_call};

@@ -1,4 +1,6 @@
 // A cluster's numbers, and those of its blocks in one word each, as they travel from the reader to every inner function.
+#![tactic(auto)]
+
 ghost use Rattle.std.specs.Prelude.{◌≡◌, ◌+◌, ◌≤◌, ◌<◌, min};
 ghost use Rattle.model.specs.Refusal.{max_machines, max_blocks};
 ghost use Rattle.theory.specs.Widths.{popularity_bound, share_bound};
@@ -21,7 +23,7 @@ pub fn smaller(a: u64, b: u64) -> u64
 }
 
 // The racks R, the machines in each S, the mains feeds F, the copies that a machine can hold C, and the blocks B.
-#[derive(Drop)]
+#[derive(Clone, Copy)]
 pub struct Cluster {
     pub racks: usize,
     pub rack_size: usize,

@@ -1,4 +1,6 @@
 // What each entry answers, as an exported function tells it: the code returned, and the answer's numbers in the first words of `out`.
+#![tactic(auto)]
+
 ghost use Rattle.std.specs.Prelude.{[], ◌≤◌, length};
 ghost use Rattle.plan.specs.Reading.{verdict_of};
 ghost use Rattle.service.specs.Entries.{counts_outcome, first_outcome, check_outcome, report_outcome, step_outcome, run_outcome};

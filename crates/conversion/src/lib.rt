@@ -1,4 +1,6 @@
 // The converter: a plan of version 1 or 2 as the bytes of a version 3 file, in a lent buffer.
+#![tactic(auto)]
+
 ghost use Rattle.std.specs.Prelude.{◌≡◌};
 ghost use Rattle.model.specs.Conversion.{converted, convert_call};
 ghost use Rattle.text.specs.Pasted.{Put};
@@ -18,7 +20,7 @@ const WRITTEN_VERSION: usize = 3;
 // The number of a buffer that is too short.
 const SHORT_BUFFER: u8 = 12;
 
-#[derive(Drop)]
+#[derive(Clone, Copy)]
 pub enum ConvertAnswer {
     Refused(u8),
     Converted(usize),

@@ -1,5 +1,7 @@
 // The converter: reads a plan of version 1 or 2 from standard input and writes it as version 3 to standard output, or for refused bytes
 // `refused` and the number to standard error.
+#![tactic(auto)]
+
 ghost use Rattle.std.specs.Prelude.{◌≡◌, ◌≤◌, length};
 ghost use Rattle.input.specs.Input.{SourceIs};
 ghost use Rattle.convert.specs.Output.{converted_stream, errors_of, result_room, line_room, result_size, answer_output, answer_errors, Sends};

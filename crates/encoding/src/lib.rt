@@ -1,4 +1,6 @@
 // A plan's fields as bytes, put into a lent buffer: numbers in their widths, a header, a record. Each answers the position past its piece.
+#![tactic(auto)]
+
 ghost use Rattle.model.specs.Plan.{block_in};
 ghost use Rattle.model.specs.Writing.{bytes_of, record_bytes};
 ghost use Rattle.text.specs.Pasted.{Room, Put};

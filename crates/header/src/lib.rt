@@ -1,4 +1,6 @@
 // The header of a plan file: its fields, and the checks 1 to 7 and 22; the format that its version gives.
+#![tactic(auto)]
+
 ghost use Rattle.std.specs.Prelude.{◌≡◌, ◌+◌, ◌<◌, ◌≤◌, ◌^◌, length};
 ghost use Rattle.model.specs.Plan.{field, common_length, format_of, format_in, feeds_in, record_at};
 ghost use Rattle.model.specs.Refusal.{max_blocks};
@@ -17,7 +19,7 @@ const LATEST_VERSION: usize = 4;
 const MAX_CAPACITY: usize = 1024;
 
 // The header's fields: the version, R, S, F, C and B, and the budget.
-#[derive(Drop)]
+#[derive(Clone, Copy)]
 pub struct Header {
     pub version: usize,
     pub cluster: Cluster,
@@ -25,7 +27,7 @@ pub struct Header {
 }
 
 // The widths of the fields in which versions differ. A record's fields stand one after the other.
-#[derive(Drop)]
+#[derive(Clone, Copy)]
 pub struct Format {
     pub feeds_width: usize,
     pub popularity_width: usize,
@@ -34,7 +36,7 @@ pub struct Format {
     pub pair_byte_width: usize,
 }
 
-#[derive(Drop)]
+#[derive(Clone, Copy)]
 pub enum HeaderAnswer {
     Refused(u8),
     Passed(Header),

@@ -1,5 +1,7 @@
 // The index of a placement: each machine's blocks as bit sets, by number and by rank, the blocks in order of their shares, and the
 // machines' loads.
+#![tactic(auto)]
+
 ghost use Rattle.std.specs.Prelude.{List, ℕ, ◌≡◌, length};
 ghost use Rattle.model.specs.Refusal.{max_machines};
 ghost use Rattle.index.specs.Index.{index_length, loads_at, Ordered, Cleared, StartAsked, Indexed, CopyAsked, CopiedTo, ClearedTo, EnterAsked, Entered, FillAsked, NextAsked, NextOf, AboveAsked, AboveOf};

@@ -1,4 +1,6 @@
 // Standard input, read whole or up to one byte more than any plan has, and what the reads say of it.
+#![tactic(auto)]
+
 ghost use Rattle.std.specs.Prelude.{◌≡◌};
 ghost use Rattle.libc.specs.Io.{Moved};
 ghost use Rattle.input.specs.Input.{input_of, SourceIs};
@@ -9,7 +11,7 @@ use libc::STDIN_FILENO;
 const INPUT_ROOM: usize = 7185;
 
 // What the reads say of the input: one failed, or the end came after so many bytes, or the buffer is full.
-#[derive(Drop)]
+#[derive(Clone, Copy)]
 pub enum Input {
     Failed,
     Ended(usize),
@@ -17,7 +19,7 @@ pub enum Input {
 }
 
 // The buffer after reading, how many bytes came, what the read after them answered, and what that says of the input.
-#[derive(Drop)]
+#[derive(Clone, Copy)]
 pub struct Source {
     pub bytes: [u8; INPUT_ROOM],
     pub size: usize,

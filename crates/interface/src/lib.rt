@@ -1,4 +1,6 @@
 // What the telling of an answer is made of: a refusal's number as the code, numbers written to `out`, steps and replies as numbers.
+#![tactic(auto)]
+
 ghost use Rattle.std.specs.Prelude.{◌≡◌, ◌≤◌, length};
 ghost use Rattle.search.specs.Scene.{step_of};
 ghost use Rattle.script.specs.Script.{reply_is};

@@ -1,4 +1,6 @@
 // The first placement: copies laid down in file order, each on the next position.
+#![tactic(auto)]
+
 ghost use Rattle.std.specs.Prelude.{◌≡◌, ℕ, ◌<◌};
 ghost use Rattle.order.specs.Table.{filled};
 ghost use Rattle.model.specs.Plan.{Plan, block_count};
@@ -11,7 +13,7 @@ ghost use Rattle.layout.specs.Circle.{OnCircle, cursor_at, visit_at, LayAsked, L
 use cluster::Cluster;
 
 // A position on the circle of all machines: position t is `rack` t mod R at `level` t div R.
-#[derive(Drop)]
+#[derive(Clone, Copy)]
 pub struct Cursor {
     pub cluster: Cluster,
     pub rack: usize,
@@ -19,14 +21,14 @@ pub struct Cursor {
 }
 
 // A machine, and the cursor at the position after it.
-#[derive(Drop)]
+#[derive(Clone, Copy)]
 pub struct Visit {
     pub machine: usize,
     pub cursor: Cursor,
 }
 
 // A block's word, and the cursor past its copies.
-#[derive(Drop)]
+#[derive(Clone, Copy)]
 pub struct LaidBlock {
     pub word: u64,
     pub cursor: Cursor,

@@ -1,4 +1,6 @@
 // The lines of a listing, put into a lent text.
+#![tactic(auto)]
+
 ghost use Rattle.model.specs.Refusal.{max_machines};
 ghost use Rattle.model.specs.Listing.{fields, holders};
 ghost use Rattle.text.specs.Pasted.{Room, Put};
@@ -9,7 +11,7 @@ use cluster::Cluster;
 use loads::LoadReport;
 
 // How the run from the first placement ended, the report on the placement after it, and the largest share.
-#[derive(Drop)]
+#[derive(Clone, Copy)]
 pub struct FirstRun {
     pub ran: Ran,
     pub report: LoadReport,

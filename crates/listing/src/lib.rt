@@ -1,4 +1,6 @@
 // The listing that the program prints: the run that it tells of, and the public entries that write it into a lent text.
+#![tactic(auto)]
+
 ghost use Rattle.std.specs.Prelude.{◌≡◌};
 ghost use Rattle.model.specs.Listing.{listing_of, listing_call, print_call};
 ghost use Rattle.plan.specs.Reading.{plan_of};
@@ -17,7 +19,7 @@ const LISTING_ROOM: usize = 65536;
 const SHORT_TEXT: u8 = 255;
 
 // What the entries answer: refused with its number, or the number of bytes written.
-#[derive(Drop)]
+#[derive(Clone, Copy)]
 pub enum ListingAnswer {
     Refused(u8),
     Listed(usize),

@@ -1,18 +1,20 @@
 // The loads of the machines and the copies on each: from the words in one pass, after a shift, and as a report.
+#![tactic(auto)]
+
 ghost use Rattle.cluster.specs.Blocks.{PlacementFits};
 ghost use Rattle.loads.specs.Loads.{AddAsked, AddedTo, LoadsOf, LoadShiftAsked, ShiftedTo, ReportAsked, ReportOf};
 
 use cluster::{Cluster, MAX_MACHINES};
 
 // For each of 64 machines: the sum of its copies' shares, and the number of its copies.
-#[derive(Drop)]
+#[derive(Clone, Copy)]
 pub struct Loads {
     pub load: [u64; MAX_MACHINES],
     pub copies: [usize; MAX_MACHINES],
 }
 
 // Hottest load, coolest load, sum of loads.
-#[derive(Drop)]
+#[derive(Clone, Copy)]
 pub struct LoadReport {
     pub max_load: u64,
     pub min_load: u64,

@@ -1,4 +1,6 @@
 // The copies that blocks need at a figure: shares as fractions, the least count whose share is within it, and the passes over all blocks.
+#![tactic(auto)]
+
 ghost use Rattle.std.specs.Prelude.{◌≡◌, ◌<◌, max, ltb};
 ghost use Rattle.model.specs.Plan.{Plan};
 ghost use Rattle.theory.specs.Widths.{share_bound};
@@ -19,21 +21,21 @@ const UNIT_PARTS: u64 = UNIT * PARTS;
 const POPULARITY_BOUND: u64 = 4294967296;
 
 // A share before it is divided: a block's popularity, and its count of copies.
-#[derive(Drop)]
+#[derive(Clone, Copy)]
 pub struct Fraction {
     pub popularity: u64,
     pub count: usize,
 }
 
 // The smallest share of a block with one copy less than its need, and how many blocks have it.
-#[derive(Drop)]
+#[derive(Clone, Copy)]
 struct NextShare {
     share: Fraction,
     blocks: usize,
 }
 
 // The needs at a figure: their sum, the next share, and the sum of the needs there.
-#[derive(Drop)]
+#[derive(Clone, Copy)]
 pub struct Tally {
     pub total: usize,
     pub next: u64,
@@ -41,7 +43,7 @@ pub struct Tally {
 }
 
 // The largest shares at the upper counts and at the least copies; the sums of the popularities and of the least copies.
-#[derive(Drop)]
+#[derive(Clone, Copy)]
 pub struct Extent {
     pub low: u64,
     pub high: u64,

@@ -1,1 +1,2 @@
 // Finite sums, lists by index and the first-index search: definitions in specs/, laws in proofs/, no code.
+#![tactic(auto)]

@@ -1,4 +1,6 @@
 // The program: reads a plan from standard input and prints its listing, or `refused` and the number.
+#![tactic(auto)]
+
 ghost use Rattle.std.specs.Prelude.{◌≡◌, ◌≤◌, length};
 ghost use Rattle.model.specs.Listing.{printed, step_limit, listing_room, print_call};
 ghost use Rattle.listing.specs.Entries.{listing_outcome};

@@ -1,4 +1,6 @@
 // A plan file, judged: checks 1 to 11, 17, 22 and 23 on any bytes, and the records of an accepted plan.
+#![tactic(auto)]
+
 ghost use Rattle.std.specs.Prelude.{◌≡◌, ◌&&◌, ◌<◌, leb, ltb};
 ghost use Rattle.model.specs.Plan.{plan_in};
 ghost use Rattle.model.specs.Refusal.{check23, check10, check11, pairs_refusal, judge};
@@ -9,14 +11,14 @@ ghost use Rattle.plan.specs.Reading.{plan_of, verdict_of, RecordsRead, TotalAs, 
 use header::{Header, HeaderAnswer};
 
 // What a plan's bytes are: refused with its number, or accepted with the header's fields.
-#[derive(Drop)]
+#[derive(Clone, Copy)]
 pub enum Reading {
     Refused(u8),
     Accepted(Header),
 }
 
 // What a pass over the records finds: a refusal, or the sum of the least copies.
-#[derive(Drop)]
+#[derive(Clone, Copy)]
 enum Records {
     Fault(u8),
     Total(usize),

@@ -1,5 +1,7 @@
 // A lent list of entries: the last tick, the number of a block's entries, old ones dropped, a new one appended. These functions only go over
 // the records; what becomes of each is decided in `readwindow`.
+#![tactic(auto)]
+
 ghost use Rattle.std.specs.Prelude.{◌≡◌, ◌≤◌, length, take};
 ghost use Rattle.model.specs.ReadLog.{entry, reads_of};
 ghost use Rattle.readlog.specs.Records.{last_or, SweptTo, cleared, CompactedAs, appended};

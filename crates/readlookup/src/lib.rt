@@ -1,4 +1,6 @@
 // A block looked for in a plan's bytes: what a read or a popularity is refused for, and how many records of the list it works on.
+#![tactic(auto)]
+
 ghost use Rattle.std.specs.Prelude.{◌≡◌};
 ghost use Rattle.model.specs.Refusal.{judge, accepted};
 ghost use Rattle.plan.specs.Reading.{plan_of};
@@ -8,14 +10,14 @@ use header::Header;
 use plan::Reading;
 
 // A block looked for in a plan: the refusal's number, 0 where there is none; and its partner, or the block itself.
-#[derive(Drop)]
+#[derive(Clone, Copy)]
 struct Sought {
     code: u8,
     mate: u32,
 }
 
 // What a popularity is counted over: the refusal's number, and how many records are searched for the block and for its partner.
-#[derive(Drop)]
+#[derive(Clone, Copy)]
 pub struct Searched {
     pub code: u8,
     pub own: usize,
@@ -24,7 +26,7 @@ pub struct Searched {
 }
 
 // What a read works on: the refusal's number, how many records are used, and how many of them are entries.
-#[derive(Drop)]
+#[derive(Clone, Copy)]
 pub struct Judged {
     pub code: u8,
     pub span: usize,

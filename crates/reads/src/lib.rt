@@ -1,5 +1,7 @@
 // The calls on reads: a read noted in a lent list of entries, and a block's popularity counted there. Both take a plan's bytes, the list and
 // the count of its entries; what they do with them is decided in `readwindow` and `lookup` and done in `readlog`.
+#![tactic(auto)]
+
 ghost use Rattle.std.specs.Prelude.{◌≡◌};
 ghost use Rattle.model.specs.ReadLog.{read_call, popularity_call};
 ghost use Rattle.reads.specs.Answers.{reads_outcome};

@@ -1,4 +1,6 @@
 // The reads of the last two hours, on numbers: ages, how far a lent list is used, and which of its entries count.
+#![tactic(auto)]
+
 ghost use Rattle.std.specs.Prelude.{◌≡◌, ◌^◌, ◌<◌};
 ghost use Rattle.model.specs.ReadLog.{age, usable, standing};
 ghost use Rattle.readwindow.specs.Window.{gap_code, unrefused, kept_with, tallied, read_number, popularity_number};
@@ -13,7 +15,7 @@ const WINDOW: u32 = 7200000;
 const GAP_BOUND: u32 = 2147483648;
 
 // What both calls answer: refused with its number, or a number of entries.
-#[derive(Drop)]
+#[derive(Clone, Copy)]
 pub enum ReadsAnswer {
     Refused(u8),
     Number(u64),

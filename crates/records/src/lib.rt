@@ -1,4 +1,6 @@
 // Single records of a plan file: a block's fields, its link and its upper count, and the checks 8, 9 and 17 of one block.
+#![tactic(auto)]
+
 ghost use Rattle.std.specs.Prelude.{◌≡◌, cond, ℕ, ◌/◌, ◌<◌, ◌≤◌};
 ghost use Rattle.model.specs.Plan.{Plan, machines, block_count, is_paired, max_replicas, upper, block_in};
 ghost use Rattle.model.specs.Refusal.{max_machines, check8, check9, alike, pair_refusal};

@@ -1,4 +1,6 @@
 // Replication factors: how many copies each block gets, and the share of a read that each copy serves.
+#![tactic(auto)]
+
 ghost use Rattle.std.specs.Prelude.{◌≡◌, ◌<◌, ◌≤◌, min};
 ghost use Rattle.model.specs.Plan.{Plan};
 ghost use Rattle.model.specs.Replication.{chosen};
@@ -16,7 +18,7 @@ const MOST_OVER: u64 = 65536;
 
 // Where the bisection stands: no figure below `low` is reachable, and `high` is. For the next probe: by how many copies the needs at
 // `low` are over the limit, how many those at `high` leave, and how often the bisection has probed, 6 and 7 in turn after 7.
-#[derive(Drop)]
+#[derive(Clone, Copy)]
 struct Bracket {
     low: u64,
     high: u64,

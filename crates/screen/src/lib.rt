@@ -1,5 +1,7 @@
 // Cheap tests that rule out a route between two machines: over the blocks by rising share, no move or no exchange can lower m's load and
 // keep n's below it. They never rule out a route that has a step, whatever the spreads.
+#![tactic(auto)]
+
 ghost use Rattle.std.specs.Prelude.{◌≡◌, Bool};
 ghost use Rattle.screen.specs.Screen.{ScreenAsked, NoMove, NoExchange, RuledOut, SweepAsked, BlockSwept, WordAsked, WordSwept};
 
@@ -8,7 +10,7 @@ use index::{BY_RANK, KEYS_AT};
 
 // The blocks passed by rising share: whether one of m's can be exchanged; n's largest share, and below which share of m's it or
 // the next smaller one can be returned (0 where there is none).
-#[derive(Drop)]
+#[derive(Clone, Copy)]
 struct Sweep {
     found: bool,
     top: u64,

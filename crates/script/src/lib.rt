@@ -1,4 +1,6 @@
 // A script of calls, played over one plan and its words: checks, steps and runs, one after the other.
+#![tactic(auto)]
+
 ghost use Rattle.std.specs.Prelude.{◌≡◌};
 ghost use Rattle.model.specs.Claims.{ask_check, ask_step, ask_run, respond, does};
 ghost use Rattle.script.specs.Script.{request_in, call_with, call_of, played_by};
@@ -12,7 +14,7 @@ const LIMIT_SPAN: u64 = 4294967296;
 
 // What a call answered: refused with its number, that the check passed, the step taken (`Rest` where there is none), or
 // how a run ended with the number of steps taken.
-#[derive(Drop)]
+#[derive(Clone, Copy)]
 pub enum LastReply {
     Refused(u8),
     Checked,

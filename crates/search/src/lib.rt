@@ -1,4 +1,6 @@
 // The next step of the definition: the first Move, Swap, RackMove or RackSwap, by machines and blocks lowest first.
+#![tactic(auto)]
+
 ghost use Rattle.std.specs.Prelude.{◌≡◌, ◌%◌, ◌≤◌, length};
 ghost use Rattle.model.specs.Refusal.{max_machines};
 ghost use Rattle.model.specs.Steps.{is_step};
@@ -11,7 +13,7 @@ use transfers::{Hit, Route};
 
 // A step, or rest. Block i goes from m to n, of an exchange block j from n to m; m and n of a RackMove or RackSwap lie in
 // different racks.
-#[derive(Drop)]
+#[derive(Clone, Copy)]
 pub enum Step {
     Rest,
     Move {
@@ -40,7 +42,7 @@ pub enum Step {
 
 // A kind of step and the machine m that it leaves, whose rack starts at `low`; the machines that the kind may lead to are the set bits of
 // `targets`.
-#[derive(Drop)]
+#[derive(Clone, Copy)]
 struct Row {
     swapping: bool,
     across: bool,
@@ -53,7 +55,7 @@ struct Row {
 const ALL: u64 = 18446744073709551615;
 
 // What was found, and whether its machines lie in different racks.
-#[derive(Drop)]
+#[derive(Clone, Copy)]
 pub struct Found {
     pub across: bool,
     pub hit: Hit,

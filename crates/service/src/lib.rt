@@ -1,4 +1,6 @@
 // The public entries: counts, first placement, check, report, one step, a run. Each is the way in and its own work.
+#![tactic(auto)]
+
 ghost use Rattle.std.specs.Prelude.{◌≡◌, get_or};
 ghost use Rattle.order.specs.Table.{filled};
 ghost use Rattle.model.specs.Calls.{counts_call, first_call, check_call, report_call, step_call, run_call};
@@ -10,42 +12,42 @@ use loads::LoadReport;
 use search::Step;
 
 // What choosing counts answers: refused with its number, or the largest share.
-#[derive(Drop)]
+#[derive(Clone, Copy)]
 pub enum CountsAnswer {
     Refused(u8),
     Counted(u64),
 }
 
 // What making the first placement answers: refused with its number, or the number of blocks placed.
-#[derive(Drop)]
+#[derive(Clone, Copy)]
 pub enum FirstAnswer {
     Refused(u8),
     Placed(usize),
 }
 
 // What a check answers: refused with its number, or the number of blocks that lie as they should.
-#[derive(Drop)]
+#[derive(Clone, Copy)]
 pub enum CheckAnswer {
     Refused(u8),
     Feasible(usize),
 }
 
 // What a report answers: refused with its number, or the loads and the largest share.
-#[derive(Drop)]
+#[derive(Clone, Copy)]
 pub enum ReportAnswer {
     Refused(u8),
     Reported(LoadReport, u64),
 }
 
 // What one step answers: refused with its number, or the step taken, `Rest` where there is none.
-#[derive(Drop)]
+#[derive(Clone, Copy)]
 pub enum StepAnswer {
     Refused(u8),
     Next(Step),
 }
 
 // What a run answers: refused with its number, or `rest` or `spent` with the number of steps taken.
-#[derive(Drop)]
+#[derive(Clone, Copy)]
 pub enum RunAnswer {
     Refused(u8),
     Rested(u32),

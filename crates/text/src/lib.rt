@@ -1,4 +1,6 @@
 // Pieces of a text, written into a lent buffer: bytes, words, decimal numbers, fields, lines. Each answers the position past its piece.
+#![tactic(auto)]
+
 ghost use Rattle.std.specs.Prelude.{[], ◌∷◌};
 ghost use Rattle.model.specs.Listing.{decimal, number_field, fields, line};
 ghost use Rattle.text.specs.Pasted.{Room, PiecesAsked, Put};

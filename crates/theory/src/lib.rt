@@ -1,1 +1,2 @@
 // Laws of the definitions of the model: statements in specs/, proofs in proofs/; no code.
+#![tactic(auto)]

@@ -1,5 +1,7 @@
 // The first move or exchange between two machines that the definition allows, by local tests on the candidates in file order. The two
 // blocks of a pair are each other's partners; they share no machine.
+#![tactic(auto)]
+
 ghost use Rattle.std.specs.Prelude.{◌≡◌, Bool};
 ghost use Rattle.model.specs.Steps.{is_step};
 ghost use Rattle.cluster.specs.Blocks.{share_in, spread_in};
@@ -10,7 +12,7 @@ use index::{BY_NUMBER, BY_RANK, KEYS_AT};
 
 // A route: a step takes a block from machine m to machine n. What m's load may fall by stays below `margin`; `parted` says whether the
 // two lie in different failure domains.
-#[derive(Drop)]
+#[derive(Clone, Copy)]
 pub struct Route {
     pub parted: bool,
     pub m: usize,
@@ -19,7 +21,7 @@ pub struct Route {
 }
 
 // Block i from m to n, or that and block j from n to m.
-#[derive(Drop)]
+#[derive(Clone, Copy)]
 pub enum Hit {
     Nothing,
     Move {

@@ -2,7 +2,7 @@
 ghost use Rattle.std.specs.Prelude.{◌+◌, ◌≤◌, length};
 
 // A record's head: its op, its length and its number; or the input ended, or the byte after the op is not zero.
-#[derive(Drop)]
+#[derive(Clone, Copy)]
 pub enum Head {
     Cut,
     Record { op: u8, n: usize, number: u32 },

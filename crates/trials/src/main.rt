@@ -1,5 +1,7 @@
 // Plays a stream of trials from standard input: each record sets the plan's bytes, the words or the list of reads, or makes a call.
 // A call writes one line: its answer, and the digest of the lent buffer's items and those behind them.
+#![tactic(auto)]
+
 mod calls;
 mod digest;
 mod input;
@@ -11,7 +13,7 @@ use output::Line;
 
 // The lengths of the current plan and of the parts of the words and of the list that are lent; the list's count of entries, and the block
 // that the calls on it are about.
-#[derive(Drop)]
+#[derive(Clone, Copy)]
 struct Current {
     plan: usize,
     lent: usize,
@@ -21,7 +23,7 @@ struct Current {
 }
 
 // What a record does: the stream goes on, ends as it should, or is not in its format.
-#[derive(Drop)]
+#[derive(Clone, Copy)]
 enum Turn {
     On(Current),
     End,

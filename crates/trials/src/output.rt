@@ -2,7 +2,7 @@
 use crate::input::at_most;
 
 // The first `len` bytes are the line so far. The longest line has 110 bytes; what does not fit is dropped.
-#[derive(Drop)]
+#[derive(Clone, Copy)]
 pub struct Line {
     pub bytes: [u8; 128],
     pub len: usize,

@@ -1,5 +1,7 @@
 // A placement handed in: rows 13 to 16 and 18 of the table, each over all blocks or machines before the next. 13 and 14 are judged on words
 // and demands, before any share or load is made; the others hold at any counts that pass 14.
+#![tactic(auto)]
+
 ghost use Rattle.std.specs.Prelude.{◌≡◌, Bool, List, ◌↔◌, ℕ, ◌<◌, ◌≤◌, leb};
 ghost use Rattle.model.specs.Plan.{Plan};
 ghost use Rattle.model.specs.Refusal.{max_machines};

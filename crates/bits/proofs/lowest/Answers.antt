@@ -3,16 +3,12 @@
 use native.Mathlib.Omega.{arith}
 use lib.Count.{trailing_le}
 use Rattle.bits.proofs.Laws.{lowest-below}
-use Rattle.bits.proofs.lowest.Statement.{statement}
-use Rattle.bits.proofs.lowest.Tie as tie
+use Rattle.bits.proofs.lowest.Goals as goal
 
-cast-result : tie.Need-overflow-cast-result
-cast-result c = omega (arith, trailing_le 64 c.args.word)
+pub overflow_cast-result : goal.overflow_cast-result
+overflow_cast-result c = omega (arith, trailing_le 64 c.args.word)
 
-returns : tie.Need-returns
+pub returns : goal.returns
 returns c =
     let l = lowest-below 64 c.args.word c.requires c.ranges.word.fits in
     record { below = l.0; on = l.1; first = l.2 }
-
-pub lowest-spec : {M : Type 1} → statement M
-lowest-spec = tie.close (tie.spec cast-result returns)

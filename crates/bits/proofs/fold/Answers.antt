@@ -9,19 +9,8 @@ use Rattle.order.proofs.Sums.{sum-zero, sum-suc, sum_step}
 use Rattle.model.specs.Placement.{bit}
 use Rattle.theory.proofs.Placement.{bit_le}
 use Rattle.bits.proofs.Laws.{bit-from, bit-or}
-use Rattle.bits.proofs.fold.Statement.{statement}
-use Rattle.bits.proofs.fold.Tie as tie
-
--- bit x of the first k pieces
-abbrev laid : ℕ → ℕ → ℕ → ℕ → ℕ
-laid word size k x = sum k (λ q. bit word (q * size + x))
-
-abbrev invariant-loop : tie.invariant-loop
-invariant-loop word size total folded₀ at₀ folded at =
-    (k : ℕ) × (at ≡ k * size) × (at < total + size) × ((x : ℕ) → bit folded x ≡ min 1 (laid word size k x))
-
-abbrev decreases-loop : tie.decreases-loop
-decreases-loop word size total folded₀ at₀ folded at = total - at
+use Rattle.bits.proofs.fold.Invariants.{laid}
+use Rattle.bits.proofs.fold.Goals as goal
 
 -- the word is its first piece, and one piece more
 first_piece : (word size x : ℕ) → bit word x ≡ min 1 (laid word size 1 x)
@@ -34,24 +23,15 @@ next-piece word size k x b c before here =
     let all = sum_step k (λ q. bit word (q * size + x)) in
     omega (arith, bit_le word (k * size + x))
 
-loop-holds : tie.Need-loop-init invariant-loop decreases-loop
-loop-holds c =
+pub loop-at-init : goal.loop-at-init
+loop-at-init c =
     let a = c.args in
     (1, omega (arith, one-mul a.size), omega arith, first_piece a.word a.size)
 
-shr-folded : tie.Need-overflow-shr-folded invariant-loop decreases-loop
-shr-folded c = omega arith
-
-add_at : tie.Need-overflow-add-at invariant-loop decreases-loop
-add_at c = omega arith
-
-loop-less : tie.Need-loop-smaller invariant-loop decreases-loop
-loop-less c = omega arith
-
-loop-again : tie.Need-loop-preserved invariant-loop decreases-loop
-loop-again c =
-    let at = c.before.loop in
-    let a = c.before.before.args in
+pub loop-at-preserved : goal.loop-at-preserved
+loop-at-preserved c =
+    let at = c.loop-at in
+    let a = c.args in
     let k = at.invariant.0 in
     let next = add-mul k 1 a.size in (
       k + 1,
@@ -64,16 +44,12 @@ loop-again c =
     )
 
 -- the pieces laid are all pieces
-returns : tie.Need-returns invariant-loop decreases-loop
+pub returns : goal.returns
 returns c pieces x whole l =
-    let at = c.before.loop in
-    let a = c.before.before.args in
+    let at = c.loop-at in
+    let a = c.args in
     let k = at.invariant.0 in
     let long : pieces * a.size ≤ k * a.size = omega (arith, at.invariant.1) in
     let short : k * a.size < (pieces + 1) * a.size = omega (arith, at.invariant.1, at.invariant.2, add-mul pieces 1 a.size, one-mul a.size) in
     let all : k ≡ pieces = omega (arith, le_of_mul-le-mul_right long (omega arith), lt_of_mul-lt-mul_right a.size short) in
     at.invariant.3 x ∙ ap (λ (n : ℕ). min 1 (laid a.word a.size n x)) all
-
-pub fold-spec : {M : Type 1} → statement M
-fold-spec =
-    tie.close (tie.spec invariant-loop decreases-loop loop-holds shr-folded add_at loop-less loop-again returns)
