@@ -1,0 +1,13 @@
+-- `header::feeds_width` meets its contract.
+-- Assumes nothing.
+use borrow.Author.Tests.{lt-ltb, le-ltb}
+use Rattle.model.specs.Plan.{format_of}
+use Rattle.header.proofs.feeds_width.Goals as goal
+
+pub returns-then-version-lt4 : goal.returns-then-version-lt4
+unfolding format_of
+returns-then-version-lt4 c = rw (lt-ltb _ _ c.if-version-lt4.true)
+
+pub returns : goal.returns
+unfolding format_of
+returns c = rw (le-ltb _ _ c.if-version-lt4.false)
