@@ -1,0 +1,120 @@
+-- `plan::decode` meets its contract. The loop's invariant: the demands are filled as far as the loop has come, and these blocks'
+-- popularities fit.
+-- Assumes nothing.
+use mathlib.Core.Path.{◌≡◌, refl}
+use mathlib.Core.List.{List}
+use Prim.Native.Nat.{ℕ, ◌<◌, ◌≤◌}
+use native.Mathlib.Omega.{arith}
+use borrow.Author.Count.{below_none, below_more}
+use lib.ListN.{length, length-set}
+use Rattle.order.proofs.Tables.{filled_none, filled_more}
+use Rattle.model.specs.Plan.{Plan, machines, block_count, block_of, upper, Format, format_in, block_in, plan_in}
+use Rattle.model.specs.Refusal.{accepted, judge}
+use Rattle.theory.specs.Widths.{popularity_bound}
+use Rattle.theory.proofs.Plan.{upper-max}
+use Rattle.cluster.specs.declared.Cluster.{Cluster}
+use Rattle.cluster.specs.Cluster.{machines_in}
+use Rattle.cluster.specs.Blocks.{link_of, demand_word, demand_of, DemandInRange, Linked, DemandsFit, DemandsOf}
+use Rattle.cluster.proofs.Laws.{cluster-range, cluster-blocks, cluster-block, linked-mate, demand_of-popularity, demand_of-least, demand_of-most, demand_of-link}
+use Rattle.header.specs.declared.Header.{Header}
+use Rattle.header.specs.Format.{FormatFits}
+use Rattle.records.specs.Records.{RecordsOf}
+use Rattle.plan.specs.Reading.{plan_of}
+use Rattle.plan.proofs.Laws.{accepted-header, accepted-of, plan_in-version, plan_in-machines, plan_in-records, demands-of, BlockAt, common-in, block_at}
+use Rattle.plan.proofs.decode.Goals as goal
+
+-- the demands of a plan whose popularities fit are in their ranges
+demands-fit : (p : Plan) (c : Cluster) (demands : List ℕ) → DemandsOf p c demands → c.blocks ≤ length demands
+    → ((i : ℕ) → i < c.blocks → (block_of p i).popularity < popularity_bound) → DemandsFit c demands
+demands-fit p c demands of room narrow =
+    record {
+      in-range = cluster-range p c of.cluster;
+      room = room;
+      each = λ i l. rw (of.are i l) (each i l);
+      linked = λ i l. rw (of.are i l) (linked i l);
+    }
+  where
+    linked : (i : ℕ) → i < c.blocks → Linked c.blocks (demand_of p i) i
+    linked i l =
+        let count = cluster-blocks p c of.cluster in
+        rw count (linked-mate p (demand_of p i) i (demand_of-link p i) of.cluster.valid.shaped (rw count at l))
+
+    each : (i : ℕ) → i < c.blocks → DemandInRange (demand_of p i)
+    each i l =
+        let b = cluster-block p c of.cluster i l in
+        record {
+          popularity-narrow = rw (demand_of-popularity p i b) (narrow i l);
+          least-pos = rw (demand_of-least p i b) b.min-pos;
+          least-most = rw (demand_of-least p i b, demand_of-most p i b) b.min-upper;
+          most-max = rw (demand_of-most p i b) (upper-max p i);
+        }
+
+module _ (bytes : List ℕ) (h : Header) (accepts : judge bytes ≡ accepted (plan_of bytes h)) (f : Format) (same : f ≡ format_in bytes)
+    (fits : FormatFits f) (i : ℕ) (l : i < h.cluster.blocks) where
+  -- the block at hand
+  here : BlockAt bytes f i
+  here = block_at bytes h (accepted-of bytes h accepts) f same fits i l
+
+  -- its demand, as the model has it
+  demand-is : (popularity least spread linked most demand : ℕ)
+      → popularity ≡ (block_in f bytes i).popularity
+      → least ≡ (block_in f bytes i).min_replicas
+      → spread ≡ (block_in f bytes i).min_domains
+      → ((p : Plan) → RecordsOf p f bytes → i < block_count p → linked ≡ link_of p i)
+      → ((p : Plan) (k : ℕ) → h.version ≡ p.version → machines_in h.cluster ≡ machines p → linked ≡ link_of p k → most ≡ upper p k)
+      → demand ≡ demand_word popularity least spread most linked
+      → demand ≡ demand_of (plan_in bytes) i
+  unfolding demand_of
+  demand-is popularity least spread linked most demand is-popular is-least is-spread is-link is-most is-demand =
+      let of = accepted-of bytes h accepts in
+      let link-is = is-link (plan_in bytes) (plan_in-records bytes f same) here.below in
+      let upper-is = is-most (plan_in bytes) i (plan_in-version bytes h of) (plan_in-machines bytes h of) link-is in
+      rw (here.is, ← is-popular, ← is-least, ← is-spread, ← upper-is, ← link-is) is-demand
+
+pub format_in-format-requires : goal.format_in-format-requires
+format_in-format-requires c = common-in _ _ (accepted-of _ _ c.requires.accepts)
+
+pub loop-i-init : goal.loop-i-init
+loop-i-init c = (omega arith, filled_none _ _, below_none _, refl)
+
+pub link-linked-requires : goal.link-linked-requires
+link-linked-requires c = (here _ _ c.requires.accepts _ c.format_in-format.ensures.0 c.format_in-format.ensures.1 _ c.loop-i-test.true).inside
+
+pub popularity-requires : goal.popularity-requires
+popularity-requires c = (here _ _ c.requires.accepts _ c.format_in-format.ensures.0 c.format_in-format.ensures.1 _ c.loop-i-test.true).inside
+
+pub min_replicas-requires : goal.min_replicas-requires
+min_replicas-requires c = (here _ _ c.requires.accepts _ c.format_in-format.ensures.0 c.format_in-format.ensures.1 _ c.loop-i-test.true).inside
+
+pub min_domains-requires : goal.min_domains-requires
+min_domains-requires c = (here _ _ c.requires.accepts _ c.format_in-format.ensures.0 c.format_in-format.ensures.1 _ c.loop-i-test.true).inside
+
+pub upper_count-requires : goal.upper_count-requires
+upper_count-requires c =
+    (accepted-of _ _ c.requires.accepts).in-range
+
+pub offset_bounds-demands-i : goal.offset_bounds-demands-i
+offset_bounds-demands-i c = let block = (here _ _ c.requires.accepts _ c.format_in-format.ensures.0 c.format_in-format.ensures.1 _ c.loop-i-test.true).inside in omega arith
+
+pub overflow_add-i : goal.overflow_add-i
+overflow_add-i c = let block = (here _ _ c.requires.accepts _ c.format_in-format.ensures.0 c.format_in-format.ensures.1 _ c.loop-i-test.true).inside in omega arith
+
+pub loop-i-preserved : goal.loop-i-preserved
+loop-i-preserved c = (
+  omega arith,
+  filled_more c.loop-i.i _ _ _ _ c.loop-i.invariant.1 (omega arith) (demand-is _ _ c.requires.accepts _ c.format_in-format.ensures.0 c.format_in-format.ensures.1 _ c.loop-i-test.true _ _ _ _ _ _ c.popularity.ensures.0 c.min_replicas.ensures.0 c.min_domains.ensures.0 c.link-linked.ensures.0 c.upper_count.ensures.0 c.demand.ensures),
+  below_more _ c.loop-i.i c.loop-i.invariant.2
+      (rw (c.popularity.ensures.0, ← (here _ _ c.requires.accepts _ c.format_in-format.ensures.0 c.format_in-format.ensures.1 _ c.loop-i-test.true).is) at c.popularity.ensures.1),
+  simp length-set c.loop-i.invariant.3,
+)
+
+pub shape_of-demands : goal.shape_of-demands
+shape_of-demands c = c.loop-i.invariant.3
+
+pub returns : goal.returns
+returns c =
+    let laws = accepted-header _ _ c.requires.accepts in
+    let all : c.loop-i.i ≡ c.args.h.cluster.blocks = omega arith in
+    let inv = rw (all, ← laws.held) at c.loop-i.invariant in
+    let of = demands-of _ _ _ _ laws.cluster-of inv.1 in
+    record { are = inv.1; fit = demands-fit _ _ _ of (omega arith) inv.2 }
