@@ -12,8 +12,7 @@ use Rattle.theory.proofs.Replication.{share-compares}
 use Rattle.needs.specs.declared.Fraction.{Fraction}
 use Rattle.needs.specs.Needs.{FractionFits, fraction_share}
 use Rattle.needs.proofs.Laws.{fraction-divides}
-use Rattle.needs.proofs.is_less.Statement.{statement}
-use Rattle.needs.proofs.is_less.Tie as tie
+use Rattle.needs.proofs.is_less.Goals as goal
 
 module _ (a b : Fraction) (fits-a : FractionFits a) (fits-b : FractionFits b) where
   product-max : a.popularity * b.count ≤ popularity_bound * most_replicas
@@ -28,14 +27,11 @@ module _ (a b : Fraction) (fits-a : FractionFits a) (fits-b : FractionFits b) wh
         | no l ↦ lt-ltb _ _ (lt_of_not-le (λ m. l (compares.1 m))) ∙ sym (lt-ltb _ _ (lt_of_not-le l))
       ]
 
-mul-result : tie.Need-overflow-mul-result
-mul-result c = let fits = c.before.requires in omega (arith, product-max _ _ fits.0 fits.1)
+pub overflow_mul-result : goal.overflow_mul-result
+overflow_mul-result c = let fits = c.requires in omega (arith, product-max _ _ fits.0 fits.1)
 
-mul-result-2 : tie.Need-overflow-mul-result-2
-mul-result-2 c = let fits = c.before.before.requires in omega (arith, product-max _ _ fits.1 fits.0)
+pub overflow_mul-result-2 : goal.overflow_mul-result-2
+overflow_mul-result-2 c = let fits = c.requires in omega (arith, product-max _ _ fits.1 fits.0)
 
-returns : tie.Need-returns
-returns c = let fits = c.before.before.requires in less-is _ _ fits.0 fits.1
-
-pub is-less-spec : {M : Type 1} → statement M
-is-less-spec = tie.close (tie.spec mul-result mul-result-2 returns)
+pub returns : goal.returns
+returns c = let fits = c.requires in less-is _ _ fits.0 fits.1

@@ -1,6 +1,5 @@
 -- `needs::needed` meets its contract: a count below the estimate is not enough, and one more than it is.
 -- Assumes nothing.
-use borrow.Author.Rules.{rules}
 use mathlib.Core.Path.{◌≡◌, ap, ap₂, ◌∙◌}
 use Prim.Native.Nat.{ℕ, suc, ◌+◌, ◌-◌, ◌*◌, ◌/◌, ◌<◌, ◌≤◌, max}
 use native.Mathlib.Nat.{mul-le-mul, mul-le-mul_left, mul-le-mul_right, lt_of_not-le, le_of_lt}
@@ -12,8 +11,7 @@ use Rattle.theory.specs.Widths.{most_replicas, popularity_bound}
 use Rattle.theory.proofs.Replication.{unit-divides, share-within}
 use Rattle.cluster.specs.Blocks.{popularity_in, least_in, most_in}
 use Rattle.needs.specs.Needs.{parts, NeedAsked}
-use Rattle.needs.proofs.needed.Statement.{statement}
-use Rattle.needs.proofs.needed.Tie as tie
+use Rattle.needs.proofs.needed.Goals as goal
 
 -- where k is not below the popularity times the scale, and one copy more is not enough, the figure in parts is hardly above k in parts
 short-gap : (P figure scale k Z : ℕ) → unit * Z < suc scale * suc figure → P * scale ≤ k * Z → figure * suc k < P * unit
@@ -102,78 +100,70 @@ module _ (demand figure scale : ℕ) (asked : NeedAsked demand figure scale) whe
             omega (arith, most-enough, most-max))
       ]
 
-mul-estimate : tie.Need-overflow-mul-estimate
-mul-estimate c = rw c.popularity-of.ensures (omega (arith, product-max _ _ _ c.before.requires))
+  -- the count to begin with
+  module _ (k : ℕ) (is : k ≡ max (least_in demand) estimate) where
+    count-low : least_in demand ≤ k
+    count-low = omega arith
 
-add-estimate : tie.Need-overflow-add-estimate
-add-estimate c = rw c.popularity-of.ensures (omega (arith, product-max _ _ _ c.before.requires))
+    count-max : k ≤ most_in demand
+    count-max = omega (arith, estimate-max, asked.in-range.least-most)
 
--- the count to begin with
-module _ (c : tie.After-larger) where
-  abbrev Start : tie.Start
-  Start = c.before.before.before
+-- from the numbers that were read
+count-is : (demand figure scale popularity least k : ℕ) (asked : NeedAsked demand figure scale) → popularity ≡ popularity_in demand → least ≡ least_in demand
+    → k ≡ max least ((popularity * scale + (parts - 1)) / parts) → k ≡ max (least_in demand) (estimate demand figure scale asked)
+count-is demand figure scale popularity least k asked popular low is =
+    is ∙ ap₂ max low (ap (λ (x : ℕ). (x * scale + (parts - 1)) / parts) popular)
 
-  count-is : c.larger.result ≡ max (least_in Start.args.demand) (estimate Start.args.demand Start.args.figure Start.args.scale Start.pre)
-  count-is =
-      c.larger.ensures
-      ∙ ap₂ max c.before.least-of.ensures
-      (ap (λ (x : ℕ). (x * Start.args.scale + (parts - 1)) / parts) c.before.before.popularity-of.ensures)
+pub overflow_mul-estimate : goal.overflow_mul-estimate
+overflow_mul-estimate c = rw c.popularity_of-popularity.ensures (omega (arith, product-max _ _ _ c.requires))
 
-  count-max : c.larger.result ≤ most_in Start.args.demand
-  count-max = omega (arith, count-is, estimate-max _ _ _ Start.pre, Start.pre.in-range.least-most)
+pub overflow_add-estimate : goal.overflow_add-estimate
+overflow_add-estimate c = rw c.popularity_of-popularity.ensures (omega (arith, product-max _ _ _ c.requires))
 
-mul-if1 : tie.Need-overflow-mul-if1
-mul-if1 c =
-    let asked = (Start c).requires in
-    let product = mul-le-mul asked.wanted-narrow (count-max c) in
+pub overflow_mul-figure : goal.overflow_mul-figure
+overflow_mul-figure c =
+    let asked = c.requires in
+    let is = count-is _ _ _ _ _ _ asked c.popularity_of-popularity.ensures c.least_of.ensures c.larger-k.ensures in
+    let product = mul-le-mul asked.wanted-narrow (count-max _ _ _ asked _ is) in
     omega (arith, asked.in-range.most-max)
 
-add-result : tie.Need-overflow-add-result
-add-result c = omega (arith, count-max c.before, (Start c.before).pre.in-range.most-max)
+pub overflow_add-result : goal.overflow_add-result
+overflow_add-result c =
+    let asked = c.requires in
+    let is = count-is _ _ _ _ _ _ asked c.popularity_of-popularity.ensures c.least_of.ensures c.larger-k.ensures in
+    omega (arith, count-max _ _ _ asked _ is, asked.in-range.most-max)
 
-returns : tie.Need-returns
-returns c =
-    let asked = (Start c.before).pre in
-    let P-is = c.before.before.before.popularity-of.ensures in
-    let k = c.before.larger.result in
+pub returns-then-figure-k : goal.returns-then-figure-k
+returns-then-figure-k c =
+    let asked = c.requires in
+    let P-is = c.popularity_of-popularity.ensures in
+    let k = c.larger-k.result in
+    let is = count-is _ _ _ _ _ _ asked P-is c.least_of.ensures c.larger-k.ensures in
+    let low = count-low _ _ _ asked k is in
+    let high = count-max _ _ _ asked k is in
     let back : k + 1 - 1 ≡ k = omega arith in
-    let short : (Start c.before).args.figure * k < popularity_in (Start c.before).args.demand * unit = rw (← P-is) c.if1.true in
+    let short : c.args.figure * k < popularity_in c.args.demand * unit = rw (← P-is) c.if-figure-k.true in
     let below = short-most _ _ _ asked k short in
     record {
-      low = omega (arith, count-is c.before);
+      low = omega arith;
       high = omega arith;
-      within = enough-within _ _ _ asked (k + 1) (omega (arith, count-is c.before)) (omega arith)
-          (rw add-one (estimate-next _ _ _ asked k (omega (arith, count-is c.before)) (count-max c.before)));
-      less-above = λ l. rw back (short-above _ _ _ asked k (omega (arith, count-is c.before)) (count-max c.before) short);
+      within = enough-within _ _ _ asked (k + 1) (omega arith) (omega arith)
+          (rw add-one (estimate-next _ _ _ asked k (omega (arith, is)) high));
+      less-above = λ l. rw back (short-above _ _ _ asked k low high short);
     }
 
-returns-2 : tie.Need-returns-2
-returns-2 c =
-    let asked = (Start c.before).pre in
-    let P-is = c.before.before.before.popularity-of.ensures in
-    let k = c.before.larger.result in
-    let low : least_in (Start c.before).args.demand ≤ k = omega (arith, count-is c.before) in
-    let high = count-max c.before in
+pub returns : goal.returns
+returns c =
+    let asked = c.requires in
+    let P-is = c.popularity_of-popularity.ensures in
+    let k = c.larger-k.result in
+    let is = count-is _ _ _ _ _ _ asked P-is c.least_of.ensures c.larger-k.ensures in
+    let low = count-low _ _ _ asked k is in
+    let high = count-max _ _ _ asked k is in
     record {
       low = low;
       high = high;
-      within = enough-within _ _ _ asked k low high (rw (← P-is) c.if1.false);
+      within = enough-within _ _ _ asked k low high (rw (← P-is) c.if-figure-k.false);
       less-above = λ l.
-          short-above _ _ _ asked (k - 1) (omega arith) (omega arith) (estimate-below _ _ _ asked (k - 1) (omega (arith, count-is c.before)));
+          short-above _ _ _ asked (k - 1) (omega arith) (omega arith) (estimate-below _ _ _ asked (k - 1) (omega (arith, is)));
     }
-
-pub needed-spec : {M : Type 1} → statement M
-needed-spec =
-    tie.close
-    (tie.spec
-    (λ c κs. tt)
-    mul-estimate
-    (λ c. search rules)
-    add-estimate
-    (λ c κs. tt)
-    (λ c κs. tt)
-    mul-if1
-    (λ c. search rules)
-    add-result
-    returns
-    returns-2)

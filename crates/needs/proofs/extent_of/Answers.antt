@@ -1,0 +1,102 @@
+-- `needs::extent_of` meets its contract. The loop's invariant: the largest shares and the sums of the blocks passed.
+-- Assumes nothing.
+use mathlib.Core.Path.{◌≡◌, ap₂, sym, ◌∙◌}
+use Prim.Native.Nat.{ℕ, ◌+◌, ◌<◌, max}
+use native.Mathlib.Nat.{le_of_eq}
+use native.Mathlib.Omega.{arith}
+use Rattle.order.proofs.Extremes.{largest_step, largest-zero}
+use Rattle.order.proofs.Sums.{sum-zero, sum_step}
+use Rattle.model.specs.Plan.{block_count, block_of, min_total}
+use Rattle.model.specs.Replication.{share, largest_share}
+use Rattle.theory.specs.Widths.{popularity_bound}
+use Rattle.theory.proofs.Replication.{share-bound}
+use Rattle.cluster.specs.Blocks.{popularity_in, least_in, most_in, DemandInRange}
+use Rattle.cluster.proofs.Laws.{cluster-blocks, demands-popularity, demands-least, demands-most}
+use Rattle.needs.specs.Needs.{FractionFits}
+use Rattle.needs.proofs.Laws.{fraction-of}
+use Rattle.needs.proofs.extent_of.Invariants.{most_share, least_share}
+use Rattle.needs.proofs.extent_of.Goals as goal
+
+-- a block's numbers are in their ranges
+module _ (demand popularity count : ℕ) (d : DemandInRange demand) (popular : popularity ≡ popularity_in demand) where
+  popularity-here : popularity < popularity_bound
+  popularity-here = rw popular d.popularity-narrow
+
+  -- with its upper count, and with its least copies
+  most-here : count ≡ most_in demand → FractionFits record { popularity = popularity; count = count }
+  most-here e = fraction-of demand popularity count d popular (omega (arith, d.least-pos, d.least-most)) (le_of_eq e)
+
+  least-here : count ≡ least_in demand → FractionFits record { popularity = popularity; count = count }
+  least-here e = fraction-of demand popularity count d popular (omega (arith, d.least-pos)) (omega (arith, d.least-most))
+
+pub loop-i-init : goal.loop-i-init
+loop-i-init c =
+    (omega arith, omega arith, omega arith, omega arith, omega arith, λ p of. (sym (largest-zero _), sym (largest-zero _), sym (sum-zero _)))
+
+pub raised-low-requires : goal.raised-low-requires
+raised-low-requires c =
+    let d = c.requires.each c.loop-i.i (omega arith) in
+    (c.loop-i.invariant.1, most-here _ _ _ d c.popularity_of-popularity.ensures c.most_of-count.ensures)
+
+pub raised-high-requires : goal.raised-high-requires
+raised-high-requires c =
+    let d = c.requires.each c.loop-i.i (omega arith) in
+    let popular = c.popularity_of-popularity.ensures in
+    let inv = c.loop-i.invariant in
+    let low_narrow = share-bound _ c.most_of-count.result (popularity-here _ _ 0 d popular) in
+    (omega (arith, inv.1, inv.2, c.raised-low.ensures, low_narrow), least-here _ _ _ d popular c.least_of-count.ensures)
+
+pub overflow_add-total : goal.overflow_add-total
+overflow_add-total c =
+    let d = c.requires.each c.loop-i.i (omega arith) in
+    omega (arith, popularity-here _ _ 0 d c.popularity_of-popularity.ensures, c.requires.in-range.blocks-max)
+
+pub overflow_add-copies : goal.overflow_add-copies
+overflow_add-copies c =
+    let d = c.requires.each c.loop-i.i (omega arith) in
+    let least = least-here _ _ _ d c.popularity_of-popularity.ensures c.least_of-count.ensures in
+    omega (arith, least.count-max, c.requires.in-range.blocks-max)
+
+pub loop-i-preserved : goal.loop-i-preserved
+loop-i-preserved c =
+    let i = c.loop-i.i in
+    let inv = c.loop-i.invariant in
+    let l : i < c.args.cluster.blocks = omega arith in
+    let d = c.requires.each i l in
+    let popular = c.popularity_of-popularity.ensures in
+    let popularity-max = popularity-here _ _ 0 d popular in
+    let count-max = (least-here _ _ _ d popular c.least_of-count.ensures).count-max in
+    let most = c.most_of-count in
+    let least = c.least_of-count in
+    let low-is = c.raised-low.ensures in
+    let high_is = c.raised-high.ensures in (
+      omega arith,
+      omega (arith, low-is, share-bound _ most.result popularity-max),
+      omega (arith, high_is, share-bound _ least.result popularity-max),
+      omega arith,
+      omega arith,
+      λ p of.
+          let popularity-is = popular ∙ demands-popularity p _ _ of i l in
+          let least-is = least.ensures ∙ demands-least p _ _ of i l in
+          let most-is = most.ensures ∙ demands-most p _ _ of i l in
+          let before = inv.5 p of in (
+            low-is ∙ ap₂ max before.0 (ap₂ share popularity-is most-is) ∙ sym (largest_step i (most_share p)),
+            high_is ∙ ap₂ max before.1 (ap₂ share popularity-is least-is) ∙ sym (largest_step i (least_share p)),
+            ap₂ ◌+◌ before.2 least-is ∙ sym (sum_step i (λ k. (block_of p k).min_replicas)),
+          ),
+    )
+
+pub returns : goal.returns
+unfolding largest_share min_total
+returns c =
+    let inv = c.loop-i.invariant in (
+      record {
+        low_narrow = inv.1;
+        high-narrow = inv.2;
+        popularity-max = omega arith;
+      },
+      λ p of.
+          let all : c.loop-i.i ≡ block_count p = omega (arith, cluster-blocks p _ of.cluster) in
+          let passed = rw all at (inv.5 p of) in
+          record { low-is = passed.0; high_is = passed.1; copies-is = passed.2 },
+    )
