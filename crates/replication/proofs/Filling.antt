@@ -1,6 +1,6 @@
 -- Profiles put in the place of demands, one after the other, at any counts that the plan allows.
 -- Assumes nothing.
-use mathlib.Core.Path.{◌≡◌, refl, ap, ap₂, sym, ◌∙◌}
+use mathlib.Core.Path.{◌≡◌, ap, ap₂, sym, ◌∙◌}
 use mathlib.Core.List.{List}
 use Prim.Native.Nat.{ℕ, ◌+◌, ◌<◌, ◌≤◌, max}
 use native.Mathlib.Nat.{le_trans}
@@ -15,7 +15,7 @@ use Rattle.model.specs.Replication.{share, largest_share}
 use Rattle.theory.proofs.Plan.{upper-max}
 use Rattle.theory.proofs.Replication.{share-whole}
 use Rattle.cluster.specs.declared.Cluster.{Cluster}
-use Rattle.cluster.specs.Blocks.{popularity_in, spread_asked, link_in, share_in, profile_of, DemandsFit, DemandsOf, ProfilesFit}
+use Rattle.cluster.specs.Blocks.{popularity_in, spread_asked, link_in, share_in, profile_of, DemandsFit, DemandsOf}
 use Rattle.cluster.proofs.Laws.{cluster-blocks, cluster-block, demands-popularity, demands-spread, demands-link, profile_of-share, profile_of-link, linked-mate}
 use Rattle.replication.specs.Choice.{profile_at, FilledAs}
 

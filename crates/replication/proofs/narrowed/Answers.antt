@@ -1,7 +1,6 @@
 -- `replication::narrowed` meets its contract: a figure whose needs are within the limit is reachable; one whose needs are above it is not,
 -- nor is any up to where the needs change.
 -- Assumes nothing.
-use borrow.Author.Rules.{rules}
 use mathlib.Core.Path.{◌≡◌}
 use mathlib.Core.Bool.{true}
 use Prim.Native.Nat.{ℕ, min}
@@ -12,49 +11,45 @@ use Rattle.model.specs.Plan.{Plan}
 use Rattle.model.specs.Replication.{reachable}
 use Rattle.theory.proofs.Replication.{reachable-none}
 use Rattle.replication.proofs.Laws.{tally-reached, tally-next-reached}
-use Rattle.replication.proofs.narrowed.Statement.{statement}
-use Rattle.replication.proofs.narrowed.Tie as tie
+use Rattle.replication.proofs.narrowed.Goals as goal
 
 -- the smaller of two figures that are reachable is
 reachable-smaller : (p : Plan) (f g : ℕ) → reachable p f ≡ true → reachable p g ≡ true → reachable p (min f g) ≡ true
 reachable-smaller p f g here there =
     elim (dec_le f g) [ yes l ↦ rw (min-eq_left l) here | no l ↦ rw (min-eq_right (le_of_lt (lt_of_not-le l))) there ]
 
-turn-after-requires : tie.Need-turn-after-requires
-turn-after-requires c κs = c.requires.fits.turn_below
+pub turn_after-turn-requires : goal.turn_after-turn-requires
+turn_after-turn-requires c = c.requires.fits.turn_below
 
-returns : tie.Need-returns
-returns c =
-    let start = c.before.before.before.before in
-    let asked = start.requires in
+pub returns-then-tally-allowed : goal.returns-then-tally-allowed
+returns-then-tally-allowed c =
+    let asked = c.requires in
     record {
       fits = record {
         high-narrow = omega (arith, asked.fits.high-narrow, asked.wanted-less);
         over-max = asked.fits.over-max;
         spare-max = omega (arith, asked.limit-max);
-        turn_below = c.before.before.before.turn-after.ensures;
+        turn_below = c.turn_after-turn.ensures;
       };
       less = omega (arith, asked.low-max, asked.wanted-less);
       of = λ p valid limit_is tally at.
           record {
             low-min = at.low-min;
             unreached = at.unreached;
-            reached = tally-reached p _ _ tally (omega (arith, c.before.if1.true));
+            reached = tally-reached p _ _ tally (omega (arith, c.if-tally-allowed.true));
           };
     }
 
-returns-2 : tie.Need-returns-2
-returns-2 c =
-    let kept = c.before.before.before.before in
-    let start = kept.before.before in
-    let asked = start.requires in
-    let t = start.args.tally in
+pub returns-then-tally-allowed-2 : goal.returns-then-tally-allowed-2
+returns-then-tally-allowed-2 c =
+    let asked = c.requires in
+    let t = c.args.tally in
     record {
       fits = record {
         high-narrow = omega (arith, asked.fits.high-narrow, c.smaller.ensures);
         over-max = omega arith;
         spare-max = asked.fits.spare-max;
-        turn_below = kept.before.turn-after.ensures;
+        turn_below = c.turn_after-turn.ensures;
       };
       less = omega (arith, asked.low-max, asked.wanted-less, c.smaller.ensures);
       of = λ p valid limit_is tally at.
@@ -63,26 +58,21 @@ returns-2 c =
             unreached = reachable-none p valid _ t.next (omega (arith, tally.total-is)) tally.same;
             reached = rw c.smaller.ensures
                 (reachable-smaller p _ _
-                (tally-next-reached p _ _ valid tally asked.next-above (omega (arith, c.before.if2.true)))
+                (tally-next-reached p _ _ valid tally asked.next-above (omega (arith, c.if-tally-allowed-2.true)))
                 at.reached);
           };
     }
 
-sub-over : tie.Need-overflow-sub-over
-sub-over c = search rules
-
-returns-3 : tie.Need-returns-3
-returns-3 c =
-    let kept = c.before.before.before.before in
-    let start = kept.before.before in
-    let asked = start.requires in
-    let t = start.args.tally in
+pub returns : goal.returns
+returns c =
+    let asked = c.requires in
+    let t = c.args.tally in
     record {
       fits = record {
         high-narrow = asked.fits.high-narrow;
         over-max = omega (arith, asked.fewer-max);
         spare-max = asked.fits.spare-max;
-        turn_below = kept.before.turn-after.ensures;
+        turn_below = c.turn_after-turn.ensures;
       };
       less = omega (arith, asked.low-max, asked.wanted-less, asked.next-above);
       of = λ p valid limit_is tally at.
@@ -92,6 +82,3 @@ returns-3 c =
             reached = at.reached;
           };
     }
-
-pub narrowed-spec : {M : Type 1} → statement M
-narrowed-spec = tie.close (tie.spec turn-after-requires returns (λ c κs. tt) returns-2 sub-over returns-3)

@@ -3,7 +3,7 @@
 use mathlib.Core.Path.{◌≡◌, ap, sym, ◌∙◌}
 use mathlib.Core.Bool.{true}
 use mathlib.Core.List.{List}
-use Prim.Native.Nat.{ℕ, ◌-◌, ◌*◌, ◌≤◌}
+use Prim.Native.Nat.{ℕ, ◌*◌, ◌≤◌}
 use native.Mathlib.Nat.{le_trans, le_of_eq}
 use native.Mathlib.Omega.{arith}
 use Rattle.order.specs.Sum.{sum}
@@ -15,17 +15,9 @@ use Rattle.model.specs.Replication.{largest_share, need, reachable, chosen}
 use Rattle.theory.specs.Refusal.{Valid}
 use Rattle.theory.proofs.Replication.{copy_limit-max, feasible_counts-valid, largest_share-term, need-enough, reachable-counts, reachable-upper, figure-by-bisection, figure-full}
 use Rattle.cluster.specs.declared.Cluster.{Cluster}
-use Rattle.replication.specs.Choice.{BracketFits, BracketOf, LimitedDemands, ChooseAsked}
+use Rattle.replication.specs.Choice.{ChooseAsked}
 use Rattle.replication.proofs.Laws.{most-within, tally-reached}
-use Rattle.replication.proofs.best_figure.Statement.{statement}
-use Rattle.replication.proofs.best_figure.Tie as tie
-
-abbrev invariant-loop : tie.invariant-loop
-invariant-loop demands allowed cluster bracket₀ bracket =
-    BracketFits bracket × ((p : Plan) → LimitedDemands p cluster demands allowed → BracketOf p bracket)
-
-abbrev decreases-loop : tie.decreases-loop
-decreases-loop demands allowed cluster bracket₀ bracket = bracket.high - bracket.low
+use Rattle.replication.proofs.best_figure.Goals as goal
 
 -- the limit of a plan is at most its places, and at least its least copies
 module _ (c : Cluster) (demands : List ℕ) (allowed : ℕ) (asked : ChooseAsked c demands allowed) where
@@ -36,9 +28,6 @@ module _ (c : Cluster) (demands : List ℕ) (allowed : ℕ) (asked : ChooseAsked
   least-here : min_total asked.plan ≤ allowed
   unfolding min_total
   least-here = rw asked.limited.limit_is (feasible_counts-valid asked.plan asked.limited.demands-of.cluster.valid).in-limit
-
-extent-of-requires : tie.Need-extent-of-requires invariant-loop decreases-loop
-extent-of-requires c κs = c.before.requires.fit
 
 -- the largest share at the least copies is reachable, and the least copies are the needs there
 module _ (p : Plan) (valid : Valid p) (high : ℕ) (is : high ≡ largest_share p (λ i. (block_of p i).min_replicas)) where
@@ -53,25 +42,27 @@ module _ (p : Plan) (valid : Valid p) (high : ℕ) (is : high ≡ largest_share 
       need-enough p i (valid.shaped.block i l) high
       (le_trans (largest_share-term p (λ k. (block_of p k).min_replicas) i l) (le_of_eq (sym is))))
 
-returns : tie.Need-returns invariant-loop decreases-loop
+pub extent_of-extent-requires : goal.extent_of-extent-requires
+extent_of-extent-requires c = c.requires.fit
+
+pub returns-then-extent-allowed : goal.returns-then-extent-allowed
 unfolding chosen
-returns c =
-    let extent = c.before.before.extent-of.ensures in (
+returns-then-extent-allowed c =
+    let extent = c.extent_of-extent.ensures in (
       λ p of.
           let valid = of.demands-of.cluster.valid in
           let numbers = extent.1 p of.demands-of in
           let reached = high-reached p valid _ numbers.high_is in
-          let full = high-needs p valid _ numbers.high_is ∙ sym numbers.copies-is ∙ c.if1.true ∙ of.limit_is in
+          let full = high-needs p valid _ numbers.high_is ∙ sym numbers.copies-is ∙ c.if-extent-allowed.true ∙ of.limit_is in
           record { reached = reached; counts-are = figure-full p valid _ reached full },
       extent.0.high-narrow,
     )
 
-bracket-of-requires : tie.Need-bracket-of-requires invariant-loop decreases-loop
-bracket-of-requires c κs =
-    let extent = c.before.before in
-    let asked = extent.before.before.requires in
-    let fits = extent.extent-of.ensures.0 in
-    let of = extent.extent-of.ensures.1 asked.plan asked.limited.demands-of in
+pub bracket_of-bracket-requires : goal.bracket_of-bracket-requires
+bracket_of-bracket-requires c =
+    let asked = c.requires in
+    let fits = c.extent_of-extent.ensures.0 in
+    let of = c.extent_of-extent.ensures.1 asked.plan asked.limited.demands-of in
     let blocks-max = asked.fit.in-range.blocks-max in
     record {
       low_narrow = fits.low_narrow;
@@ -82,13 +73,13 @@ bracket-of-requires c κs =
       blocks-max = blocks-max;
     }
 
-loop-holds : tie.Need-loop-init invariant-loop decreases-loop
-loop-holds c =
-    let bracket = c.bracket-of.ensures in (
+pub loop-bracket-init : goal.loop-bracket-init
+loop-bracket-init c =
+    let bracket = c.bracket_of-bracket.ensures in (
       bracket.2,
       λ p of.
           let valid = of.demands-of.cluster.valid in
-          let extent = c.before.before.before.extent-of.ensures.1 p of.demands-of in
+          let extent = c.extent_of-extent.ensures.1 p of.demands-of in
           let low-is = bracket.0 ∙ extent.low-is in
           record {
             low-min = le_of_eq (sym low-is);
@@ -97,47 +88,42 @@ loop-holds c =
           },
     )
 
-probe-requires : tie.Need-probe-requires invariant-loop decreases-loop
-probe-requires c κs = (c.before.before.loop.invariant.0, c.if2.true)
+pub probe-wanted-requires : goal.probe-wanted-requires
+probe-wanted-requires c = (c.loop-bracket.invariant.0, c.loop-bracket-test.true)
 
-tally-of-requires : tie.Need-tally-of-requires invariant-loop decreases-loop
-tally-of-requires c κs =
-    let at = c.before.before.before in
-    let asked = at.before.before.before.before.before.before.requires in
-    let inv = at.loop.invariant in
+pub tally_of-tally-requires : goal.tally_of-tally-requires
+tally_of-tally-requires c =
+    let asked = c.requires in
+    let inv = c.loop-bracket.invariant in
     record {
       fit = asked.fit;
-      wanted-narrow = omega (arith, c.probe.ensures.1, inv.0.high-narrow);
+      wanted-narrow = omega (arith, c.probe-wanted.ensures.1, inv.0.high-narrow);
       most-within = most-within asked.plan _ _ asked.limited.demands-of _
-          (le_trans (inv.1 asked.plan asked.limited).low-min c.probe.ensures.0);
+          (le_trans (inv.1 asked.plan asked.limited).low-min c.probe-wanted.ensures.0);
     }
 
-returns-2 : tie.Need-returns-2 invariant-loop decreases-loop
+pub returns-then-tally-allowed : goal.returns-then-tally-allowed
 unfolding chosen
-returns-2 c =
-    let counted = c.before.before in
-    let at = counted.before.before.before.before in
-    let probe = counted.before.probe.ensures in (
+returns-then-tally-allowed c =
+    let probe = c.probe-wanted.ensures in (
       λ p of.
-          let tally = counted.tally-of.ensures.1 p of.demands-of in
-          let full = c.if3.true ∙ of.limit_is in
+          let tally = c.tally_of-tally.ensures.1 p of.demands-of in
+          let full = c.if-tally-allowed.true ∙ of.limit_is in
           let reached = tally-reached p _ _ tally (le_of_eq full) in
           record {
             reached = reached;
             counts-are = figure-full p of.demands-of.cluster.valid _ reached (sym tally.total-is ∙ full);
           },
-      omega (arith, probe.1, at.loop.invariant.0.high-narrow),
+      omega (arith, probe.1, c.loop-bracket.invariant.0.high-narrow),
     )
 
-narrowed-requires : tie.Need-narrowed-requires invariant-loop decreases-loop
-narrowed-requires c κs =
-    let counted = c.before.before in
-    let at = counted.before.before.before.before in
-    let asked = at.before.before.before.before.before.before.requires in
-    let probe = counted.before.probe.ensures in
-    let tally = counted.tally-of.ensures.0 in
+pub narrowed-bracket-requires : goal.narrowed-bracket-requires
+narrowed-bracket-requires c =
+    let asked = c.requires in
+    let probe = c.probe-wanted.ensures in
+    let tally = c.tally_of-tally.ensures.0 in
     record {
-      fits = at.loop.invariant.0;
+      fits = c.loop-bracket.invariant.0;
       low-max = probe.0;
       wanted-less = probe.1;
       next-above = tally.next-above;
@@ -145,44 +131,25 @@ narrowed-requires c κs =
       limit-max = limit-here _ _ _ asked;
     }
 
-loop-less : tie.Need-loop-smaller invariant-loop decreases-loop
-loop-less c = c.narrowed.ensures.less
+pub loop-bracket-smaller : goal.loop-bracket-smaller
+loop-bracket-smaller c = c.narrowed-bracket.ensures.less
 
-loop-again : tie.Need-loop-preserved invariant-loop decreases-loop
-loop-again c =
-    let counted = c.before.before.before in
-    let inv = counted.before.before.before.before.loop.invariant in (
-      c.narrowed.ensures.fits,
+pub loop-bracket-preserved : goal.loop-bracket-preserved
+loop-bracket-preserved c =
+    let inv = c.loop-bracket.invariant in (
+      c.narrowed-bracket.ensures.fits,
       λ p of.
-          c.narrowed.ensures.of p of.demands-of.cluster.valid of.limit_is
-          (counted.tally-of.ensures.1 p of.demands-of) (inv.1 p of),
+          c.narrowed-bracket.ensures.of p of.demands-of.cluster.valid of.limit_is
+          (c.tally_of-tally.ensures.1 p of.demands-of) (inv.1 p of),
     )
 
-returns-3 : tie.Need-returns-3 invariant-loop decreases-loop
+pub returns : goal.returns
 unfolding chosen
-returns-3 c =
-    let inv = c.before.before.loop.invariant in (
+returns c =
+    let inv = c.loop-bracket.invariant in (
       λ p of.
           let at = inv.1 p of in
           let figure-is = figure-by-bisection p of.demands-of.cluster.valid _ at.reached (λ f l. at.unreached f (omega arith)) in
           record { reached = at.reached; counts-are = λ i l. ap (λ (f : ℕ). need p f i) (sym figure-is) },
       inv.0.high-narrow,
     )
-
-pub best-figure-spec : {M : Type 1} → statement M
-best-figure-spec =
-    tie.close
-    (tie.spec
-    invariant-loop
-    decreases-loop
-    extent-of-requires
-    returns
-    bracket-of-requires
-    loop-holds
-    probe-requires
-    tally-of-requires
-    returns-2
-    narrowed-requires
-    loop-less
-    loop-again
-    returns-3)
