@@ -1,10 +1,9 @@
 -- `index::start` meets its contract: the order is that of the ranked keys and of the ranks.
 -- Assumes nothing.
 use mathlib.Core.Path.{◌≡◌, ap, sym, ◌∙◌}
-use mathlib.Core.List.{List, ◌++◌}
+use mathlib.Core.List.{List}
 use Prim.Native.Nat.{ℕ, ◌+◌, ◌<◌, ◌≤◌}
 use native.Mathlib.Omega.{arith}
-use borrow.Author.Rules.{rules}
 use lib.Dec.{lit≤}
 use lib.ListN.{length, get_or, take, drop, length-take, length-drop, get_or-append}
 use lib.Seq.{get_or-take, get_or-append-add, length-take-le}
@@ -14,8 +13,7 @@ use Rattle.cluster.specs.declared.Cluster.{Cluster}
 use Rattle.ranking.specs.Ranks.{Ranked, RanksOf}
 use Rattle.ranking.proofs.Laws.{key_share-rises, ranks-share, ranks-apart}
 use Rattle.index.specs.Index.{index_length, keys_at, ranks_at, key_at, rank_at, Ordered, Cleared, CopiedTo}
-use Rattle.index.proofs.start.Statement.{statement}
-use Rattle.index.proofs.start.Tie as tie
+use Rattle.index.proofs.start.Goals as goal
 
 -- a list put in the middle of an index stands there, and what is before it stays
 module _ (at count blocks : ℕ) (before middle : List ℕ) (room : at + count ≤ index_length) (few : blocks ≤ count)
@@ -61,61 +59,12 @@ module _ {c : Cluster} {profiles keys ranks entry half index : List ℕ} (few : 
   copied-cleared : Cleared entry → Cleared index
   copied-cleared empty k l = second.below k (omega arith) ∙ first.below k l ∙ empty k l
 
-slice-aggregate-rank : tie.Need-slice-aggregate-rank
-slice-aggregate-rank c = search rules
-
-rank-requires : tie.Need-rank-requires
-rank-requires c κs = search rules
-
-slice-aggregate-copy-part : tie.Need-slice-aggregate-copy-part
-slice-aggregate-copy-part c = search rules
-
-copy-part-requires : tie.Need-copy-part-requires
-copy-part-requires c κs = search rules
-
-slice-aggregate-ranks : tie.Need-slice-aggregate-ranks
-slice-aggregate-ranks c = search rules
-
-sub-ranks : tie.Need-overflow-sub-ranks
-sub-ranks c = search rules
-
-part-ranks-start : tie.Need-slice-bounds-ranks-start
-part-ranks-start c = search rules
-
-part-ranks-end : tie.Need-slice-bounds-ranks-end
-part-ranks-end c = search rules
-
-ranks-requires : tie.Need-ranks-requires
-ranks-requires c κs = search rules
-
-same_length : tie.Need-same-length
-same_length c = search rules
-
-returns : tie.Need-returns
+pub returns : goal.returns
 returns c =
-    let placed = c.before.before in
-    let copied = let known = placed.before.before.before in known.before.before in
-    let sorted = copied.before.before.before.before in
-    let asked = sorted.before.before.before.before.pre in
+    let asked = c.requires in
     let few = asked.fit.in-range.blocks-max in
-    let ranked = sorted.rank.ensures in
-    let first = copied.copy-part.ensures in
-    let of = placed.ranks.ensures _ asked.fit ranked in
+    let ranked = c.rank.ensures in
+    let first = c.copy_part.ensures in
+    let of = c.ranks.ensures _ asked.fit ranked in
     let second = put-copied ranks_at max_blocks _ _ _ (lit≤ tt) few first.sized of.sized in
     (copied-ordered few ranked of first second, copied-cleared few ranked of first second asked.cleared)
-
-pub start_spec : {M : Type 1} → statement M
-start_spec =
-    tie.close
-    (tie.spec
-    slice-aggregate-rank
-    rank-requires
-    slice-aggregate-copy-part
-    copy-part-requires
-    slice-aggregate-ranks
-    sub-ranks
-    part-ranks-start
-    part-ranks-end
-    ranks-requires
-    same_length
-    returns)
