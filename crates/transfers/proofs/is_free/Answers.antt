@@ -1,0 +1,27 @@
+-- `transfers::is_free` meets its contract: it reads the bit n of the word of the block that block i is linked to.
+-- Assumes nothing.
+use mathlib.Core.Path.{ap, sym, ◌∙◌}
+use Prim.Native.Nat.{ℕ}
+use native.Mathlib.Omega.{arith}
+use borrow.Author.Tests.{eqb-true, eq-eqb}
+use Rattle.model.specs.Placement.{held}
+use Rattle.transfers.proofs.Laws.{linked-below}
+use Rattle.transfers.proofs.is_free.Goals as goal
+
+pub linked_to-k-requires : goal.linked_to-k-requires
+linked_to-k-requires c =
+    let asked = c.requires in
+    let fit = asked.fits.profiles-fit in
+    ((fit.linked _ asked.i-below).some, omega (arith, asked.i-below, fit.in-range.blocks-max))
+
+pub bounds-words-k : goal.bounds-words-k
+bounds-words-k c =
+    let asked = c.requires in
+    omega (arith, c.linked_to-k.ensures, linked-below asked.fits _ asked.i-below, asked.fits.word_room)
+
+pub returns : goal.returns
+returns c =
+    let words = c.args.words.now in
+    let n = c.args.n in
+    let e = c.bit_at.ensures ∙ ap (λ (k : ℕ). held words n k) c.linked_to-k.ensures in
+    (λ t. sym e ∙ eqb-true _ 0 t, λ f. eq-eqb _ 0 (e ∙ f))
