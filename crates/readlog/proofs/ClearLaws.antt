@@ -1,10 +1,10 @@
 -- Laws of records that are cleared, one after the other.
 -- Assumes nothing.
 use mathlib.Core.Path.{◌≡◌, refl, sym, ap, ap₂, ◌∙◌}
-use mathlib.Core.List.{List, [], ◌∷◌, ◌++◌, append_assoc, append-nil}
+use mathlib.Core.List.{List, ◌∷◌, ◌++◌, append_assoc, append-nil}
 use Prim.Native.Nat.{ℕ, zero, suc, ◌+◌, ◌-◌, ◌<◌, ◌≤◌}
 use native.Mathlib.Omega.{arith}
-use lib.ListN.{length, get_or, set, take, drop, replicate, length-append, length-replicate, length-drop, take-append-drop}
+use lib.ListN.{length, get_or, set, take, drop, replicate, length-append, length-replicate, take-append-drop}
 use lib.Seq.{length-take-le, drop-cons, set_at}
 use Rattle.model.specs.declared.Entry.{Entry}
 use Rattle.model.specs.ReadLog.{no_entry}
@@ -42,11 +42,3 @@ module _ (start : ℕ) (list : List Entry) where
       ∙ ap (λ (l : List Entry). take start list ++ l) (replicate-end (i - start) (drop (suc i) list))
       ∙ sym (append_assoc (take start list) (replicate (suc (i - start)) no_entry) (drop (suc i) list))
       ∙ ap₂ (λ (n m : ℕ). take start list ++ replicate n no_entry ++ drop m list) (sym more) (sym next)
-
-  pub cleared-length : (i : ℕ) → start ≤ i → i ≤ length list → length (cleared start i list) ≡ length list
-  unfolding cleared
-  cleared-length i above below =
-      let sum = length-append (take start list ++ replicate (i - start) no_entry) (drop i list) in
-      let rest = length-drop i list in
-      let front = front_length i above below in
-      omega (arith, sum, rest, front)

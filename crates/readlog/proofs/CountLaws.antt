@@ -16,14 +16,14 @@ use Rattle.readwindow.specs.Window.{tallied}
 
 -- ── reads_of ────────────────────────────────────────────────────────────────────────────────────────────────────────────
 
-pub readsOf-[] : (block : ℕ) → reads_of block [] ≡ 0
+pub reads_of-[] : (block : ℕ) → reads_of block [] ≡ 0
 unfolding reads_of select
-readsOf-[] block = refl
+reads_of-[] block = refl
 
 -- one entry in front counts as it does behind those of the others
-pub readsOf-∷ : (block : ℕ) (e : Entry) (list : List Entry) → reads_of block (e ∷ list) ≡ tallied (reads_of block list) e.block block
+pub reads_of-∷ : (block : ℕ) (e : Entry) (list : List Entry) → reads_of block (e ∷ list) ≡ tallied (reads_of block list) e.block block
 unfolding reads_of select tallied
-readsOf-∷ block e list = by-test (eqb e.block block) (select (λ e'. eqb e'.block block) list)
+reads_of-∷ block e list = by-test (eqb e.block block) (select (λ e'. eqb e'.block block) list)
   where
     by-test : (t : Bool) (later : List Entry) → length (cond t (e ∷ later) later) ≡ cond t (length later + 1) (length later)
     by-test true later = sym (add-one (length later))
@@ -50,19 +50,19 @@ tallied-le n found block = by-test (eqb found block)
 -- one record further
 reads_of-suc : (block : ℕ) (list : List Entry) (i : ℕ) → i < length list → reads_of block (take (suc i) list) ≡ tallied (reads_of block (take i list)) (get_or list i no_entry).block block
 reads_of-suc block [] i l = absurd (not-suc-le-zero l)
-reads_of-suc block (e ∷ list) zero l = readsOf-∷ block e []
+reads_of-suc block (e ∷ list) zero l = reads_of-∷ block e []
 reads_of-suc block (e ∷ list) (suc i) l =
-    readsOf-∷ block e (take (suc i) list) ∙ ap (λ (n : ℕ). tallied n e.block block) (reads_of-suc block list i (le_of_suc-le-suc l)) ∙
+    reads_of-∷ block e (take (suc i) list) ∙ ap (λ (n : ℕ). tallied n e.block block) (reads_of-suc block list i (le_of_suc-le-suc l)) ∙
     tallied-tallied (reads_of block (take i list)) (get_or list i no_entry).block e.block block ∙
-    ap (λ (n : ℕ). tallied n (get_or list i no_entry).block block) (sym (readsOf-∷ block e (take i list)))
+    ap (λ (n : ℕ). tallied n (get_or list i no_entry).block block) (sym (reads_of-∷ block e (take i list)))
 
 pub reads_of-take : (block : ℕ) (list : List Entry) (i : ℕ) → i < length list → reads_of block (take (i + 1) list) ≡ tallied (reads_of block (take i list)) (get_or list i no_entry).block block
 reads_of-take block list i l = rw (add-one i) (reads_of-suc block list i l)
 
 pub reads_of-le : (block : ℕ) (list : List Entry) (i : ℕ) → reads_of block (take i list) ≤ i
-reads_of-le block list zero = rw (readsOf-[] block) zero-le
-reads_of-le block [] (suc i) = rw (readsOf-[] block) zero-le
+reads_of-le block list zero = rw (reads_of-[] block) zero-le
+reads_of-le block [] (suc i) = rw (reads_of-[] block) zero-le
 reads_of-le block (e ∷ list) (suc i) =
     let step = tallied-le (reads_of block (take i list)) e.block block in
     let later = reads_of-le block list i in
-    rw (readsOf-∷ block e (take i list)) omega arith
+    rw (reads_of-∷ block e (take i list)) omega arith
