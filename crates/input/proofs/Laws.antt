@@ -46,6 +46,10 @@ module _ (size room : ℕ) (next : ℤ) where
   pub input_of-ended : (size ≡ room → ⊥) → SFits w64 next → of_z w64 next ≡ 0 → input_of size room next ≡ Ended size
   input_of-ended d fits e = input_of-short d ∙ short_input-ended size next fits e
 
+  pub input_of-zero : (size ≡ room → ⊥) → next ≡ pos 0 → input_of size room next ≡ Ended size
+  unfolding short_input
+  input_of-zero d e = input_of-short d ∙ ap (short_input size) e
+
   pub input_of-failed : (size ≡ room → ⊥) → (of_z w64 next ≡ 0 → ⊥) → input_of size room next ≡ Failed
   input_of-failed d n = input_of-short d ∙ short_input-failed size next n
 

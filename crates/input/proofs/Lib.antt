@@ -1,2 +1,4 @@
 pub mod Laws
 pub mod OnWhole
+mod Parts
+mod Known

@@ -1,6 +1,6 @@
 -- What the reads of standard input say, case by case, and how this bears on the whole input, however long.
 use Rattle.std.specs.Prelude.{◌≡◌, cond, List, ℕ, zero, suc, ◌≤◌, eqb, ℤ, pos, negsuc, length, take}
-use Rattle.libc.specs.Io.{Moved}
+use Rattle.input.specs.Moved.{Moved}
 use Rattle.model.specs.Listing.{input_room}
 use Rattle.input.specs.declared.Input.{Input}
 use Rattle.input.specs.declared.Input.TheVariants.{Failed, Ended, Full}

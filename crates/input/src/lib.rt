@@ -1,11 +1,14 @@
 // Standard input, read whole or up to one byte more than any plan has, and what the reads say of it.
 #![tactic(auto)]
 
-ghost use Rattle.std.specs.Prelude.{◌≡◌};
-ghost use Rattle.libc.specs.Io.{Moved};
-ghost use Rattle.input.specs.Input.{input_of, SourceIs};
+ghost use Rattle.std.specs.Prelude.{◌≡◌, ◌≢◌, ◌<◌, ◌≤◌, [], pos, length, take, IfOk, IfSome};
+ghost use Rattle.std.specs.Io.KnownBytes.{Consumes, IsAtEnd};
+ghost use Rattle.model.specs.Listing.{input_room};
+ghost use Rattle.input.specs.Moved.{Moved};
+ghost use Rattle.input.specs.Input.{input_of, SourceIs, InputIs};
 
-use libc::STDIN_FILENO;
+use std::io;
+use std::io::Read;
 
 // One byte more than the largest plan has. Of a longer input no more is read: it is judged as it would be in full.
 const INPUT_ROOM: usize = 7185;
@@ -27,15 +30,36 @@ pub struct Source {
     pub input: Input,
 }
 
+// Reads until the part is full or nothing more comes; so many bytes came.
+fn read_full<R: Read>(reader: &mut R, part: &mut [u8]) -> io::Result<usize>
+    ensures within { IfOk result (λ size. size ≤ length part.new) }
+    ensures came { IfOk result
+        (λ size. Consumes (R.remaining reader.old) (R.remaining reader.new) (take size part.new)) }
+    ensures ended { IfOk result (λ size. size < length part.new → IsAtEnd (R.remaining reader.new)) }
+{
+    let mut size: usize = 0;
+    while size < part.len() {
+        let more = reader.read(&mut part[size..])?;
+        if more == 0 {
+            return Ok(size);
+        }
+        size += more;
+    }
+    Ok(size)
+}
+
 // What the read after so many bytes answers: 0 at the end of the input. After a full buffer none is made, and the answer is -1.
-fn read_on(size: usize) -> isize
-    ensures { Moved 1 result }
+fn read_on<R: Read>(reader: &mut R, size: usize) -> io::Result<isize>
+    ensures moved { IfOk result (λ next. Moved 1 next) }
+    ensures ended { IfOk result
+        (λ next. IfSome (R.remaining reader.old) (λ rest. rest ≡ [] → size ≢ input_room → next ≡ pos 0)) }
 {
     if size == INPUT_ROOM {
-        return -1;
+        return Ok(-1);
     }
     let mut next = [0u8; 1];
-    libc::read(STDIN_FILENO, &mut next)
+    let more = reader.read(&mut next)?;
+    Ok(more as isize)
 }
 
 // What so many bytes in a buffer and the answer of the read after them say of the input.
@@ -52,17 +76,19 @@ fn judge(size: usize, room: usize, next: isize) -> Input
 }
 
 // Reads until the buffer is full or nothing more comes, then once more to see whether the input has ended.
-pub fn fill() -> Source
-    ensures { SourceIs result }
+pub fn fill<R: Read>(reader: &mut R) -> io::Result<Source>
+    ensures source { IfOk result (λ source. SourceIs source) }
+    ensures whole { IfOk result
+        (λ source. IfSome (R.remaining reader.old) (λ whole. InputIs source.bytes source.input whole)) }
 {
     let mut bytes = [0u8; INPUT_ROOM];
-    let size = io::read_full(STDIN_FILENO, &mut bytes);
-    let next = read_on(size);
+    let size = read_full(reader, &mut bytes)?;
+    let next = read_on(reader, size)?;
     let input = judge(size, INPUT_ROOM, next);
-    Source {
+    Ok(Source {
         bytes,
         size,
         next,
         input,
-    }
+    })
 }
