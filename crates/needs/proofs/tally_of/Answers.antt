@@ -200,7 +200,7 @@ loop-i-init c = (
 )
 
 pub bounds-demands-i : goal.bounds-demands-i
-bounds-demands-i c = let at = c in omega (arith, at.requires.fit.room)
+bounds-demands-i c = omega (arith, c.requires.fit.room)
 
 pub needed-count-requires : goal.needed-count-requires
 needed-count-requires c =
