@@ -16,7 +16,6 @@ use Rattle.model.specs.Plan.{Plan}
 use Rattle.model.specs.Steps.{Step, none, relocate, exchange, is_step, routes, next_move, next_swap, or_step, next_step}
 use Rattle.cluster.specs.declared.Cluster.{Cluster}
 use Rattle.cluster.specs.Cluster.{domain_in, InRange}
-use Rattle.cluster.specs.Blocks.{PlacementOf}
 use Rattle.transfers.specs.declared.Hit.{Hit}
 use Rattle.transfers.specs.Route.{hit_of, route_step}
 use Rattle.search.specs.declared.Found.{Found}
