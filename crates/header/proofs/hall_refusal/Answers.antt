@@ -38,20 +38,33 @@ returns-then-racks-rack_size-gt-MAX_MACHINES c later =
 
 pub returns-then-feeds-eq0 : goal.returns-then-feeds-eq0
 unfolding check22
-returns-then-feeds-eq0 c later = past-four _ _ c.if-racks-eq0.false c.if-rack_size-eq0.false c.if-racks-rack_size-gt-MAX_MACHINES.false _ ∙ (rw (eq-eqb _ _ c.if-feeds-eq0.true))
+returns-then-feeds-eq0 c later =
+    past-four _ _ c.if-racks-eq0.false c.if-rack_size-eq0.false c.if-racks-rack_size-gt-MAX_MACHINES.false _
+    ∙ (rw (eq-eqb _ _ c.if-feeds-eq0.true))
 
 pub returns-then-racks-feeds-ne0 : goal.returns-then-racks-feeds-ne0
 unfolding check22
-returns-then-racks-feeds-ne0 c later = past-four _ _ c.if-racks-eq0.false c.if-rack_size-eq0.false c.if-racks-rack_size-gt-MAX_MACHINES.false _ ∙ (rw (ne_eqb _ _ c.if-feeds-eq0.false, ne_eqb _ _ c.if-racks-feeds-ne0.true))
+returns-then-racks-feeds-ne0 c later =
+    past-four _ _ c.if-racks-eq0.false c.if-rack_size-eq0.false c.if-racks-rack_size-gt-MAX_MACHINES.false _
+    ∙ (rw (ne_eqb _ _ c.if-feeds-eq0.false, ne_eqb _ _ c.if-racks-feeds-ne0.true))
 
 pub returns-then-capacity-eq0 : goal.returns-then-capacity-eq0
 unfolding check5
-returns-then-capacity-eq0 c later = past-feeds _ _ c.if-racks-eq0.false c.if-rack_size-eq0.false c.if-racks-rack_size-gt-MAX_MACHINES.false _ _ c.if-feeds-eq0.false c.if-racks-feeds-ne0.false ∙ (rw (eq-eqb _ _ c.if-capacity-eq0.true))
+returns-then-capacity-eq0 c later =
+    past-feeds _ _ c.if-racks-eq0.false c.if-rack_size-eq0.false c.if-racks-rack_size-gt-MAX_MACHINES.false _ _
+    c.if-feeds-eq0.false c.if-racks-feeds-ne0.false
+    ∙ (rw (eq-eqb _ _ c.if-capacity-eq0.true))
 
 pub returns-then-capacity-gt-MAX_CAPACITY : goal.returns-then-capacity-gt-MAX_CAPACITY
 unfolding check5
-returns-then-capacity-gt-MAX_CAPACITY c later = past-feeds _ _ c.if-racks-eq0.false c.if-rack_size-eq0.false c.if-racks-rack_size-gt-MAX_MACHINES.false _ _ c.if-feeds-eq0.false c.if-racks-feeds-ne0.false ∙ (rw (ne_eqb _ _ c.if-capacity-eq0.false, lt-ltb _ _ c.if-capacity-gt-MAX_CAPACITY.true))
+returns-then-capacity-gt-MAX_CAPACITY c later =
+    past-feeds _ _ c.if-racks-eq0.false c.if-rack_size-eq0.false c.if-racks-rack_size-gt-MAX_MACHINES.false _ _
+    c.if-feeds-eq0.false c.if-racks-feeds-ne0.false
+    ∙ (rw (ne_eqb _ _ c.if-capacity-eq0.false, lt-ltb _ _ c.if-capacity-gt-MAX_CAPACITY.true))
 
 pub returns : goal.returns
 unfolding check5
-returns c later = past-feeds _ _ c.if-racks-eq0.false c.if-rack_size-eq0.false c.if-racks-rack_size-gt-MAX_MACHINES.false _ _ c.if-feeds-eq0.false c.if-racks-feeds-ne0.false ∙ (rw (ne_eqb _ _ c.if-capacity-eq0.false, le-ltb _ _ c.if-capacity-gt-MAX_CAPACITY.false))
+returns c later =
+    past-feeds _ _ c.if-racks-eq0.false c.if-rack_size-eq0.false c.if-racks-rack_size-gt-MAX_MACHINES.false _ _
+    c.if-feeds-eq0.false c.if-racks-feeds-ne0.false
+    ∙ (rw (ne_eqb _ _ c.if-capacity-eq0.false, le-ltb _ _ c.if-capacity-gt-MAX_CAPACITY.false))
