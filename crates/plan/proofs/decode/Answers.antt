@@ -94,19 +94,26 @@ upper_count-requires c =
     (accepted-of _ _ c.requires.accepts).in-range
 
 pub offset_bounds-demands-i : goal.offset_bounds-demands-i
-offset_bounds-demands-i c = let block = (here _ _ c.requires.accepts _ c.format_in-format.ensures.0 c.format_in-format.ensures.1 _ c.loop-i-test.true).inside in omega arith
+offset_bounds-demands-i c =
+    let block = (here _ _ c.requires.accepts _ c.format_in-format.ensures.0 c.format_in-format.ensures.1 _ c.loop-i-test.true).inside in
+    omega arith
 
 pub overflow_add-i : goal.overflow_add-i
-overflow_add-i c = let block = (here _ _ c.requires.accepts _ c.format_in-format.ensures.0 c.format_in-format.ensures.1 _ c.loop-i-test.true).inside in omega arith
+overflow_add-i c =
+    let block = (here _ _ c.requires.accepts _ c.format_in-format.ensures.0 c.format_in-format.ensures.1 _ c.loop-i-test.true).inside in
+    omega arith
 
 pub loop-i-preserved : goal.loop-i-preserved
-loop-i-preserved c = (
-  omega arith,
-  filled_more c.loop-i.i _ _ _ _ c.loop-i.invariant.1 (omega arith) (demand-is _ _ c.requires.accepts _ c.format_in-format.ensures.0 c.format_in-format.ensures.1 _ c.loop-i-test.true _ _ _ _ _ _ c.popularity.ensures.0 c.min_replicas.ensures.0 c.min_domains.ensures.0 c.link-linked.ensures.0 c.upper_count.ensures.0 c.demand.ensures),
-  below_more _ c.loop-i.i c.loop-i.invariant.2
-      (rw (c.popularity.ensures.0, ← (here _ _ c.requires.accepts _ c.format_in-format.ensures.0 c.format_in-format.ensures.1 _ c.loop-i-test.true).is) at c.popularity.ensures.1),
-  simp length-set c.loop-i.invariant.3,
-)
+loop-i-preserved c =
+    let block = here _ _ c.requires.accepts _ c.format_in-format.ensures.0 c.format_in-format.ensures.1 _ c.loop-i-test.true in
+    let demand = demand-is _ _ c.requires.accepts _ c.format_in-format.ensures.0 c.format_in-format.ensures.1 _ c.loop-i-test.true _ _ _ _ _ _
+    c.popularity.ensures.0 c.min_replicas.ensures.0 c.min_domains.ensures.0
+    c.link-linked.ensures.0 c.upper_count.ensures.0 c.demand.ensures in (
+      omega arith,
+      filled_more c.loop-i.i _ _ _ _ c.loop-i.invariant.1 (omega arith) demand,
+      below_more _ c.loop-i.i c.loop-i.invariant.2 (rw (c.popularity.ensures.0, ← block.is) at c.popularity.ensures.1),
+      simp length-set c.loop-i.invariant.3,
+    )
 
 pub shape_of-demands : goal.shape_of-demands
 shape_of-demands c = c.loop-i.invariant.3

@@ -37,9 +37,14 @@ overflow_mul-places c =
 
 pub returns-then-summed-ne0 : goal.returns-then-summed-ne0
 unfolding verdict_of
-returns-then-summed-ne0 c = sym (judge-refused _ _ (left-sums _ _ _ _ _ _ c.requires.0 c.requires.1 c.scan_pairs-paired.ensures c.if-paired-ne0.false c.machines.ensures.0 c.total_refusal-summed.ensures) (omega arith))
+returns-then-summed-ne0 c =
+    let left = left-sums _ _ _ _ _ _ c.requires.0 c.requires.1 c.scan_pairs-paired.ensures c.if-paired-ne0.false
+    c.machines.ensures.0 c.total_refusal-summed.ensures in
+    sym (judge-refused _ _ left (omega arith))
 
 pub returns : goal.returns
 unfolding verdict_of
 returns c =
-    ap accepted (plan_of-in _ _ c.requires.0.fields) ∙ sym (judge-accepted _ (left-sums _ _ _ _ _ _ c.requires.0 c.requires.1 c.scan_pairs-paired.ensures c.if-paired-ne0.false c.machines.ensures.0 c.total_refusal-summed.ensures ∙ c.if-summed-ne0.false))
+    let left = left-sums _ _ _ _ _ _ c.requires.0 c.requires.1 c.scan_pairs-paired.ensures c.if-paired-ne0.false
+    c.machines.ensures.0 c.total_refusal-summed.ensures in
+    ap accepted (plan_of-in _ _ c.requires.0.fields) ∙ sym (judge-accepted _ (left ∙ c.if-summed-ne0.false))

@@ -29,14 +29,19 @@ pub link-requires : goal.link-requires
 link-requires c = (here _ _ _ c.requires _ c.format_in-format.ensures.0 c.format_in-format.ensures.1).inside
 
 pub overflow_add-result : goal.overflow_add-result
-overflow_add-result c = let inside = (here _ _ _ c.requires _ c.format_in-format.ensures.0 c.format_in-format.ensures.1).inside in omega (arith, c.link.ensures.1, inside.below)
+overflow_add-result c =
+    let inside = (here _ _ _ c.requires _ c.format_in-format.ensures.0 c.format_in-format.ensures.1).inside in
+    omega (arith, c.link.ensures.1, inside.below)
 
 pub overflow_sub-result : goal.overflow_sub-result
-overflow_sub-result c = rw (link-is _ _ _ c.requires _ c.format_in-format.ensures.0 c.format_in-format.ensures.1 _ c.link.ensures.0) (link_of-mate _ _).0
+overflow_sub-result c =
+    let link = link-is _ _ _ c.requires _ c.format_in-format.ensures.0 c.format_in-format.ensures.1 _ c.link.ensures.0 in
+    rw link (link_of-mate _ _).0
 
 pub returns : goal.returns
 returns c =
-    let inside = (here _ _ _ c.requires _ c.format_in-format.ensures.0 c.format_in-format.ensures.1).inside in (
-      rw ((accepted-of _ _ c.requires.accepts).held, link-is _ _ _ c.requires _ c.format_in-format.ensures.0 c.format_in-format.ensures.1 _ c.link.ensures.0) (link_of-mate _ _).1,
+    let inside = (here _ _ _ c.requires _ c.format_in-format.ensures.0 c.format_in-format.ensures.1).inside in
+    let link = link-is _ _ _ c.requires _ c.format_in-format.ensures.0 c.format_in-format.ensures.1 _ c.link.ensures.0 in (
+      rw ((accepted-of _ _ c.requires.accepts).held, link) (link_of-mate _ _).1,
       omega (arith, c.link.ensures.1, inside.below),
     )

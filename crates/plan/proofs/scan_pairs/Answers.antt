@@ -41,16 +41,18 @@ pub returns-then-code-ne0 : goal.returns-then-code-ne0
 unfolding pairs_refusal
 returns-then-code-ne0 c =
     let p = plan_in c.args.bytes.now in
+    let code = code_is _ _ c.requires _ _ _ c.format_of-format.ensures.0 c.pair_refusal-code.ensures in
     let refuses : 0 < c.pair_refusal-code.result = omega arith in
     let within : c.loop-i.i < block_count p = rw (plan_in-blocks _ _ (passed-of _ _ c.requires)) at c.loop-i-test.true in
     sym
     (first-at is_refusal 0 refl (pair_refusal p) (block_count p) c.loop-i.i within c.loop-i.invariant.1
-    (rw (code_is _ _ c.requires _ _ _ c.format_of-format.ensures.0 c.pair_refusal-code.ensures) (lt-ltb 0 c.pair_refusal-code.result refuses))
-    ∙ code_is _ _ c.requires _ _ _ c.format_of-format.ensures.0 c.pair_refusal-code.ensures)
+    (rw code (lt-ltb 0 c.pair_refusal-code.result refuses))
+    ∙ code)
 
 pub loop-i-preserved : goal.loop-i-preserved
 loop-i-preserved c =
-    (omega arith, below_more _ c.loop-i.i c.loop-i.invariant.1 (ap is_refusal (code_is _ _ c.requires _ _ _ c.format_of-format.ensures.0 c.pair_refusal-code.ensures ∙ c.if-code-ne0.false)))
+    let code = code_is _ _ c.requires _ _ _ c.format_of-format.ensures.0 c.pair_refusal-code.ensures in
+    (omega arith, below_more _ c.loop-i.i c.loop-i.invariant.1 (ap is_refusal (code ∙ c.if-code-ne0.false)))
 
 pub returns : goal.returns
 unfolding pairs_refusal

@@ -59,8 +59,7 @@ unfolding blocks_refusal
 returns-then-code-ne0 c =
     let p = plan_in c.args.bytes.now in
     let block = here _ _ c.requires _ c.format_in-format.ensures.0 c.format_in-format.ensures.1 _ c.loop-i-test.true in
-    let code =
-    code_is _ _ c.requires _ c.format_in-format.ensures.0 c.format_in-format.ensures.1 _ c.loop-i-test.true _ _ _ _ _
+    let code = code_is _ _ c.requires _ c.format_in-format.ensures.0 c.format_in-format.ensures.1 _ c.loop-i-test.true _ _ _ _ _
     c.min_replicas-least.ensures.0 c.min_domains-spread.ensures.0 c.link.ensures.0 c.upper_count-most.ensures.0 c.block_refusal-code.ensures in
     let refuses : 0 < c.block_refusal-code.result = omega arith in
     record {
@@ -75,8 +74,7 @@ pub loop-i-preserved : goal.loop-i-preserved
 loop-i-preserved c =
     let i = c.loop-i.i in
     let block = here _ _ c.requires _ c.format_in-format.ensures.0 c.format_in-format.ensures.1 _ c.loop-i-test.true in
-    let code =
-    code_is _ _ c.requires _ c.format_in-format.ensures.0 c.format_in-format.ensures.1 _ c.loop-i-test.true _ _ _ _ _
+    let code = code_is _ _ c.requires _ c.format_in-format.ensures.0 c.format_in-format.ensures.1 _ c.loop-i-test.true _ _ _ _ _
     c.min_replicas-least.ensures.0 c.min_domains-spread.ensures.0 c.link.ensures.0 c.upper_count-most.ensures.0 c.block_refusal-code.ensures in (
       omega arith,
       ap₂ ◌+◌ c.loop-i.invariant.1 (c.min_replicas-least.ensures.0 ∙ ap (λ (b : Block). b.min_replicas) (sym block.is)) ∙ sym (sum_step i _),
