@@ -27,18 +27,21 @@ record_at-requires c = (c.format_of-new.ensures.1, (accepted-of _ _ c.requires.a
 pub returns-then-buffer-record_at : goal.returns-then-buffer-record_at
 unfolding convert_outcome
 returns-then-buffer-record_at c =
-    sym (convert_call-short _ _ _ c.requires.takes (rw (← (size_is c.args.bytes.now c.args.h _ _ c.format_of-new.ensures.0 c.record_at.ensures.0)) c.if-buffer-record_at.true))
+    let size = size_is c.args.bytes.now c.args.h _ _ c.format_of-new.ensures.0 c.record_at.ensures.0 in
+    sym (convert_call-short _ _ _ c.requires.takes (rw (← size) c.if-buffer-record_at.true))
 
 pub put_plan-requires : goal.put_plan-requires
 put_plan-requires c =
+    let size = size_is c.args.bytes.now c.args.h _ _ c.format_of-new.ensures.0 c.record_at.ensures.0 in
     record {
       accepts = c.requires.accepts;
       format-is = c.format_of-new.ensures.0;
-      room = record { fits = omega (arith, size_is c.args.bytes.now c.args.h _ _ c.format_of-new.ensures.0 c.record_at.ensures.0, c.if-buffer-record_at.false) };
+      room = record { fits = omega (arith, size, c.if-buffer-record_at.false) };
     }
 
 pub returns : goal.returns
 unfolding convert_outcome
 returns c =
+    let size = size_is c.args.bytes.now c.args.h _ _ c.format_of-new.ensures.0 c.record_at.ensures.0 in
     put-wrote _ _ _ _ c.put_plan.ensures
-    ∙ sym (convert_call-made _ _ _ c.requires.takes (omega (arith, size_is c.args.bytes.now c.args.h _ _ c.format_of-new.ensures.0 c.record_at.ensures.0, c.if-buffer-record_at.false)))
+    ∙ sym (convert_call-made _ _ _ c.requires.takes (omega (arith, size, c.if-buffer-record_at.false)))
