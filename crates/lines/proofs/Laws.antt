@@ -93,14 +93,14 @@ module _ (at : ℕ) (r : FirstRun) (rested : Bool) (e : r.ran.rested ≡ rested)
       line (end_word rested)
       (r.ran.steps ∷ r.report.max_load ∷ r.report.min_load ∷ r.report.total_load ∷ r.top ∷ [])
 
-  end_row : end_row r ≡ end_line
+  end_row-is : end_row r ≡ end_line
   unfolding end_row
-  end_row =
+  end_row-is =
       ap (λ (b : Bool). line (end_word b)
       (r.ran.steps ∷ r.report.max_load ∷ r.report.min_load ∷ r.report.total_load ∷ r.top ∷ [])) e
 
   pub end-room : {old : List ℕ} → Room at (end_row r) old → Room at end_line old
-  end-room room = rw end_row at room
+  end-room room = rw end_row-is at room
 
   pub end-put : {old text : List ℕ} {next : ℕ} → Put at end_line old text next → Put at (end_row r) old text next
-  end-put put = rw end_row put
+  end-put put = rw end_row-is put
