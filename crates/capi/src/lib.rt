@@ -1,7 +1,7 @@
 // The functions that the archive exports to C: thin wrappers over the public entries, on numbers and slices alone.
 // Each judges the length of `out`, makes its call and has the answer told (`codes`).
 // Each returns 0 or the number of a refusal, and writes only where it returns 0.
-#![tactic(auto)]
+#![tactic(auto, using(crate::proofs::Short::short_told))]
 
 ghost use Rattle.std.specs.Prelude.{[], ◌≡◌};
 ghost use Rattle.model.specs.Refusal.{verdict_code, judge};

@@ -1,0 +1,8 @@
+-- `capi::bpl_plan` meets its contract: the reader's verdict, as a code.
+-- Assumes nothing.
+use mathlib.Core.Path.{ap, ◌∙◌}
+use Rattle.model.specs.Refusal.{verdict_code}
+use Rattle.capi.proofs.bpl_plan.Goals as goal
+
+pub returns : goal.returns
+returns c = c.tell_plan.ensures.code_is _ ∙ ap verdict_code c.read-reading.ensures
