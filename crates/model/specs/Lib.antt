@@ -12,3 +12,4 @@ pub mod ReadLog
 pub mod Histories
 pub mod Writing
 pub mod Conversion
+pub mod Recordings

@@ -1,13 +1,17 @@
--- Laws of the first-index search.
+-- Laws of the first-index search, and of the lightest number that passes a test.
 -- Assumes nothing.
 use mathlib.Core.Path.{◌≡◌, refl, sym, ◌∙◌}
-use mathlib.Core.Bool.{Bool, true, false, cond}
+use mathlib.Core.Bool.{Bool, true, false, cond, ◌&&◌}
 use mathlib.Core.Logic.{◌⊎◌, inl, inr}
-use Prim.Native.Nat.{ℕ, zero, suc, ◌<◌}
-use native.Mathlib.Nat.{eq-or-lt_of_le, le_of_suc-le-suc, not-suc-le-zero, le_refl}
+use Prim.Native.Nat.{ℕ, zero, suc, ◌<◌, ◌≤◌}
+use native.Mathlib.Nat.{eq-or-lt_of_le, le_of_suc-le-suc, not-suc-le-zero, le_refl, le_antisymm, lt_of_lt_of_le}
+use native.Mathlib.Decide.{dec_lt}
 use native.Mathlib.Omega.{arith}
-use Rattle.order.specs.Search.{first_up}
+use borrow.Author.Tests.{lt-ltb, le-ltb}
+use lib.Dec.{ltb}
+use Rattle.order.specs.Search.{first_up, lightest}
 use Rattle.order.proofs.Booleans.{no-contradiction, bool_cases, cond-all}
+use Rattle.order.proofs.Extremes.{below_suc}
 
 module _ {ℓ} {A : Type ℓ} (found : A → Bool) (none : A) (nothing : found none ≡ false) (f : ℕ → A) where
   -- nothing is found where no answer is accepted
@@ -92,3 +96,107 @@ first-all P found none f (suc n) nothing each =
     let before = first-all P found none f n nothing (λ i l. each i (omega arith)) in
     let here = cond-all P (found (f n)) (f n) none (λ e. each n (le_refl (suc n))) nothing in
     cond-all P (found (first_up found none f n)) (first_up found none f n) (cond (found (f n)) (f n) none) (λ e. before) here
+
+-- ── lightest ─────────────────────────────────────────────────────────────────────────────────────
+-- What makes m the number below n that passes the test and has the smallest weight, of several the lowest; n where none passes.
+pub record Lightest (test : ℕ → Bool) (weight : ℕ → ℕ) (n m : ℕ) : Type 0 where
+  pub in-range : m ≤ n
+  pub passes : m < n → test m ≡ true
+  -- where some number passes, m is below n, none that passes is lighter, and none lower is as light
+  pub some : (k : ℕ) → k < n → test k ≡ true → m < n
+  pub none-lighter : (k : ℕ) → k < n → test k ≡ true → weight m ≤ weight k
+  pub lowest : (k : ℕ) → k < m → test k ≡ true → weight m < weight k
+
+-- there is one such number
+lightest-one : {test : ℕ → Bool} {weight : ℕ → ℕ} {n a b : ℕ} → Lightest test weight n a → Lightest test weight n b → a ≡ b
+lightest-one s t = le_antisymm (upto s t) (upto t s)
+  where
+    upto : {test : ℕ → Bool} {weight : ℕ → ℕ} {n a b : ℕ} → Lightest test weight n a → Lightest test weight n b → a ≤ b
+    upto {a = a} {b = b} s t =
+        elim (dec_lt b a) [
+          | yes l ↦
+              let bn : b < _ = lt_of_lt_of_le l s.in-range in
+              let on = t.passes bn in
+              let an = s.some b bn on in
+              absurd (omega (arith, s.lowest b l on, t.none-lighter a an (s.passes an)))
+          | no h ↦ omega arith
+        ]
+
+module _ (test : ℕ → Bool) (weight : ℕ → ℕ) where
+  pub lightest-is : (n : ℕ) → Lightest test weight n (lightest test weight n)
+  unfolding lightest
+  lightest-is zero =
+      record {
+        in-range = omega arith;
+        passes = λ l. absurd (not-suc-le-zero l);
+        some = λ k l t. absurd (not-suc-le-zero l);
+        none-lighter = λ k l t. absurd (not-suc-le-zero l);
+        lowest = λ k l t. absurd (not-suc-le-zero l);
+      }
+  lightest-is (suc n) =
+      let before = lightest test weight n in
+      go before (lightest-is n) (dec_lt before n) (bool_cases (test n)) (dec_lt (weight n) (weight before))
+    where
+      go : (m : ℕ) → Lightest test weight n m → Dec (m < n) → (test n ≡ true) ⊎ (test n ≡ false) → Dec (weight n < weight m)
+          → Lightest test weight (suc n)
+          (cond (ltb m n) (cond (test n && ltb (weight n) (weight m)) n m) (cond (test n) n (suc n)))
+      go m s (yes l) (inl t) (yes w) =
+          rw (lt-ltb m n l, t, lt-ltb (weight n) (weight m) w)
+          (record {
+            in-range = omega arith;
+            passes = λ h. t;
+            some = λ k h on. omega arith;
+            none-lighter = below_suc n (λ k. test k ≡ true → weight n ≤ weight k) (λ on. omega arith)
+                (λ k h on. omega (arith, s.none-lighter k h on));
+            lowest = λ k h on. omega (arith, s.none-lighter k h on);
+          })
+      go m s (yes l) (inl t) (no w) =
+          rw (lt-ltb m n l, t, le-ltb (weight n) (weight m) (omega arith))
+          (record {
+            in-range = omega arith;
+            passes = λ h. s.passes l;
+            some = λ k h on. omega arith;
+            none-lighter = below_suc n (λ k. test k ≡ true → weight m ≤ weight k) (λ on. omega arith) s.none-lighter;
+            lowest = s.lowest;
+          })
+      go m s (yes l) (inr t) w =
+          rw (lt-ltb m n l, t)
+          (record {
+            in-range = omega arith;
+            passes = λ h. s.passes l;
+            some = λ k h on. omega arith;
+            none-lighter = below_suc n (λ k. test k ≡ true → weight m ≤ weight k) (λ on. no-contradiction (sym on ∙ t)) s.none-lighter;
+            lowest = s.lowest;
+          })
+      go m s (no l) (inl t) w =
+          rw (le-ltb m n (omega arith), t)
+          (record {
+            in-range = omega arith;
+            passes = λ h. t;
+            some = λ k h on. omega arith;
+            none-lighter = below_suc n (λ k. test k ≡ true → weight n ≤ weight k) (λ on. omega arith)
+                (λ k h on. absurd (l (s.some k h on)));
+            lowest = λ k h on. absurd (l (s.some k h on));
+          })
+      go m s (no l) (inr t) w =
+          rw (le-ltb m n (omega arith), t)
+          (record {
+            in-range = omega arith;
+            passes = λ h. absurd (omega arith);
+            some = below_suc n (λ k. test k ≡ true → suc n < suc n) (λ on. no-contradiction (sym on ∙ t))
+                (λ k h on. absurd (l (s.some k h on)));
+            none-lighter = below_suc n (λ k. test k ≡ true → weight (suc n) ≤ weight k) (λ on. no-contradiction (sym on ∙ t))
+                (λ k h on. absurd (l (s.some k h on)));
+            lowest = below_suc n (λ k. test k ≡ true → weight (suc n) < weight k) (λ on. no-contradiction (sym on ∙ t))
+                (λ k h on. absurd (l (s.some k h on)));
+          })
+
+  -- a number that passes, with none lighter and none lower as light, is the one
+  pub lightest-at : (n r : ℕ) → r < n → test r ≡ true
+      → ((k : ℕ) → k < n → test k ≡ true → weight r ≤ weight k)
+      → ((k : ℕ) → k < r → test k ≡ true → weight r < weight k)
+      → r ≡ lightest test weight n
+  lightest-at n r l on light low =
+      lightest-one
+      (record { in-range = omega arith; passes = λ h. on; some = λ k h t. l; none-lighter = light; lowest = low })
+      (lightest-is n)

@@ -1,17 +1,20 @@
 -- Laws of a list given by its length and its elements.
 -- Assumes nothing.
 use mathlib.Core.Path.{◌≡◌, refl, ap, ap₂, sym, ◌∙◌, subst}
+use mathlib.Core.Bool.{cond}
 use mathlib.Core.Logic.{◌⊎◌, inl, inr}
 use mathlib.Core.List.{List, [], ◌∷◌, ◌++◌, append_assoc}
-use Prim.Native.Nat.{ℕ, zero, suc, ◌+◌, ◌*◌, ◌≤◌, ◌<◌}
+use Prim.Native.Nat.{ℕ, zero, suc, ◌+◌, ◌*◌, ◌-◌, ◌≤◌, ◌<◌}
 use native.Mathlib.Nat.{eq-or-lt_of_le, le_of_suc-le-suc, not-suc-le-zero, le_refl}
 use native.Mathlib.Numerals.{add-one}
 use native.Mathlib.Omega.{arith}
-use lib.ListN.{length, get_or, set, drop, length-append, length-drop, get_or-append}
+use borrow.Author.Tests.{lt-ltb, le-ltb}
+use lib.Dec.{ltb}
+use lib.ListN.{length, get_or, set, take, drop, replicate, length-append, length-drop, length-replicate, get_or-replicate, get_or-append}
 use lib.Arith.{le-zero}
-use native.Mathlib.Decide.{ℕ_discrete}
-use lib.Seq.{get_or_at, set_at, drop-cons}
-use Rattle.order.specs.Table.{table, joined, filled}
+use native.Mathlib.Decide.{ℕ_discrete, dec_lt}
+use lib.Seq.{get_or_at, set_at, drop-cons, length-take-le, get_or-take, get_or-drop, get_or-append-add, ext_get_or}
+use Rattle.order.specs.Table.{table, joined, filled, cut}
 
 module _ {ℓ} {A : Type ℓ} where
   pub length-table : (n : ℕ) (f : ℕ → A) → length (table n f) ≡ n
@@ -104,3 +107,120 @@ module _ {ℓ} {A : Type ℓ} where
     | yes e ↦ rw e (omega arith)
     | no d ↦ let before = joined-prefix n f i (omega arith) in simp length-append (omega arith)
   ]
+
+-- ── cut ──────────────────────────────────────────────────────────────────────────────────────────
+-- Where item k of the list without the n items from place `at` on stood before.
+abbrev pub uncut : ℕ → ℕ → ℕ → ℕ
+uncut at n k = cond (ltb k at) k (k + n)
+
+pub uncut-below : (at n k : ℕ) → k < at → uncut at n k ≡ k
+uncut-below at n k l = rw (lt-ltb k at l)
+
+pub uncut-from : (at n k : ℕ) → at ≤ k → uncut at n k ≡ k + n
+uncut-from at n k l = rw (le-ltb k at l)
+
+module _ {ℓ} {A : Type ℓ} where
+  -- the items of two lists, one after the other
+  get_d-append-from : (xs ys : List A) (i : ℕ) (d : A) → length xs ≤ i → get_or (xs ++ ys) i d ≡ get_or ys (i - length xs) d
+  get_d-append-from xs ys i d l =
+      let place : i ≡ length xs + (i - length xs) = omega arith in
+      ap (λ (k : ℕ). get_or (xs ++ ys) k d) place ∙ get_or-append-add xs ys (i - length xs) d
+
+  module _ (at n : ℕ) (list : List A) (inside : at + n ≤ length list) where
+    front : length (take at list) ≡ at
+    front = length-take-le at list (omega arith)
+
+    pub length_cut : length (cut at n list) ≡ length list - n
+    unfolding cut
+    length_cut =
+        let f = front in
+        length-append (take at list) (drop (at + n) list) ∙ (rw (f, length-drop (at + n) list) (omega arith))
+
+    pub get_d-cut : (k : ℕ) (d : A) → get_or (cut at n list) k d ≡ get_or list (uncut at n k) d
+    unfolding cut
+    get_d-cut k d = elim (dec_lt k at) [
+      | yes l ↦
+          get_or-append (take at list) (drop (at + n) list) d k (rw front l)
+          ∙ get_or-take at list k d l
+          ∙ ap (λ (j : ℕ). get_or list j d) (sym (uncut-below at n k l))
+      | no l ↦
+          let f = front in
+          let place : at + n + (k - length (take at list)) ≡ uncut at n k = rw (f, uncut-from at n k (omega arith)) (omega arith) in
+          get_d-append-from (take at list) (drop (at + n) list) k d (rw f (omega arith))
+          ∙ get_or-drop (at + n) list (k - length (take at list)) d
+          ∙ ap (λ (j : ℕ). get_or list j d) place
+    ]
+
+  -- The first `count` items without the n from place `at` on, n times `pad` behind them, and the later items as they were.
+  abbrev pub closed : ℕ → ℕ → ℕ → A → List A → List A
+  closed count at n pad list = cut at n (take count list) ++ replicate n pad ++ drop count list
+
+  module _ (count at n : ℕ) (pad : A) (list : List A) (inside : at + n ≤ count) (room : count ≤ length list) where
+    part : length (take count list) ≡ count
+    part = length-take-le count list room
+
+    inside-part : at + n ≤ length (take count list)
+    inside-part = rw part inside
+
+    kept-length : length (cut at n (take count list)) ≡ count - n
+    kept-length = length_cut at n (take count list) inside-part ∙ ap (λ (k : ℕ). k - n) part
+
+    padded-length : length (cut at n (take count list) ++ replicate n pad) ≡ count
+    padded-length =
+        let k = kept-length in
+        length-append (cut at n (take count list)) (replicate n pad) ∙ (rw (k, length-replicate n pad) (omega arith))
+
+    pub length-closed : length (closed count at n pad list) ≡ length list
+    length-closed =
+        let l = padded-length in
+        length-append (cut at n (take count list) ++ replicate n pad) (drop count list) ∙ (rw (l, length-drop count list) (omega arith))
+
+    in-padded : (k : ℕ) (d : A) → k < count
+        → get_or (closed count at n pad list) k d ≡ get_or (cut at n (take count list) ++ replicate n pad) k d
+    in-padded k d l = get_or-append (cut at n (take count list) ++ replicate n pad) (drop count list) d k (rw padded-length l)
+
+    -- the items that stay
+    pub closed-kept : (k : ℕ) (d : A) → k < count - n → get_or (closed count at n pad list) k d ≡ get_or list (uncut at n k) d
+    closed-kept k d l =
+        in-padded k d (omega arith)
+        ∙ get_or-append (cut at n (take count list)) (replicate n pad) d k (rw kept-length l)
+        ∙ get_d-cut at n (take count list) inside-part k d
+        ∙ get_or-take count list (uncut at n k) d uncut-lt
+      where
+        uncut-lt : uncut at n k < count
+        uncut-lt = elim (dec_lt k at) [
+          | yes h ↦ rw (uncut-below at n k h) (omega arith)
+          | no h ↦ rw (uncut-from at n k (omega arith)) (omega arith)
+        ]
+
+    -- the places that they left
+    pub closed-vacated : (k : ℕ) (d : A) → count - n ≤ k → k < count → get_or (closed count at n pad list) k d ≡ pad
+    closed-vacated k d l h =
+        let e = kept-length in
+        in-padded k d h
+        ∙ get_d-append-from (cut at n (take count list)) (replicate n pad) k d (rw e l)
+        ∙ get_or-replicate n (k - length (cut at n (take count list))) pad d (rw e (omega arith))
+
+    -- the later items
+    pub closed-later : (k : ℕ) (d : A) → count ≤ k → get_or (closed count at n pad list) k d ≡ get_or list k d
+    closed-later k d l =
+        let e = padded-length in
+        get_d-append-from (cut at n (take count list) ++ replicate n pad) (drop count list) k d (rw e l)
+        ∙ get_or-drop count list (k - length (cut at n (take count list) ++ replicate n pad)) d
+        ∙ ap (λ (j : ℕ). get_or list j d) (rw e (omega arith))
+
+    -- a list of these items is that list
+    pub closed_is : (d : A) (later : List A) → length later ≡ length list
+        → ((k : ℕ) → k < count - n → get_or later k d ≡ get_or list (uncut at n k) d)
+        → ((k : ℕ) → count - n ≤ k → k < count → get_or later k d ≡ pad)
+        → ((k : ℕ) → count ≤ k → get_or later k d ≡ get_or list k d)
+        → later ≡ closed count at n pad list
+    closed_is d later sized kept vacated others =
+        ext_get_or d later (closed count at n pad list) (sized ∙ sym length-closed)
+        (λ k l. elim (dec_lt k count) [
+          | yes h ↦ elim (dec_lt k (count - n)) [
+            | yes g ↦ kept k g ∙ sym (closed-kept k d g)
+            | no g ↦ vacated k (omega arith) h ∙ sym (closed-vacated k d (omega arith) h)
+          ]
+          | no h ↦ others k (omega arith) ∙ sym (closed-later k d (omega arith))
+        ])

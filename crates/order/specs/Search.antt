@@ -31,3 +31,12 @@ largest (suc n) f = max (largest n f) (f n)
 unfoldable pub smallest : ℕ → (ℕ → ℕ) → ℕ
 smallest zero f = f 0
 smallest (suc n) f = min (smallest n f) (f n)
+
+-- The number below n that passes the test and has the smallest weight, of several the lowest; n where none passes.
+unfoldable pub lightest : (ℕ → Bool) → (ℕ → ℕ) → ℕ → ℕ
+lightest test weight zero = zero
+lightest test weight (suc n) =
+    let before = lightest test weight n in
+    let lighter = cond (test n && ltb (weight n) (weight before)) n before in
+    let alone = cond (test n) n (suc n) in
+    cond (ltb before n) lighter alone

@@ -17,3 +17,5 @@ pub mod Listing
 pub mod Writing
 pub mod WritingPlan
 pub mod Conversion
+pub mod Arrivals
+pub mod Deletions

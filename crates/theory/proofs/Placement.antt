@@ -6,16 +6,17 @@ use mathlib.Core.Bool.{Bool, true, false, cond}
 use mathlib.Core.List.{List}
 use mathlib.Core.Logic.{◌⊎◌, inl, inr, ◌↔◌}
 use Prim.Native.Nat.{ℕ, zero, suc, ◌+◌, ◌*◌, ◌-◌, ◌/◌, ◌%◌, ◌^◌, ◌≤◌, ◌<◌, min}
-use native.Mathlib.Nat.{not-suc-le-zero, lt_of_lt_of_le, zero-mul, one-mul, div-eq_of_lt, div-eq-sub-div, div-one, two-pow-succ, sub-add_cancel}
+use native.Mathlib.Nat.{not-suc-le-zero, lt_of_lt_of_le, zero-mul, mul-zero, one-mul, mul-add, mul_comm, div-eq_of_lt, div-eq-sub-div, div-one, two-pow-succ, sub-add_cancel}
 use native.Mathlib.Numerals.{one-add}
 use native.Mathlib.Decide.{dec_le, dec_lt}
 use native.Mathlib.Omega.{arith}
+use borrow.Author.Tests.{eqb-true}
 use lib.Dec.{eqb, eqb-suc-suc}
 use lib.Pow.{pow_pos, pow_mono, shr-shr}
 use lib.ListN.{length, get_or-eq_default}
 use Rattle.order.specs.Sum.{sum, delta}
-use Rattle.order.proofs.Booleans.{and-iff, if-iff, leb-iff, ltb_iff}
-use Rattle.order.proofs.Sums.{sum-cong, sum-none, sum-scale, sum-exchange, sum-term, delta-same, delta-other}
+use Rattle.order.proofs.Booleans.{bool_cases, and-iff, if-iff, leb-iff, ltb_iff}
+use Rattle.order.proofs.Sums.{sum-cong, sum-none, sum-add, sum-scale, sum-exchange, sum-term, sum-index, sum-delta, delta-same, delta-other}
 use Rattle.order.proofs.Ranges.{sum-groups}
 use Rattle.order.proofs.Extremes.{allb-iff, largest-cong}
 use Rattle.model.specs.Plan.{Plan, machines, domain, domains, domain_size, block_count, block_of, is_paired, partner, upper}
@@ -155,11 +156,44 @@ replicas_in-turns p shaped w d l =
     ∙ sum-exchange (turns p) p.rack_size (λ q x. bit w (q * (domains p * p.rack_size) + (d * p.rack_size + x)))
 
 -- a copy counts in its domain
-replicas_in-held : (p : Plan) (w m : ℕ) → m < machines p → bit w m ≤ replicas_in p w (domain p m)
+pub replicas_in-held : (p : Plan) (w m : ℕ) → m < machines p → bit w m ≤ replicas_in p w (domain p m)
 replicas_in-held p w m l =
     let term = sum-term (machines p) (λ k. delta (domain p k) (domain p m) * bit w k) m l in
     rw (replicas_in-delta p w (domain p m))
     (rw (delta-same (domain p m) (domain p m) refl, one-mul (bit w m)) at term)
+
+-- a domain with a copy has a machine that holds it
+pub replicas_in-some : (p : Plan) (w d : ℕ) → 0 < replicas_in p w d → (m : ℕ) × (m < machines p) × (domain p m ≡ d) × (bit w m ≡ 1)
+unfolding replicas_in
+replicas_in-some p w d some =
+    let found = sum-index (machines p) (λ m. 0) (λ m. cond (eqb (domain p m) d) (bit w m) 0) (rw (sum-none (machines p)) some) in
+    let m = found.0 in
+    let here = go m (bool_cases (eqb (domain p m) d)) found.2 in
+    (m, found.1, here.0, here.1)
+  where
+    go : (m : ℕ) → (eqb (domain p m) d ≡ true) ⊎ (eqb (domain p m) d ≡ false) → 0 < cond (eqb (domain p m) d) (bit w m) 0
+        → (domain p m ≡ d) × (bit w m ≡ 1)
+    go m (inl e) l = let on = rw e at l in (eqb-true (domain p m) d e, omega (arith, bit_le w m))
+    go m (inr e) l = let on = rw e at l in absurd (omega arith)
+
+pub replicas_in-zero : (p : Plan) (d : ℕ) → replicas_in p 0 d ≡ 0
+replicas_in-zero p d =
+    replicas_in-delta p 0 d
+    ∙ sum-cong (machines p) _ (λ m. 0) (λ m l. ap (λ (x : ℕ). delta (domain p m) d * x) (bit-zero m) ∙ mul-zero (delta (domain p m) d))
+    ∙ sum-none (machines p)
+
+-- a copy more is one more in its domain
+pub replicas_in-add : (p : Plan) (w n d : ℕ) → n < machines p → bit w n ≡ 0 → replicas_in p (w + 2 ^ n) d ≡ replicas_in p w d + delta (domain p n) d
+replicas_in-add p w n d l off =
+    replicas_in-delta p (w + 2 ^ n) d
+    ∙ sum-cong (machines p) _ (λ k. weight k * bit w k + delta k n * weight k)
+    (λ k h. ap (λ (x : ℕ). weight k * x) (bit-add w n off k) ∙ mul-add (weight k) (bit w k) (delta k n)
+    ∙ ap (λ (x : ℕ). weight k * bit w k + x) (mul_comm (weight k) (delta k n)))
+    ∙ sum-add (machines p) (λ k. weight k * bit w k) (λ k. delta k n * weight k)
+    ∙ (omega (arith, replicas_in-delta p w d, sum-delta (machines p) n weight l))
+  where
+    weight : ℕ → ℕ
+    weight k = delta (domain p k) d
 
 -- ── domains_used ──────────────────────────────────────────────────────────────────────────────────
 -- a word with a copy lies in a domain

@@ -15,10 +15,10 @@ use lib.ListN.{get_or, take}
 use lib.Seq.{get_or-take}
 use Rattle.order.specs.Sum.{sum, delta}
 use Rattle.order.proofs.Arithmetic.{divisor-le}
-use Rattle.order.proofs.Booleans.{no-contradiction, cond-all}
+use Rattle.order.proofs.Booleans.{no-contradiction, not_so, cond-all}
 use Rattle.order.proofs.Ranges.{sum-strided}
 use Rattle.order.proofs.Tables.{length-table, get_d-table}
-use Rattle.model.specs.Plan.{Plan, machines, rack_of, domains, domain, domain_size, block_count, no_block, block_of, pairs_next, pairs_back, is_paired, partner, max_replicas, upper, field, latest_version, format_of, format_in, record_at, block_in, block_count_in, plan_in}
+use Rattle.model.specs.Plan.{Plan, machines, rack_of, domains, domain, domain_size, block_count, no_block, block_of, preceding, pairs_next, pairs_back, is_paired, partner, max_replicas, upper, field, latest_version, format_of, format_in, record_at, block_in, block_count_in, plan_in}
 use Rattle.model.specs.Conversion.{with_version}
 use Rattle.theory.specs.Widths.{most_replicas, widest_popularity}
 use Rattle.theory.specs.Refusal.{ValidPair, Shaped}
@@ -102,6 +102,16 @@ pub member-sum : (p : Plan) → Shaped p → (d : ℕ) (f : ℕ → ℕ) → d <
 member-sum p shaped d f l =
     ap (λ (r : ℕ). sum (r * p.rack_size) (λ m. delta (domain p m) d * f m)) (sym (domains-turns p shaped))
     ∙ sum-strided (turns p) (domains p) p.rack_size d f l
+
+-- ── pairs_back ────────────────────────────────────────────────────────────────────────────────────
+-- no block is paired with one past the last
+pub pairs_back-end : (p : Plan) → Shaped p → pairs_back p (block_count p) ≡ false
+unfolding pairs_back
+pairs_back-end p shaped = go (block_count p) refl
+  where
+    go : (n : ℕ) → n ≡ block_count p → preceding (λ k. pairs_next p k) n ≡ false
+    go zero e = refl
+    go (suc i) e = not_so (pairs_next p i) (λ marked. omega (arith, e, (shaped.pair i (omega arith)).next-below marked))
 
 -- ── is_paired ─────────────────────────────────────────────────────────────────────────────────────
 -- both blocks of a pair are paired, and no others are
