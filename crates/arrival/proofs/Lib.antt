@@ -1,0 +1,4 @@
+pub mod Laws
+pub mod Filling
+pub mod Spreading
+pub mod Placing
