@@ -2,13 +2,17 @@
 // `refused` and the number to standard error.
 #![tactic(auto)]
 
-ghost use Rattle.std.specs.Prelude.{◌≡◌, ◌≤◌, length};
+ghost use Rattle.std.specs.Prelude.{◌≡◌, ◌≤◌, length, IfSome, OnOk};
+ghost use Rattle.std.specs.Io.KnownBytes.{Appends};
+ghost use Rattle.model.specs.Conversion.{convert_verdict, converted_output, converted_errors};
 ghost use Rattle.input.specs.Input.{SourceIs};
 ghost use Rattle.convert.specs.Output.{converted_stream, errors_of, result_room, line_room, result_size, answer_output, answer_errors, Sends};
 
 use conversion::ConvertAnswer;
 use input::{Input, Source};
-use libc::{STDERR_FILENO, STDOUT_FILENO};
+use std::io::{Read, Write};
+use std::process::ExitCode;
+use std::{fmt, io};
 
 // Bytes that every new file fits in, and every line of a refusal.
 const RESULT_ROOM: usize = 7183;
@@ -53,27 +57,67 @@ fn errors<'a>(answer: ConvertAnswer, line: &'a mut [u8]) -> &'a mut [u8]
     &mut line[..size]
 }
 
-// Writes to both streams what is due for what was read, and nothing else, or says what failed.
-fn write(source: Source, output: &[u8], errors: &[u8])
-    requires { SourceIs source × (output.now ≡ converted_stream source) × (errors.now ≡ errors_of source) }
-{
-    let input = source.input;
-    if let Input::Failed = input {
-        os::fail(b"convert: standard input");
-        return;
-    }
-    io::write_all(STDERR_FILENO, errors);
-    if !io::write_all(STDOUT_FILENO, output) {
-        os::fail(b"convert: standard output");
+// Why nothing was converted, or the result was not written whole: one of the three streams failed.
+#[derive(Drop)]
+enum Failure {
+    Input(io::Error),
+    Output(io::Error),
+    Errors(io::Error),
+}
+
+impl fmt::Display for Failure {
+    fn fmt<W: fmt::Write>(&self, f: &mut fmt::Formatter<W>) -> fmt::Result {
+        match self {
+            Failure::Input(error) => write!(f, "standard input: {error}"),
+            Failure::Output(error) => write!(f, "standard output: {error}"),
+            Failure::Errors(error) => write!(f, "standard error: {error}"),
+        }
     }
 }
 
-fn main() {
-    let source = input::fill();
+// Writes to both streams what is due for what was read, and nothing else.
+fn write<W: Write, E: Write>(
+    out: &mut W,
+    err: &mut E,
+    source: Source,
+    output: &[u8],
+    errors: &[u8],
+) -> Result<(), Failure>
+    requires { SourceIs source × (output.now ≡ converted_stream source) × (errors.now ≡ errors_of source) }
+    ensures output { OnOk result
+        (Appends (W.contents out.old) (W.contents out.new) (converted_stream source)) }
+    ensures errors { OnOk result
+        (Appends (E.contents err.old) (E.contents err.new) (errors_of source)) }
+{
+    let input = source.input;
+    if let Input::Failed = input {
+        return Err(Failure::Input(input::read_failed()));
+    }
+    err.write_all(errors).map_err(Failure::Errors)?;
+    out.write_all(output).map_err(Failure::Output)
+}
+
+// Writes to both streams what is due for the whole input, however long, or says which stream failed.
+fn run<R: Read, W: Write, E: Write>(reader: &mut R, out: &mut W, err: &mut E) -> Result<(), Failure>
+    ensures output { OnOk result (IfSome (R.remaining reader.old)
+        (λ whole. Appends (W.contents out.old) (W.contents out.new) (converted_output (convert_verdict whole)))) }
+    ensures errors { OnOk result (IfSome (R.remaining reader.old)
+        (λ whole. Appends (E.contents err.old) (E.contents err.new) (converted_errors (convert_verdict whole)))) }
+{
+    let source = input::fill(reader).map_err(Failure::Input)?;
     let mut buffer = [0u8; RESULT_ROOM];
     let mut line = [0u8; LINE_ROOM];
     let answer = answer(source, &mut buffer);
     let output = output(answer, &mut buffer);
     let errors = errors(answer, &mut line);
-    write(source, output, errors);
+    write(out, err, source, output, errors)
+}
+
+fn main(rt: HostRuntime) -> ExitCode {
+    let result = run(&mut rt.stdin(), &mut rt.stdout(), &mut rt.stderr());
+    let Err(failure) = result else {
+        return ExitCode::SUCCESS;
+    };
+    let _ = eprintln!(rt; "convert: {failure}");
+    ExitCode::FAILURE
 }

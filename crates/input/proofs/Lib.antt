@@ -2,3 +2,4 @@ pub mod Laws
 pub mod OnWhole
 mod Parts
 mod Known
+pub mod Streams

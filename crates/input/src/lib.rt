@@ -92,3 +92,8 @@ pub fn fill<R: Read>(reader: &mut R) -> io::Result<Source>
         input,
     })
 }
+
+// The error to tell of where the reads say that one failed.
+pub fn read_failed() -> io::Error {
+    io::Error::other("a read after its end gave more")
+}

@@ -1,15 +1,18 @@
 // The program: reads a plan from standard input and prints its listing, or `refused` and the number.
 #![tactic(auto)]
 
-ghost use Rattle.std.specs.Prelude.{◌≡◌, ◌≤◌, length};
+ghost use Rattle.std.specs.Prelude.{◌≡◌, ◌≤◌, length, IfOk, IfSome, OnOk};
+ghost use Rattle.std.specs.Io.KnownBytes.{Appends};
 ghost use Rattle.model.specs.Listing.{printed, step_limit, listing_room, print_call};
 ghost use Rattle.listing.specs.Entries.{listing_outcome};
-ghost use Rattle.input.specs.Input.{SourceIs};
+ghost use Rattle.input.specs.Input.{SourceIs, InputIs};
 ghost use Rattle.place.specs.Output.{listed_output};
 
 use input::{Input, Source};
-use libc::STDOUT_FILENO;
 use listing::ListingAnswer;
+use std::io::{Read, Write};
+use std::process::ExitCode;
+use std::{fmt, io};
 
 const STEP_LIMIT: u32 = 100000;
 
@@ -46,23 +49,49 @@ fn output<'a>(source: Source, text: &'a mut [u8]) -> &'a mut [u8]
     }
 }
 
-// Writes the output for what was read, and nothing else, or says what failed.
-fn write(source: Source, text: &[u8])
-    requires { SourceIs source × (text.now ≡ listed_output source) }
-{
-    let input = source.input;
-    if let Input::Failed = input {
-        os::fail(b"place: standard input");
-        return;
-    }
-    if !io::write_all(STDOUT_FILENO, text) {
-        os::fail(b"place: standard output");
+// Why nothing was printed, or not all of it: standard input or standard output failed.
+#[derive(Drop)]
+enum Failure {
+    Input(io::Error),
+    Output(io::Error),
+}
+
+impl fmt::Display for Failure {
+    fn fmt<W: fmt::Write>(&self, f: &mut fmt::Formatter<W>) -> fmt::Result {
+        match self {
+            Failure::Input(error) => write!(f, "standard input: {error}"),
+            Failure::Output(error) => write!(f, "standard output: {error}"),
+        }
     }
 }
 
-fn main() {
-    let source = input::fill();
-    let mut text = io::large_buffer();
+// Writes the output for what was read, and nothing else.
+fn write<W: Write>(out: &mut W, source: Source, text: &[u8]) -> Result<(), Failure>
+    requires { SourceIs source × (text.now ≡ listed_output source) }
+    ensures { OnOk result (Appends (W.contents out.old) (W.contents out.new) (listed_output source)) }
+{
+    let input = source.input;
+    if let Input::Failed = input {
+        return Err(Failure::Input(input::read_failed()));
+    }
+    out.write_all(text).map_err(Failure::Output)
+}
+
+// Prints what is due for the whole input, however long, or says which stream failed.
+fn run<R: Read, W: Write>(reader: &mut R, out: &mut W) -> Result<(), Failure>
+    ensures { OnOk result (IfSome (R.remaining reader.old)
+        (λ whole. Appends (W.contents out.old) (W.contents out.new) (printed whole step_limit))) }
+{
+    let source = input::fill(reader).map_err(Failure::Input)?;
+    let mut text = [0u8; 65536];
     let part = output(source, &mut text);
-    write(source, part);
+    write(out, source, part)
+}
+
+fn main(rt: HostRuntime) -> ExitCode {
+    let Err(failure) = run(&mut rt.stdin(), &mut rt.stdout()) else {
+        return ExitCode::SUCCESS;
+    };
+    let _ = eprintln!(rt; "place: {failure}");
+    ExitCode::FAILURE
 }

@@ -3,13 +3,11 @@
 // The digest of nothing.
 const BASIS: u64 = 14695981039346656037;
 
+const PRIME: u64 = 1099511628211;
+
 // The product with the prime, 2^40 + 435, modulo 2^64.
 fn times_prime(x: u64) -> u64 {
-    let high = x % 16777216 * 1099511627776;
-    let carried = x / 4294967296 * 435;
-    let middle = carried % 4294967296 * 4294967296;
-    let low = x % 4294967296 * 435;
-    std::num::wrapping_add_u64(high, std::num::wrapping_add_u64(middle, low))
+    x.wrapping_mul(PRIME)
 }
 
 // The digest with one byte more.
@@ -24,10 +22,8 @@ fn wide(x: u8) -> u64 {
 // The digest of some bytes.
 pub fn of_bytes(bytes: &[u8]) -> u64 {
     let mut digest = BASIS;
-    let mut i: usize = 0;
-    while i < bytes.len() {
-        digest = mix(digest, wide(bytes[i]));
-        i += 1;
+    for byte in bytes {
+        digest = mix(digest, wide(*byte));
     }
     digest
 }
@@ -36,11 +32,9 @@ pub fn of_bytes(bytes: &[u8]) -> u64 {
 fn mix_word(digest: u64, word: u64) -> u64 {
     let mut mixed = digest;
     let mut rest = word;
-    let mut k: usize = 0;
-    while k < 8 {
+    for _ in 0..8 {
         mixed = mix(mixed, rest % 256);
         rest /= 256;
-        k += 1;
     }
     mixed
 }
@@ -48,10 +42,8 @@ fn mix_word(digest: u64, word: u64) -> u64 {
 // The digest of some words.
 pub fn of_words(words: &[u64]) -> u64 {
     let mut digest = BASIS;
-    let mut i: usize = 0;
-    while i < words.len() {
-        digest = mix_word(digest, words[i]);
-        i += 1;
+    for word in words {
+        digest = mix_word(digest, *word);
     }
     digest
 }

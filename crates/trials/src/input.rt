@@ -1,6 +1,9 @@
 // Records of the stream, read from standard input.
 ghost use Rattle.std.specs.Prelude.{◌+◌, ◌≤◌, length};
 
+use std::io;
+use std::io::Read;
+
 // A record's head: its op, its length and its number; or the input ended, or the byte after the op is not zero.
 #[derive(Clone, Copy)]
 pub enum Head {
@@ -19,8 +22,19 @@ pub fn at_most(n: usize, most: usize) -> usize
 }
 
 // Fills the part, or answers that the input ended first.
-pub fn fill(part: &mut [u8]) -> bool {
-    io::read_full(libc::STDIN_FILENO, part) == part.len()
+pub fn fill<R: Read>(reader: &mut R, part: &mut [u8]) -> io::Result<bool> {
+    match reader.read_exact(part) {
+        Ok(()) => Ok(true),
+        Err(error) => ended(error),
+    }
+}
+
+// False where the error says that the input has ended; any other error stands.
+fn ended(error: io::Error) -> io::Result<bool> {
+    if error.kind() == io::ErrorKind::UnexpectedEof {
+        return Ok(false);
+    }
+    Err(error)
 }
 
 // A buffer for counts, each byte 238.
@@ -29,15 +43,15 @@ pub fn filled() -> [u8; 65536] {
 }
 
 // The next record's head.
-pub fn next_head() -> Head {
+pub fn next_head<R: Read>(reader: &mut R) -> io::Result<Head> {
     let mut bytes = [0u8; 8];
-    if !fill(&mut bytes) {
-        return Head::Cut;
+    if !fill(reader, &mut bytes)? {
+        return Ok(Head::Cut);
     }
     if bytes[1] != 0 {
-        return Head::Cut;
+        return Ok(Head::Cut);
     }
-    parse(&bytes)
+    Ok(parse(&bytes))
 }
 
 // The fields of a head.
@@ -62,9 +76,7 @@ fn word_at(raw: &[u8; 8800], at: usize) -> u64
 pub fn decode(raw: &[u8; 8800], n: usize, words: &mut [u64])
     requires { (n ≤ 1100) × (n ≤ length words.old) }
 {
-    let mut i: usize = 0;
-    while i < n {
+    for i in 0..n {
         words[i] = word_at(raw, 8 * i);
-        i += 1;
     }
 }

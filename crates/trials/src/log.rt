@@ -24,10 +24,8 @@ pub fn unpacked(log: &[u64]) -> [Entry; 4200] {
     let none = Entry { block: 0, tick: 0 };
     let mut list = [none; 4200];
     let len = at_most(log.len(), 4200);
-    let mut i: usize = 0;
-    while i < len {
+    for i in 0..len {
         list[i] = entry_of(log[i]);
-        i += 1;
     }
     list
 }
@@ -35,10 +33,8 @@ pub fn unpacked(log: &[u64]) -> [Entry; 4200] {
 // Puts the list into the words.
 pub fn pack(list: [Entry; 4200], log: &mut [u64]) {
     let len = at_most(log.len(), 4200);
-    let mut i: usize = 0;
-    while i < len {
+    for i in 0..len {
         log[i] = word_of(list[i]);
-        i += 1;
     }
 }
 

@@ -10,6 +10,8 @@ mod output;
 
 use input::Head;
 use output::Line;
+use std::io;
+use std::io::{Read, Write};
 
 // The lengths of the current plan and of the parts of the words and of the list that are lent; the list's count of entries, and the block
 // that the calls on it are about.
@@ -31,62 +33,77 @@ enum Turn {
 }
 
 // Reads a text that fills the buffer, and writes it as a line; false where the input ends first.
-fn echo_title(text: &mut [u8]) -> bool {
-    if !input::fill(text) {
-        return false;
+fn echo_title<R: Read, W: Write>(reader: &mut R, out: &mut W, text: &mut [u8]) -> io::Result<bool> {
+    if !input::fill(reader, text)? {
+        return Ok(false);
     }
-    Line::new(b"# ").text(text).write();
-    true
+    Line::new(b"# ").text(text).write(out)?;
+    Ok(true)
 }
 
 // Title record: n bytes of text, written as a line.
-fn take_title(n: usize, current: Current) -> Turn {
+fn take_title<R: Read, W: Write>(
+    reader: &mut R,
+    out: &mut W,
+    n: usize,
+    current: Current,
+) -> io::Result<Turn> {
     if n > 80 {
-        return Turn::Bad;
+        return Ok(Turn::Bad);
     }
     let mut text = [0u8; 80];
-    if !echo_title(&mut text[..n]) {
-        return Turn::Bad;
+    if !echo_title(reader, out, &mut text[..n])? {
+        return Ok(Turn::Bad);
     }
-    Turn::On(current)
+    Ok(Turn::On(current))
 }
 
 // Plan record: n bytes, the current plan from now on.
-fn take_plan(plan: &mut [u8], n: usize, mut current: Current) -> Turn {
+fn take_plan<R: Read>(
+    reader: &mut R,
+    plan: &mut [u8],
+    n: usize,
+    mut current: Current,
+) -> io::Result<Turn> {
     if n > plan.len() {
-        return Turn::Bad;
+        return Ok(Turn::Bad);
     }
-    if !input::fill(&mut plan[..n]) {
-        return Turn::Bad;
+    if !input::fill(reader, &mut plan[..n])? {
+        return Ok(Turn::Bad);
     }
     current.plan = n;
-    Turn::On(current)
+    Ok(Turn::On(current))
 }
 
 // Reads the first n words; false where they are too many, or the input ends first.
-fn fill_words(words: &mut [u64], n: usize) -> bool {
+fn fill_words<R: Read>(reader: &mut R, words: &mut [u64], n: usize) -> io::Result<bool> {
     if n > 1100 {
-        return false;
+        return Ok(false);
     }
     if n > words.len() {
-        return false;
+        return Ok(false);
     }
     let mut raw = [0u8; 8800];
     let size = 8 * n;
-    if !input::fill(&mut raw[..size]) {
-        return false;
+    if !input::fill(reader, &mut raw[..size])? {
+        return Ok(false);
     }
     input::decode(&raw, n, words);
-    true
+    Ok(true)
 }
 
 // Words record: n words, lent from now on; those behind keep their contents.
-fn take_words(words: &mut [u64], n: usize, mut current: Current) -> Turn {
-    if !fill_words(words, n) {
-        return Turn::Bad;
+fn take_words<R: Read>(
+    reader: &mut R,
+    words: &mut [u64],
+    n: usize,
+    mut current: Current,
+) -> io::Result<Turn> {
+    if !fill_words(reader, words, n)? {
+        return Ok(Turn::Bad);
     }
     current.lent = n;
-    Turn::On(current)
+    Ok(Turn::On(current))
 }
 
 // Lending record: from now on n of the words are lent.
@@ -99,14 +116,20 @@ fn lend(n: usize, mut current: Current) -> Turn {
 }
 
 // Entries record: n entries of the list, from a place on; all others keep their contents.
-fn take_entries(log: &mut [u64], n: usize, at: usize, current: Current) -> Turn {
+fn take_entries<R: Read>(
+    reader: &mut R,
+    log: &mut [u64],
+    n: usize,
+    at: usize,
+    current: Current,
+) -> io::Result<Turn> {
     if at > log.len() {
-        return Turn::Bad;
+        return Ok(Turn::Bad);
     }
-    if !fill_words(&mut log[at..], n) {
-        return Turn::Bad;
+    if !fill_words(reader, &mut log[at..], n)? {
+        return Ok(Turn::Bad);
     }
-    Turn::On(current)
+    Ok(Turn::On(current))
 }
 
 // Lending record of the list: from now on n of its entries are lent.
@@ -134,53 +157,66 @@ fn take_block(block: u32, mut current: Current) -> Turn {
 }
 
 // Judges the plan.
-fn try_plan(plan: &[u8], current: Current) -> Turn {
+fn try_plan<W: Write>(out: &mut W, plan: &[u8], current: Current) -> io::Result<Turn> {
     let size = input::at_most(current.plan, plan.len());
-    calls::plan_line(&plan[..size]).write();
-    Turn::On(current)
+    calls::plan_line(&plan[..size]).write(out)?;
+    Ok(Turn::On(current))
 }
 
 // Chooses the counts in the lent buffer; the digest is that of the buffer.
-fn answer_counts(plan: &[u8], lent: &mut [u8]) {
+fn answer_counts<W: Write>(out: &mut W, plan: &[u8], lent: &mut [u8]) -> io::Result<()> {
     let line = calls::counts_line(plan, lent);
-    line.hex(digest::of_bytes(lent)).write();
+    line.hex(digest::of_bytes(lent)).write(out)
 }
 
 // Chooses the counts, in a buffer of n bytes.
-fn try_counts(plan: &[u8], n: usize, current: Current) -> Turn {
+fn try_counts<W: Write>(out: &mut W, plan: &[u8], n: usize, current: Current) -> io::Result<Turn> {
     let size = input::at_most(current.plan, plan.len());
     let room = input::at_most(n, 65536);
     let mut space = input::filled();
-    answer_counts(&plan[..size], &mut space[..room]);
-    Turn::On(current)
+    answer_counts(out, &plan[..size], &mut space[..room])?;
+    Ok(Turn::On(current))
 }
 
 // Converts the plan into the lent buffer; the digest is that of the buffer.
-fn answer_conversion(plan: &[u8], lent: &mut [u8]) {
+fn answer_conversion<W: Write>(out: &mut W, plan: &[u8], lent: &mut [u8]) -> io::Result<()> {
     let line = calls::convert_line(plan, lent);
-    line.hex(digest::of_bytes(lent)).write();
+    line.hex(digest::of_bytes(lent)).write(out)
 }
 
 // Converts the plan, into a buffer of n bytes.
-fn try_convert(plan: &[u8], n: usize, current: Current) -> Turn {
+fn try_convert<W: Write>(out: &mut W, plan: &[u8], n: usize, current: Current) -> io::Result<Turn> {
     let size = input::at_most(current.plan, plan.len());
     let room = input::at_most(n, 65536);
     let mut space = input::filled();
-    answer_conversion(&plan[..size], &mut space[..room]);
-    Turn::On(current)
+    answer_conversion(out, &plan[..size], &mut space[..room])?;
+    Ok(Turn::On(current))
 }
 
 // Makes a call on the lent words; the digest is that of all words.
-fn try_words(plan: &[u8], words: &mut [u64], current: Current, op: u8, limit: u32) -> Turn {
+fn try_words<W: Write>(
+    out: &mut W,
+    plan: &[u8],
+    words: &mut [u64],
+    current: Current,
+    op: u8,
+    limit: u32,
+) -> io::Result<Turn> {
     let size = input::at_most(current.plan, plan.len());
     let lent = input::at_most(current.lent, words.len());
     let line = calls::words_line(&plan[..size], &mut words[..lent], op, limit);
-    line.hex(digest::of_words(words)).write();
-    Turn::On(current)
+    line.hex(digest::of_words(words)).write(out)?;
+    Ok(Turn::On(current))
 }
 
 // A read on the lent entries; the digest is that of all entries.
-fn try_read(plan: &[u8], log: &mut [u64], mut current: Current, tick: u32) -> Turn {
+fn try_read<W: Write>(
+    out: &mut W,
+    plan: &[u8],
+    log: &mut [u64],
+    mut current: Current,
+    tick: u32,
+) -> io::Result<Turn> {
     let size = input::at_most(current.plan, plan.len());
     let lent = input::at_most(current.entries, 4200);
     let block = current.block;
@@ -191,25 +227,32 @@ fn try_read(plan: &[u8], log: &mut [u64], mut current: Current, tick: u32) -> Tu
     log::pack(after, log);
     log::put_answer(Line::new(b"read"), answer)
         .hex(digest::of_words(log))
-        .write();
+        .write(out)?;
     current.count = log::next_count(count, answer);
-    Turn::On(current)
+    Ok(Turn::On(current))
 }
 
 // The popularity of the current block; the digest is that of all entries.
-fn try_popularity(plan: &[u8], log: &[u64], current: Current) -> Turn {
+fn try_popularity<W: Write>(
+    out: &mut W,
+    plan: &[u8],
+    log: &[u64],
+    current: Current,
+) -> io::Result<Turn> {
     let size = input::at_most(current.plan, plan.len());
     let lent = input::at_most(current.entries, 4200);
     let list = log::unpacked(log);
     let answer = log::popularity_answer(&plan[..size], current.block, list, lent, current.count);
     log::put_answer(Line::new(b"popularity"), answer)
         .hex(digest::of_words(log))
-        .write();
-    Turn::On(current)
+        .write(out)?;
+    Ok(Turn::On(current))
 }
 
 // Does what a record says, from its op, its length n and its number.
-fn apply(
+fn apply<R: Read, W: Write>(
+    reader: &mut R,
+    out: &mut W,
     plan: &mut [u8],
     words: &mut [u64],
     log: &mut [u64],
@@ -217,38 +260,53 @@ fn apply(
     op: u8,
     n: usize,
     number: u32,
-) -> Turn {
+) -> io::Result<Turn> {
     match op {
-        b'T' => take_title(n, current),
-        b'P' => take_plan(plan, n, current),
-        b'W' => take_words(words, n, current),
-        b'L' => lend(n, current),
-        b'R' => take_entries(log, n, number as usize, current),
-        b'M' => lend_entries(n, current),
-        b'N' => take_count(n, number, current),
-        b'B' => take_block(number, current),
-        b'p' => try_plan(plan, current),
-        b'c' => try_counts(plan, n, current),
-        b'v' => try_convert(plan, n, current),
-        b'f' | b'k' | b'r' | b's' | b'u' => try_words(plan, words, current, op, number),
-        b'd' => try_read(plan, log, current, number),
-        b'o' => try_popularity(plan, log, current),
-        b'E' => Turn::End,
-        _ => Turn::Bad,
+        b'T' => take_title(reader, out, n, current),
+        b'P' => take_plan(reader, plan, n, current),
+        b'W' => take_words(reader, words, n, current),
+        b'L' => Ok(lend(n, current)),
+        b'R' => take_entries(reader, log, n, number as usize, current),
+        b'M' => Ok(lend_entries(n, current)),
+        b'N' => Ok(take_count(n, number, current)),
+        b'B' => Ok(take_block(number, current)),
+        b'p' => try_plan(out, plan, current),
+        b'c' => try_counts(out, plan, n, current),
+        b'v' => try_convert(out, plan, n, current),
+        b'f' | b'k' | b'r' | b's' | b'u' => try_words(out, plan, words, current, op, number),
+        b'd' => try_read(out, plan, log, current, number),
+        b'o' => try_popularity(out, plan, log, current),
+        b'E' => Ok(Turn::End),
+        _ => Ok(Turn::Bad),
     }
 }
 
 // Reads the next record, and does what it says.
-fn take_record(plan: &mut [u8], words: &mut [u64], log: &mut [u64], current: Current) -> Turn {
-    let head = input::next_head();
+fn take_record<R: Read, W: Write>(
+    reader: &mut R,
+    out: &mut W,
+    plan: &mut [u8],
+    words: &mut [u64],
+    log: &mut [u64],
+    current: Current,
+) -> io::Result<Turn> {
+    let head = input::next_head(reader)?;
     match head {
-        Head::Cut => Turn::Bad,
-        Head::Record { op, n, number } => apply(plan, words, log, current, op, n, number),
+        Head::Cut => Ok(Turn::Bad),
+        Head::Record { op, n, number } => {
+            apply(reader, out, plan, words, log, current, op, n, number)
+        }
     }
 }
 
-// Takes record after record. A proved loop has to end, so it counts its turns down from a number that no stream uses up.
-fn play(plan: &mut [u8], words: &mut [u64], log: &mut [u64]) {
+// Takes record after record. A proved loop has to end, so it takes no more of them than a number that no stream uses up.
+fn play<R: Read, W: Write>(
+    reader: &mut R,
+    out: &mut W,
+    plan: &mut [u8],
+    words: &mut [u64],
+    log: &mut [u64],
+) -> io::Result<()> {
     let mut current = Current {
         plan: 0,
         lent: 0,
@@ -256,29 +314,32 @@ fn play(plan: &mut [u8], words: &mut [u64], log: &mut [u64]) {
         count: 0,
         block: 0,
     };
-    let mut turns = u32::MAX;
-    while turns > 0 {
-        turns -= 1;
-        let turn = take_record(plan, words, log, current);
+    for _ in 0..u32::MAX {
+        let turn = take_record(reader, out, plan, words, log, current)?;
         match turn {
             Turn::On(next) => {
                 current = next;
             }
             Turn::End => {
-                Line::new(b"end").write();
-                return;
+                return Line::new(b"end").write(out);
             }
             Turn::Bad => {
-                Line::new(b"bad stream").write();
-                return;
+                return Line::new(b"bad stream").write(out);
             }
         }
     }
+    Ok(())
 }
 
-fn main() {
+fn main(rt: HostRuntime) -> io::Result<()> {
     let mut plan = [0u8; 8000];
     let mut words = [0u64; 1100];
     let mut log = [0u64; 4200];
-    play(&mut plan, &mut words, &mut log);
+    play(
+        &mut rt.stdin(),
+        &mut rt.stdout(),
+        &mut plan,
+        &mut words,
+        &mut log,
+    )
 }

@@ -1,0 +1,28 @@
+-- `convert::run` meets its contract: what is written is what the answer sends, and so what is due for the whole input.
+-- Assumes nothing.
+use Rattle.std.proofs.Common.{IfSome, rules, arith}
+use Rattle.model.specs.Plan.{format_of}
+use Rattle.model.specs.Conversion.{convert_verdict, converted_output, converted_errors}
+use Rattle.input.specs.Input.{SourceIs, InputIs}
+use Rattle.input.proofs.Streams.{due-written}
+use Rattle.convert.specs.Output.{converted_stream, errors_of}
+use Rattle.convert.proofs.ConvertsWhole.{converts-whole}
+use Rattle.convert.proofs.run.Goals as goal
+
+pub answer-answer-requires : goal.answer-answer-requires
+unfolding format_of
+answer-answer-requires g c = (search rules, omega arith)
+
+pub returns-clause-output : goal.returns-clause-output
+returns-clause-output g c =
+    let source = c.in_ok-source.source in
+    let is : SourceIs source = search rules in
+    let told : IfSome (g.R.Read.remaining c.args.reader.now) (λ whole. InputIs source.bytes source.input whole) = search rules in
+    due-written (λ whole. converted_output (convert_verdict whole)) _ _ c.write.result _ converted_stream converts-whole.output-is source is told c.write.ensures.output
+
+pub returns-clause-errors : goal.returns-clause-errors
+returns-clause-errors g c =
+    let source = c.in_ok-source.source in
+    let is : SourceIs source = search rules in
+    let told : IfSome (g.R.Read.remaining c.args.reader.now) (λ whole. InputIs source.bytes source.input whole) = search rules in
+    due-written (λ whole. converted_errors (convert_verdict whole)) _ _ c.write.result _ errors_of converts-whole.errors-is source is told c.write.ensures.errors
