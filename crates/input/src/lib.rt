@@ -3,12 +3,13 @@
 
 ghost use Rattle.std.specs.Prelude.{◌≡◌, ◌≢◌, ◌<◌, ◌≤◌, [], pos, length, take, IfOk, IfSome};
 ghost use Rattle.std.specs.Io.KnownBytes.{Consumes, IsAtEnd};
+ghost use Rattle.std.specs.IoError.{error_kind};
 ghost use Rattle.model.specs.Listing.{input_room};
 ghost use Rattle.input.specs.Moved.{Moved};
 ghost use Rattle.input.specs.Input.{input_of, SourceIs, InputIs};
 
 use std::io;
-use std::io::Read;
+use std::io::{ErrorKind, Read};
 
 // One byte more than the largest plan has. Of a longer input no more is read: it is judged as it would be in full.
 const INPUT_ROOM: usize = 7185;
@@ -94,6 +95,8 @@ pub fn fill<R: Read>(reader: &mut R) -> io::Result<Source>
 }
 
 // The error to tell of where the reads say that one failed.
-pub fn read_failed() -> io::Error {
+pub fn read_failed() -> io::Error
+    ensures { error_kind result ≡ ErrorKind.Other }
+{
     io::Error::other("a read after its end gave more")
 }
