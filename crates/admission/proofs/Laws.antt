@@ -3,7 +3,8 @@
 use mathlib.Core.Path.{◌≡◌, refl, ap, sym, ◌∙◌}
 use mathlib.Core.Bool.{Bool, true, false, not}
 use mathlib.Core.List.{List}
-use Prim.Native.Nat.{ℕ, zero, suc, ◌*◌, ◌≤◌, min}
+use Rattle.std.specs.Prelude.{Result, Ok, Err}
+use Prim.Native.Nat.{ℕ, zero, suc, ◌*◌, ◌<◌, ◌≤◌, min}
 use native.Mathlib.Omega.{arith}
 use lib.Dec.{eqb}
 use lib.ListN.{length, get_or}
@@ -15,19 +16,20 @@ use Rattle.model.specs.Replication.{copy_limit as limit_of, need, chosen}
 use Rattle.model.specs.Placement.{count_of, all_within}
 use Rattle.model.specs.Calls.{all_counted, placement_refusal}
 use Rattle.theory.proofs.Refusal.{check12-enough}
-use Rattle.theory.proofs.Placement.{feasible-own}
+use Rattle.theory.proofs.Placement.{feasible-own, all_within-iff}
 use Rattle.theory.proofs.Calls.{call_refusal-accepted, placement_refusal-feasible}
 use Rattle.cluster.specs.declared.Cluster.{Cluster}
 use Rattle.cluster.specs.Cluster.{machines_in, ClusterOf}
-use Rattle.cluster.specs.Blocks.{PlacementFits}
-use Rattle.cluster.proofs.Laws.{cluster-blocks}
+use Rattle.refusal.specs.declared.Refusal.{Refusal}
+use Rattle.cluster.specs.Blocks.{DemandsOf, CountsFit, PlacementFits}
+use Rattle.cluster.proofs.Laws.{cluster-blocks, cluster-machines, counts-upper, counts-pos}
 use Rattle.header.specs.declared.Header.{Header}
 use Rattle.plan.specs.Reading.{plan_of, Decoded, AcceptedHeader}
 use Rattle.replication.specs.Choice.{LimitedDemands, FigureOf, FilledAs}
-use Rattle.validation.specs.Validation.{all_counted_at, counts_refusal, layout_refusal}
+use Rattle.validation.specs.Validation.{all_counted_at, counts_refusal, layout_refusal, HeldAt}
 use Rattle.admission.specs.declared.Intake.{Intake}
 use Rattle.admission.specs.declared.Placement.{Placement}
-use Rattle.admission.specs.Admission.{Prepared, PlanReady, Weighed, PlacementAdmitted}
+use Rattle.admission.specs.Admission.{Prepared, PlanReady, WeighedAs, Weighed, PlacementReady, PlacementAdmitted}
 
 -- the demands of an accepted plan, and the copies that it allows
 pub limited-of : (bytes : List ℕ) (h : Header) → AcceptedHeader bytes h → (demands₀ demands : List ℕ) → Decoded bytes h demands₀ demands
@@ -89,31 +91,31 @@ module _ (p : Plan) (figure : ℕ) (words : List ℕ) (of : FigureOf p figure) (
   rows-layout e = rows_apart ∙ (rw e refl)
 
 -- words whose counts have passed are admitted by the other rows
-pub ready_of : (p : Plan) (bytes : List ℕ) → judge bytes ≡ accepted p → (c : Cluster) (words profiles : List ℕ) (r : Placement)
-    → block_count p ≤ length words → placement_refusal words p ≡ layout_refusal p words → Weighed p c words profiles r
-    → PlacementAdmitted bytes words profiles r
-ready_of p bytes reads c words profiles r enough rows made =
-    let code : r.code ≡ placement_refusal words p = made.code_is ∙ sym rows in
-    let of = made.prepared.profiles-of in
-    record {
-      code_is = code ∙ sym (call_refusal-accepted _ p (placement_refusal words) reads);
-      ready =
-          λ e.
-          let passes = sym code ∙ e in
-          record {
-            plan = p;
-            reads = reads;
-            passes = passes;
-            prepared = made.prepared;
-            fits = record { profiles-fit = made.prepared.fit; word_room = rw (cluster-blocks p _ of.cluster) enough };
-            placement =
-                record {
-                  profiles-of = of;
-                  feasible = feasible-own p (chosen p) words (placement_refusal-feasible p of.cluster.valid words passes);
-                };
-            loads-of = made.loads-of;
-          };
-    }
+module _ (p : Plan) (bytes : List ℕ) (reads : judge bytes ≡ accepted p) (words : List ℕ)
+    (rows : placement_refusal words p ≡ layout_refusal p words) where
+  ready_of : (c : Cluster) (profiles : List ℕ) (r : Placement) → block_count p ≤ length words → WeighedAs p c words profiles r
+      → PlacementReady bytes words profiles r
+  ready_of c profiles r enough made =
+      let of = made.prepared.profiles-of in
+      let passes = rows ∙ made.passes in
+      record {
+        plan = p;
+        reads = reads;
+        passes = passes;
+        prepared = made.prepared;
+        fits = record { profiles-fit = made.prepared.fit; word_room = rw (cluster-blocks p _ of.cluster) enough };
+        placement =
+            record {
+              profiles-of = of;
+              feasible = feasible-own p (chosen p) words (placement_refusal-feasible p of.cluster.valid words passes);
+            };
+        loads-of = made.loads-of;
+      }
+
+  pub admitted-of : (c : Cluster) (profiles : List ℕ) (r : Result Placement Refusal) → block_count p ≤ length words
+      → Weighed p c words profiles r → PlacementAdmitted bytes words profiles r
+  admitted-of c profiles (Err refusal) enough number = number ∙ sym (call_refusal-accepted _ p (placement_refusal words) reads ∙ rows)
+  admitted-of c profiles (Ok r) enough made = ready_of c profiles r enough made
 
 -- the words lent to an admitted plan, with its profiles
 pub fits-of : (bytes words profiles : List ℕ) (r : Intake) → PlanReady bytes (length words) profiles r
@@ -123,3 +125,19 @@ fits-of bytes words profiles r ready =
       profiles-fit = ready.prepared.fit;
       word_room = rw (cluster-blocks _ _ ready.prepared.profiles-of.cluster) ready.enough;
     }
+
+-- words that have passed rows 13 and 14, with the profiles at the counts that they hold
+module _ (p : Plan) (c : Cluster) (words demands : List ℕ) (of : DemandsOf p c demands) (fit : CountsFit c words demands) where
+  inside : (i : ℕ) → i < block_count p → i < c.blocks
+  inside i l = rw (cluster-blocks p _ of.cluster) l
+
+  pub within-all : all_within p words ≡ true
+  within-all = (all_within-iff p words).1 (λ i l. rw (cluster-machines p _ of.cluster) at (fit.within i (inside i l)))
+
+  pub held-at : (profiles : List ℕ) (top : ℕ) → FilledAs p (count_of p words) c demands profiles top → HeldAt p (count_of p words) c words profiles
+  held-at profiles top made =
+      record {
+        profiles-of = (prepared-of p _ _ of.cluster _ _ _ made).profiles-of;
+        at_most = λ i l. counts-upper p _ _ _ of fit i (inside i l);
+        some = λ i l. counts-pos p _ _ _ of fit i (inside i l);
+      }

@@ -1,13 +1,17 @@
--- What the way in says, in the model's terms: the refusal code of a call, and where it is 0 what the call works with.
-use Rattle.std.specs.Prelude.{◌≡◌, List, ℕ, ◌≤◌}
+-- What the way in says, in the model's terms: the refusal of a call, and where there is none what the call works with.
+use Rattle.std.specs.Prelude.{◌≡◌, List, ℕ, ◌≤◌, Result, Ok, Err}
 use Rattle.model.specs.Plan.{Plan, block_count}
 use Rattle.model.specs.Refusal.{check12, judge, accepted}
 use Rattle.model.specs.Replication.{largest_share, chosen}
 use Rattle.model.specs.Placement.{count_of}
 use Rattle.model.specs.Calls.{placement_refusal}
 use Rattle.theory.specs.Calls.{call_refusal}
+use Rattle.refusal.specs.declared.Refusal.{Refusal}
+use Rattle.refusal.specs.Rows.{number_of}
 use Rattle.cluster.specs.declared.Cluster.{Cluster}
 use Rattle.cluster.specs.Blocks.{DemandsFit, DemandsOf, CountsFit, ProfilesFit, ProfilesOf, PlacementFits, PlacementOf}
+use Rattle.header.specs.declared.Header.{Header}
+use Rattle.plan.specs.Reading.{plan_of}
 use Rattle.replication.specs.Choice.{LimitedDemands}
 use Rattle.loads.specs.Loads.{LoadsOf}
 use Rattle.validation.specs.Validation.{layout_refusal}
@@ -28,6 +32,20 @@ pub record Prepared (p : Plan) (count : ℕ → ℕ) (c : Cluster) (profiles : L
 abbrev pub PreparedChosen : Plan → Cluster → List ℕ → ℕ → Type 0
 PreparedChosen p = Prepared p (chosen p)
 
+-- Row 12 with so many items lent.
+abbrev pub lent_refusal : ℕ → Plan → ℕ
+lent_refusal lent p = check12 lent (block_count p) 0
+
+-- The header of a plan that passes rows 1 to 12, 17, 22 and 23 with so many items lent.
+pub record HeaderReady (bytes : List ℕ) (lent : ℕ) (h : Header) : Type 0 where
+  pub accepts : judge bytes ≡ accepted (plan_of bytes h)
+  pub enough : block_count (plan_of bytes h) ≤ lent
+
+-- Else the number of the first row that refuses.
+abbrev pub Entered : List ℕ → ℕ → Result Header Refusal → Type 0
+Entered bytes lent (Err refusal) = number_of refusal ≡ call_refusal (judge bytes) (lent_refusal lent)
+Entered bytes lent (Ok h) = HeaderReady bytes lent h
+
 -- A plan that passes rows 1 to 12, 17, 22 and 23 with so many items lent.
 pub record PlanReady (bytes : List ℕ) (lent : ℕ) (profiles : List ℕ) (r : Intake) : Type 0 where
   pub plan : Plan
@@ -35,9 +53,10 @@ pub record PlanReady (bytes : List ℕ) (lent : ℕ) (profiles : List ℕ) (r : 
   pub enough : block_count plan ≤ lent
   pub prepared : PreparedChosen plan r.cluster profiles r.top
 
-pub record Admitted (bytes : List ℕ) (lent : ℕ) (profiles : List ℕ) (r : Intake) : Type 0 where
-  pub code_is : r.code ≡ call_refusal (judge bytes) (λ p. check12 lent (block_count p) 0)
-  pub ready : r.code ≡ 0 → PlanReady bytes lent profiles r
+-- Else the number of the first row that refuses.
+abbrev pub Admitted : List ℕ → ℕ → List ℕ → Result Intake Refusal → Type 0
+Admitted bytes lent profiles (Err refusal) = number_of refusal ≡ call_refusal (judge bytes) (lent_refusal lent)
+Admitted bytes lent profiles (Ok r) = PlanReady bytes lent profiles r
 
 -- Words that have passed rows 13 and 14, with the demands of some plan.
 pub record CountedAsked (c : Cluster) (words demands : List ℕ) : Type 0 where
@@ -45,13 +64,17 @@ pub record CountedAsked (c : Cluster) (words demands : List ℕ) : Type 0 where
   pub plan : Plan
   pub demands-of : DemandsOf plan c demands
 
--- Words of plan p that have passed rows 13 and 14: rows 15, 16 and 18, and the profiles, loads and copies at the counts held, whatever they
--- are.
-pub record Weighed (p : Plan) (c : Cluster) (words profiles : List ℕ) (r : Placement) : Type 0 where
-  pub code_is : r.code ≡ layout_refusal p words
+-- Words of plan p that pass rows 15, 16 and 18: the profiles, loads and copies at the counts held, whatever they are.
+pub record WeighedAs (p : Plan) (c : Cluster) (words profiles : List ℕ) (r : Placement) : Type 0 where
+  pub passes : layout_refusal p words ≡ 0
   pub cluster-is : r.cluster ≡ c
   pub prepared : Prepared p (count_of p words) r.cluster profiles r.top
   pub loads-of : LoadsOf r.cluster words profiles r.loads.load r.loads.copies
+
+-- Words of plan p that have passed rows 13 and 14: what was weighed, or the number of the first of rows 15, 16 and 18 that refuses.
+abbrev pub Weighed : Plan → Cluster → List ℕ → List ℕ → Result Placement Refusal → Type 0
+Weighed p c words profiles (Err refusal) = number_of refusal ≡ layout_refusal p words
+Weighed p c words profiles (Ok r) = WeighedAs p c words profiles r
 
 -- A placement that passes rows 12 to 16 and 18: lawful at the counts held, which are the chosen ones, with its loads and copies.
 pub record PlacementReady (bytes words profiles : List ℕ) (r : Placement) : Type 0 where
@@ -63,6 +86,7 @@ pub record PlacementReady (bytes words profiles : List ℕ) (r : Placement) : Ty
   pub placement : PlacementOf plan (count_of plan words) r.cluster words profiles
   pub loads-of : LoadsOf r.cluster words profiles r.loads.load r.loads.copies
 
-pub record PlacementAdmitted (bytes words profiles : List ℕ) (r : Placement) : Type 0 where
-  pub code_is : r.code ≡ call_refusal (judge bytes) (placement_refusal words)
-  pub ready : r.code ≡ 0 → PlacementReady bytes words profiles r
+-- Else the number of the first row that refuses.
+abbrev pub PlacementAdmitted : List ℕ → List ℕ → List ℕ → Result Placement Refusal → Type 0
+PlacementAdmitted bytes words profiles (Err refusal) = number_of refusal ≡ call_refusal (judge bytes) (placement_refusal words)
+PlacementAdmitted bytes words profiles (Ok r) = PlacementReady bytes words profiles r

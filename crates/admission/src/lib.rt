@@ -1,30 +1,28 @@
 // The one way in for the entries: a plan's bytes are judged, its counts chosen, and a placement handed in is judged with it.
 #![tactic(auto)]
 
-ghost use Rattle.std.specs.Prelude.{◌≡◌, ◌≤◌, length};
-ghost use Rattle.model.specs.Refusal.{max_blocks, judge, accepted};
+ghost use Rattle.std.specs.Prelude.{◌≤◌, length};
+ghost use Rattle.model.specs.Refusal.{max_blocks};
 ghost use Rattle.model.specs.Plan.{Plan};
 ghost use Rattle.cluster.specs.Blocks.{DemandsOf};
 ghost use Rattle.plan.specs.Reading.{plan_of, DecodeAsked};
-ghost use Rattle.admission.specs.Admission.{Demanded, PreparedChosen, Admitted, CountedAsked, Weighed, PlacementAdmitted};
+ghost use Rattle.admission.specs.Admission.{Demanded, PreparedChosen, Entered, Admitted, CountedAsked, Weighed, PlacementAdmitted};
 
-use cluster::{Cluster, MAX_MACHINES};
+use cluster::Cluster;
 use header::Header;
 use loads::Loads;
-use plan::Reading;
+use refusal::Refusal;
 
-// What a call on a plan begins with: the refusal code, 0 for none; the cluster, and the largest share at the chosen counts.
+// What a call on a plan works with: the cluster, and the largest share at the chosen counts.
 #[derive(Clone, Copy)]
 pub struct Intake {
-    pub code: u8,
     pub cluster: Cluster,
     pub top: u64,
 }
 
-// What a call on a placement begins with: these, and the loads and copies of the machines.
+// What a call on a placement works with: these, and the loads and copies of the machines.
 #[derive(Clone, Copy)]
 pub struct Placement {
-    pub code: u8,
     pub cluster: Cluster,
     pub top: u64,
     pub loads: Loads,
@@ -38,7 +36,7 @@ fn demand_all(bytes: &[u8], h: Header, demands: &mut [u64]) -> usize
     let cluster = h.cluster;
     plan::decode(bytes, h, demands);
     let places = cluster.machines() * cluster.capacity;
-    cluster::smaller(h.budget as u64, places as u64) as usize
+    h.budget.min(places)
 }
 
 // The profiles of an accepted plan's blocks at the chosen counts, and the largest share.
@@ -51,114 +49,64 @@ pub fn prepare(bytes: &[u8], h: Header, profiles: &mut [u64]) -> u64
     replication::choose(profiles, allowed, cluster)
 }
 
-// A refused call has no cluster.
-fn turned_back(code: u8) -> Intake
-    ensures { result.code ≡ code }
+// The header of any bytes' plan, with so many items lent for its blocks: rows 1 to 12, 17, 22 and 23.
+fn enter(bytes: &[u8], lent: usize) -> Result<Header, Refusal>
+    ensures { Entered bytes.now lent result }
 {
-    let cluster = Cluster {
-        racks: 0,
-        rack_size: 0,
-        feeds: 0,
-        capacity: 0,
-        blocks: 0,
-    };
-    Intake {
-        code,
-        cluster,
-        top: 0,
-    }
-}
-
-// An accepted plan, with so many items lent for its blocks.
-fn admit_accepted(bytes: &[u8], h: Header, lent: usize, profiles: &mut [u64]) -> Intake
-    requires { (judge bytes.now ≡ accepted (plan_of bytes.now h)) × (max_blocks ≤ length profiles.old) }
-    ensures { Admitted bytes.now lent profiles.new result }
-{
+    let h = plan::read(bytes)?;
     let cluster = h.cluster;
     if lent < cluster.blocks {
-        return turned_back(12);
+        return Err(Refusal::ShortBuffer);
     }
-    let top = prepare(bytes, h, profiles);
-    Intake {
-        code: 0,
-        cluster,
-        top,
-    }
+    Ok(h)
 }
 
-// Any bytes, with so many items lent: rows 1 to 12, 17, 22 and 23. Where the code is 0, the profiles are in the lent list.
-pub fn admit(bytes: &[u8], lent: usize, profiles: &mut [u64]) -> Intake
+// Any bytes, with so many items lent: rows 1 to 12, 17, 22 and 23. Where none refuses, the profiles are in the lent list.
+pub fn admit(bytes: &[u8], lent: usize, profiles: &mut [u64]) -> Result<Intake, Refusal>
     requires { max_blocks ≤ length profiles.old }
     ensures { Admitted bytes.now lent profiles.new result }
 {
-    let reading = plan::read(bytes);
-    match reading {
-        Reading::Refused(code) => turned_back(code),
-        Reading::Accepted(h) => admit_accepted(bytes, h, lent, profiles),
-    }
-}
-
-// A refused placement has no cluster and no loads.
-fn refused_placement(code: u8) -> Placement
-    ensures { result.code ≡ code }
-{
-    let intake = turned_back(code);
-    let cluster = intake.cluster;
-    let loads = Loads {
-        load: [0u64; MAX_MACHINES],
-        copies: [0usize; MAX_MACHINES],
-    };
-    Placement {
-        code: intake.code,
-        cluster,
-        top: 0,
-        loads,
-    }
+    let h = enter(bytes, lent)?;
+    let top = prepare(bytes, h, profiles);
+    Ok(Intake {
+        cluster: h.cluster,
+        top,
+    })
 }
 
 // Words that have passed rows 13 and 14, with the demands: the profiles and loads at the counts held, and rows 15, 16 and 18.
-fn admit_counted(words: &[u64], profiles: &mut [u64], cluster: Cluster) -> Placement
+fn admit_counted(
+    words: &[u64],
+    profiles: &mut [u64],
+    cluster: Cluster,
+) -> Result<Placement, Refusal>
     requires { CountedAsked cluster words.now profiles.old }
     ensures { (p : Plan) → DemandsOf p cluster profiles.old
         → Weighed p cluster words.now profiles.new result }
 {
     let largest = replication::fill_held(profiles, words, cluster);
     let loads = loads::sum_words(words, profiles, cluster);
-    let code = validation::layout_refusal(words, profiles, loads, cluster);
-    Placement {
-        code,
+    validation::check_layout(words, profiles, loads, cluster)?;
+    Ok(Placement {
         cluster,
         top: largest,
         loads,
-    }
+    })
 }
 
-// An accepted plan with any words: rows 12, 13 and 14 on words and demands, then the others.
-fn admit_words(bytes: &[u8], h: Header, words: &[u64], profiles: &mut [u64]) -> Placement
-    requires { (judge bytes.now ≡ accepted (plan_of bytes.now h)) × (max_blocks ≤ length profiles.old) }
-    ensures { PlacementAdmitted bytes.now words.now profiles.new result }
-{
-    let cluster = h.cluster;
-    if words.len() < cluster.blocks {
-        return refused_placement(12);
-    }
-    let allowed = demand_all(bytes, h, profiles);
-    let figure = replication::best_figure(profiles, allowed, cluster);
-    let code = validation::counts_refusal(words, profiles, cluster, figure);
-    if code != 0 {
-        return refused_placement(code);
-    }
-    admit_counted(words, profiles, cluster)
-}
-
-// Any bytes with any words: rows 1 to 18, 22 and 23. Where the code is 0, the profiles are in the lent list.
-pub fn admit_placement(bytes: &[u8], words: &[u64], profiles: &mut [u64]) -> Placement
+// Any bytes with any words: rows 1 to 18, 22 and 23. Where none refuses, the profiles are in the lent list.
+pub fn admit_placement(
+    bytes: &[u8],
+    words: &[u64],
+    profiles: &mut [u64],
+) -> Result<Placement, Refusal>
     requires { max_blocks ≤ length profiles.old }
     ensures { PlacementAdmitted bytes.now words.now profiles.new result }
 {
-    let reading = plan::read(bytes);
-    match reading {
-        Reading::Refused(code) => refused_placement(code),
-        Reading::Accepted(h) => admit_words(bytes, h, words, profiles),
-    }
+    let h = enter(bytes, words.len())?;
+    let cluster = h.cluster;
+    let allowed = demand_all(bytes, h, profiles);
+    let figure = replication::best_figure(profiles, allowed, cluster);
+    validation::check_counts(words, profiles, cluster, figure)?;
+    admit_counted(words, profiles, cluster)
 }

@@ -4,7 +4,7 @@ use mathlib.Core.Path.{◌≡◌, ap, sym, ◌∙◌}
 use mathlib.Core.Bool.{Bool, cond}
 use mathlib.Core.List.{List}
 use mathlib.Core.Logic.{◌⊎◌, inl, inr}
-use Prim.Native.Nat.{ℕ, zero, suc, ◌+◌, ◌*◌, ◌-◌, ◌^◌, ◌<◌, ◌≤◌, min}
+use Prim.Native.Nat.{ℕ, zero, suc, ◌+◌, ◌*◌, ◌-◌, ◌/◌, ◌^◌, ◌<◌, ◌≤◌, min}
 use native.Mathlib.Nat.{zero-mul, one-mul, two-pow-succ}
 use native.Mathlib.Decide.{dec_lt, ℕ_discrete}
 use native.Mathlib.Omega.{arith}
@@ -19,15 +19,17 @@ use Rattle.model.specs.Plan.{Block, Plan, machines, domains, domain}
 use Rattle.model.specs.Refusal.{max_machines}
 use Rattle.model.specs.Placement.{bit, replicas, replicas_in, domains_used, used, load}
 use Rattle.model.specs.Recordings.{free_word, check25, domain_load, spread_word, filled_word, arrival_word}
-use Rattle.theory.proofs.Placement.{bit-cases, bit-above-from, replicas_in-held, replicas_in-some}
+use Rattle.theory.proofs.Placement.{bit-cases, bit-low, bit_high, bit-above-from, replicas_in-held, replicas_in-some}
 use Rattle.theory.proofs.Arrivals.{free_word-laws}
+use Rattle.std.proofs.Common.{Ok, Err}
+use Rattle.refusal.specs.declared.Refusal.TheVariants.{NoMachine}
 use Rattle.cluster.specs.declared.Cluster.{Cluster}
 use Rattle.cluster.specs.Cluster.{machines_in, domain_in, InRange}
 use Rattle.cluster.specs.Blocks.{ProfilesFit, PlacementOf}
 use Rattle.cluster.proofs.Laws.{cluster-range, cluster-feeds, cluster-domain, cluster-capacity, cluster-machines, copies_in-within}
 use Rattle.bits.proofs.Laws.{lowest-below}
 use Rattle.loads.specs.declared.Loads.{Loads}
-use Rattle.loads.specs.Loads.{LoadsOf}
+use Rattle.loads.specs.Loads.{LoadsOf, RoomTo}
 use Rattle.loads.proofs.Laws.{loads-narrow, copies-used, loads-load}
 use Rattle.arrival.specs.Arrival.{set_of, free_in, PartedTo, roomy_in, WeightsOf, SpreadAsked, SpreadOf, SpreadAs, FillAsked, FillOf, PlaceAsked, MachinesOf, PlacedOf}
 use Rattle.arrival.proofs.Laws.{set_of-below, set_of-bit, bit-place, bit-some, feeds-max}
@@ -79,6 +81,32 @@ module _ (word : ℕ) (c : Cluster) (parts : List ℕ) (parted : PartedTo word c
       inside : (k : ℕ) → (bit r k ≡ 0) ⊎ (bit r k ≡ 1) → bit r k ≤ bit word k
       inside k (inl off) = omega arith
       inside k (inr on) = let at = so.inside k on in omega (arith, (part-bit at.0 k at.1 at.2).1)
+
+-- words with the same bits are the same
+same-bits : (n a b : ℕ) → a + b ≤ n → ((k : ℕ) → bit a k ≡ bit b k) → a ≡ b
+same-bits zero a b small e = omega arith
+same-bits (suc n) a b small e =
+    let half = same-bits n (a / 2) (b / 2) (omega arith) (λ k. sym (bit_high a k) ∙ e (suc k) ∙ bit_high b k) in
+    omega (arith, half, bit-low a, bit-low b, e 0)
+
+-- the machines with room are those with a free place
+pub room-free : (l : Loads) (c : Cluster) (r : ℕ) → RoomTo c l.copies (machines_in c) r → r ≡ free_in l c
+room-free l c r room = same-bits (r + free_in l c) r (free_in l c) (omega arith) (λ k. at k (dec_lt k (machines_in c)))
+  where
+    test : ℕ → Bool
+    test m = ltb (get_or l.copies m 0) c.capacity
+
+    here : (k : ℕ) → k < machines_in c → Dec (get_or l.copies k 0 < c.capacity) → bit r k ≡ cond (test k) 1 0
+    here k h (yes few) = (room.is k h).1 few ∙ (rw (lt-ltb _ _ few))
+    here k h (no full) =
+        elim (bit-cases r k) [ inl off ↦ off | inr on ↦ absurd (full ((room.is k h).0 on)) ]
+        ∙ (rw (le-ltb (get_or l.copies k 0) c.capacity (omega arith)))
+
+    at : (k : ℕ) → Dec (k < machines_in c) → bit r k ≡ bit (free_in l c) k
+    at k (yes h) = here k h (dec_lt (get_or l.copies k 0) c.capacity) ∙ sym (set_of-bit test (machines_in c) k h)
+    at k (no h) =
+        room.past k (omega arith)
+        ∙ sym (bit-above-from (free_in l c) (machines_in c) (set_of-below test (machines_in c)) k (omega arith))
 
 -- ── In a plan ──────────────────────────────────────────────────────────────────────────────────────────────────────────
 
@@ -207,19 +235,19 @@ unfolding arrival_word
 arrival-at p words b least spread ml ms = rw (ml, ms)
 
 module _ (l : Loads) (c : Cluster) (least spread : ℕ) where
-  pub placed-machines : sum max_machines (bit (free_in l c)) < least → PlacedOf l c least spread (record { code = 25; word = 0 })
+  pub placed-machines : sum max_machines (bit (free_in l c)) < least → PlacedOf l c least spread (Err NoMachine)
   placed-machines few =
       record {
         is = λ p words b of ml ms.
             record {
               code_is = few-machines p words b (omega (arith, free-count p words c l of, ml));
-              word-is = λ e. absurd (omega arith);
+              word-is = tt;
             };
       }
 
   module _ (enough : least ≤ sum max_machines (bit (free_in l c))) (parts : List ℕ) (parted : PartedTo (free_in l c) c parts) where
     pub placed-domains : sum max_machines (bit (roomy_in parts c.feeds)) < spread
-        → PlacedOf l c least spread (record { code = 25; word = 0 })
+        → PlacedOf l c least spread (Err NoMachine)
     placed-domains few =
         record {
           is = λ p words b of ml ms.
@@ -227,14 +255,14 @@ module _ (l : Loads) (c : Cluster) (least spread : ℕ) where
                 code_is =
                     few-domains p words b (omega (arith, free-count p words c l of, ml, enough))
                     (omega (arith, roomy-count p words c l of parts parted, ms));
-                word-is = λ e. absurd (omega arith);
+                word-is = tt;
               };
         }
 
     pub placed-word : spread ≤ sum max_machines (bit (roomy_in parts c.feeds)) → (weights : List ℕ) → WeightsOf l c weights
         → (word filled : ℕ) → SpreadAs parts weights l.load (roomy_in parts c.feeds) spread word
         → ((p : Plan) (words : List ℕ) → FillOf p words (free_in l c) l.load → filled ≡ filled_word p words word (least - spread))
-        → PlacedOf l c least spread (record { code = 0; word = filled })
+        → PlacedOf l c least spread (Ok filled)
     placed-word wide weights weighed word filled so fills =
         record {
           is = λ p words b of ml ms.
@@ -242,7 +270,7 @@ module _ (l : Loads) (c : Cluster) (least spread : ℕ) where
                 code_is =
                     enough-room p words b (omega (arith, free-count p words c l of, ml, enough))
                     (omega (arith, roomy-count p words c l of parts parted, ms, wide));
-                word-is = λ e. chosen p words b of ml ms;
+                word-is = chosen p words b of ml ms;
               };
         }
       where

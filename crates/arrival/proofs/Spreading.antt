@@ -19,7 +19,7 @@ use Rattle.model.specs.Placement.{bit, replicas_in, load}
 use Rattle.model.specs.Recordings.{free_word, domain_load, next_domain, machine_in, spread_word}
 use Rattle.theory.proofs.Placement.{bit_le, bit-cases, bit-zero, bit-add, bit-take, replicas_in-zero, replicas_in-add}
 use Rattle.theory.proofs.Arrivals.{free_word-laws, spread_word-zero, spread_word-step}
-use Rattle.arrival.specs.Arrival.{LightestOf, SpreadAsked, SpreadOf, SpreadAs}
+use Rattle.arrival.specs.Arrival.{LightestOf, SpreadAsked, SpreadOf}
 use Rattle.arrival.proofs.Laws.{set_of-below, set_of-bit, bit-place, count_add, count-take, count-zero, lightest_of-is}
 
 -- a domain with a free place in which the word has no copy
@@ -183,12 +183,3 @@ module _ (parts weights loads : List ℕ) (roomy spread : ℕ) where
             let one : e ≡ d = asked.apart e d m l lightest.below (rw same at in_e) place.on in
             rw one gone
         clear k on e l in_e (no other) = omega (arith, less e, so.clear k (before k on other) e l in_e)
-
-  pub spreading-all : (word left copies : ℕ) → copies ≡ spread → Spreading parts weights loads roomy spread word left copies
-      → SpreadAs parts weights loads roomy spread word
-  spreading-all word left copies e so =
-      record {
-        inside = so.inside;
-        copies-are = so.copies-are ∙ e;
-        is = λ p words of. (so.is p words of).word-is ∙ ap (spread_word p words) e;
-      }

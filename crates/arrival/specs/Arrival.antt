@@ -1,15 +1,16 @@
 -- The choice of machines for a new block: what it is asked with, and what its parts give.
-use Rattle.std.specs.Prelude.{◌≡◌, Bool, cond, List, ℕ, ◌+◌, ◌*◌, ◌^◌, ◌<◌, ◌≤◌, ltb, eqb, length, get_or}
+use Rattle.std.specs.Prelude.{◌≡◌, Bool, cond, List, ℕ, ◌+◌, ◌*◌, ◌^◌, ◌<◌, ◌≤◌, ltb, eqb, length, get_or, Result, IfOk}
 use Rattle.order.specs.Sum.{sum, delta}
 use Rattle.model.specs.Plan.{Block, Plan, machines, domains, domain}
 use Rattle.model.specs.Refusal.{max_machines}
 use Rattle.model.specs.Placement.{bit, replicas_in, used, load}
 use Rattle.model.specs.Recordings.{free_word, check25, domain_load, spread_word, arrival_word}
 use Rattle.theory.specs.Widths.{load_bound}
+use Rattle.refusal.specs.declared.Refusal.{Refusal}
+use Rattle.refusal.specs.Rows.{code_of}
 use Rattle.cluster.specs.declared.Cluster.{Cluster}
 use Rattle.cluster.specs.Cluster.{machines_in, domain_in, InRange, ClusterOf}
 use Rattle.loads.specs.declared.Loads.{Loads}
-use Rattle.arrival.specs.declared.Arrival.{Arrival}
 
 -- ── Sets ─────────────────────────────────────────────────────────────────────────────────────────
 
@@ -100,11 +101,11 @@ pub record MachinesOf (p : Plan) (words : List ℕ) (c : Cluster) (l : Loads) : 
   pub copies-are : (m : ℕ) → m < machines_in c → get_or l.copies m 0 ≡ used p words m
 
 -- Refusal 25 and the word of block b.
-pub record PlacedAs (p : Plan) (words : List ℕ) (b : Block) (r : Arrival) : Type 0 where
-  pub code_is : r.code ≡ check25 p words b 0
-  pub word-is : r.code ≡ 0 → r.word ≡ arrival_word p words b
+pub record PlacedAs (p : Plan) (words : List ℕ) (b : Block) (r : Result ℕ Refusal) : Type 0 where
+  pub code_is : code_of r ≡ check25 p words b 0
+  pub word-is : IfOk r (λ word. word ≡ arrival_word p words b)
 
 -- They are those of every block with these least copies and this spread, in every plan with these loads and copies.
-pub record PlacedOf (l : Loads) (c : Cluster) (least spread : ℕ) (r : Arrival) : Type 0 where
+pub record PlacedOf (l : Loads) (c : Cluster) (least spread : ℕ) (r : Result ℕ Refusal) : Type 0 where
   pub is : (p : Plan) (words : List ℕ) (b : Block) → MachinesOf p words c l → b.min_replicas ≡ least → b.min_domains ≡ spread
       → PlacedAs p words b r

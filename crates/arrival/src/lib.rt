@@ -8,17 +8,11 @@ ghost use Rattle.model.specs.Refusal.{max_machines};
 ghost use Rattle.model.specs.Recordings.{filled_word};
 ghost use Rattle.cluster.specs.Cluster.{InRange};
 ghost use Rattle.loads.specs.Loads.{ReportAsked};
-ghost use Rattle.arrival.specs.Arrival.{LightestAsked, LightestOf, free_in, PartedTo, roomy_in, WeightsOf, SpreadAsked, SpreadAs, FillAsked, FillOf, PlaceAsked, PlacedOf};
+ghost use Rattle.arrival.specs.Arrival.{LightestAsked, LightestOf, PartedTo, roomy_in, WeightsOf, SpreadAsked, SpreadAs, FillAsked, FillOf, PlaceAsked, PlacedOf};
 
 use cluster::{Cluster, MAX_MACHINES};
 use loads::Loads;
-
-// The refusal code, 25 or 0 for none, and the word of the new block.
-#[derive(Clone, Copy)]
-pub struct Arrival {
-    pub code: u8,
-    pub word: u64,
-}
+use refusal::Refusal;
 
 // The lightest number of a set that is not empty, of several the lowest.
 fn lightest_of(set: u64, weights: &[u64]) -> usize
@@ -26,33 +20,12 @@ fn lightest_of(set: u64, weights: &[u64]) -> usize
     ensures { LightestOf set weights.now result }
 {
     let mut best = bits::lowest(set);
-    let mut rest = bits::without_bit(set, best);
-    while rest != 0 {
-        let k = bits::lowest(rest);
+    for k in bits::ones(bits::without_bit(set, best)) {
         if weights[k] < weights[best] {
             best = k;
         }
-        rest = bits::without_bit(rest, k);
     }
     best
-}
-
-// The machines that hold fewer copies than their capacity.
-fn free_word(loads: Loads, cluster: Cluster) -> u64
-    requires { InRange cluster }
-    ensures { result ≡ free_in loads cluster }
-{
-    let copies = loads.copies;
-    let machines = cluster.racks * cluster.rack_size;
-    let mut free: u64 = 0;
-    let mut m: usize = 0;
-    while m < machines {
-        if copies[m] < cluster.capacity {
-            free = bits::with_bit(free, m);
-        }
-        m += 1;
-    }
-    free
 }
 
 // The machines of the word in each domain.
@@ -61,12 +34,9 @@ fn by_domain(word: u64, cluster: Cluster) -> [u64; MAX_MACHINES]
     ensures { PartedTo word cluster result }
 {
     let mut parts = [0u64; MAX_MACHINES];
-    let mut rest = word;
-    while rest != 0 {
-        let m = bits::lowest(rest);
+    for m in bits::ones(word) {
         let d = m / cluster.rack_size % cluster.feeds;
         parts[d] = bits::with_bit(parts[d], m);
-        rest = bits::without_bit(rest, m);
     }
     parts
 }
@@ -77,12 +47,10 @@ fn roomy_parts(parts: &[u64], count: usize) -> u64
     ensures { result ≡ roomy_in parts.now count }
 {
     let mut roomy: u64 = 0;
-    let mut d: usize = 0;
-    while d < count {
+    for d in 0..count {
         if 0 < parts[d] {
             roomy = bits::with_bit(roomy, d);
         }
-        d += 1;
     }
     roomy
 }
@@ -92,14 +60,10 @@ fn domain_weights(loads: Loads, cluster: Cluster) -> [u64; MAX_MACHINES]
     requires { InRange cluster × ReportAsked loads cluster }
     ensures { WeightsOf loads cluster result }
 {
-    let load = loads.load;
-    let machines = cluster.racks * cluster.rack_size;
     let mut weights = [0u64; MAX_MACHINES];
-    let mut m: usize = 0;
-    while m < machines {
+    for m in 0..cluster.machines() {
         let d = m / cluster.rack_size % cluster.feeds;
-        weights[d] = weights[d] + load[m];
-        m += 1;
+        weights[d] += loads.load[m];
     }
     weights
 }
@@ -111,13 +75,11 @@ fn spread_word(parts: &[u64], weights: &[u64], load: &[u64], roomy: u64, spread:
 {
     let mut word: u64 = 0;
     let mut left = roomy;
-    let mut copies: usize = 0;
-    while copies < spread {
+    for _ in 0..spread {
         let d = lightest_of(left, weights);
         let m = lightest_of(parts[d], load);
         word = bits::with_bit(word, m);
         left = bits::without_bit(left, d);
-        copies += 1;
     }
     word
 }
@@ -129,36 +91,29 @@ fn fill_word(free: u64, word: u64, load: &[u64], others: usize) -> u64
 {
     let mut filled = word;
     let mut left = bits::and_not(free, word);
-    let mut copies: usize = 0;
-    while copies < others {
+    for _ in 0..others {
         let m = lightest_of(left, load);
         filled = bits::with_bit(filled, m);
         left = bits::without_bit(left, m);
-        copies += 1;
     }
     filled
 }
 
 // The machines of a new block with these least copies and this spread.
-pub fn place(loads: Loads, cluster: Cluster, least: usize, spread: usize) -> Arrival
+pub fn place(loads: Loads, cluster: Cluster, least: usize, spread: usize) -> Result<u64, Refusal>
     requires { PlaceAsked loads cluster least spread }
     ensures { PlacedOf loads cluster least spread result }
 {
-    let free = free_word(loads, cluster);
+    let free = loads::with_room(&loads.copies[..], cluster);
     if bits::count_set(free) < least {
-        return Arrival { code: 25, word: 0 };
+        return Err(Refusal::NoMachine);
     }
     let parts = by_domain(free, cluster);
     let roomy = roomy_parts(&parts[..], cluster.feeds);
     if bits::count_set(roomy) < spread {
-        return Arrival { code: 25, word: 0 };
+        return Err(Refusal::NoMachine);
     }
     let weights = domain_weights(loads, cluster);
-    let load = loads.load;
-    let word = spread_word(&parts[..], &weights[..], &load[..], roomy, spread);
-    let filled = fill_word(free, word, &load[..], least - spread);
-    Arrival {
-        code: 0,
-        word: filled,
-    }
+    let word = spread_word(&parts[..], &weights[..], &loads.load[..], roomy, spread);
+    Ok(fill_word(free, word, &loads.load[..], least - spread))
 }

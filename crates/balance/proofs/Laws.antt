@@ -1,9 +1,11 @@
 -- What a step that was found lets be shifted, and what it keeps: the loads as they follow, the placement, the run.
 -- Assumes nothing.
 use mathlib.Core.Path.{◌≡◌, refl, ap, sym, ◌∙◌}
-use mathlib.Core.Bool.{Bool, true, false, not}
+use mathlib.Core.Bool.{Bool, true, false}
 use mathlib.Core.List.{List}
+use mathlib.Core.Logic.{◌⊎◌, inl, inr}
 use Prim.Native.Nat.{ℕ, ◌+◌, ◌*◌, ◌-◌, ◌<◌, ◌≤◌}
+use Rattle.std.proofs.Common.{Option, Some, None}
 use native.Mathlib.Nat.{add-zero, zero-add, sub-zero}
 use native.Mathlib.Omega.{arith}
 use lib.ListN.{length, get_or}
@@ -13,8 +15,8 @@ use Rattle.order.proofs.SumChanges.{sum-change}
 use Rattle.model.specs.Plan.{Plan}
 use Rattle.model.specs.Refusal.{max_machines}
 use Rattle.model.specs.Placement.{bit, held}
-use Rattle.model.specs.Steps.{is_step, next_step, after_move, after_swap, after, Run, run}
-use Rattle.theory.proofs.StepsNext.{is_step-false, next_step-feasible, run-zero, run_none, run-suc}
+use Rattle.model.specs.Steps.{none, relocate, exchange, is_step, next_step, after_move, after_swap, after, Run, run}
+use Rattle.theory.proofs.StepsNext.{next_step-feasible, run-zero, run_none, run-suc}
 use Rattle.theory.proofs.Steps.{after-length, after_move-held, after_move-other, after_move-length}
 use Rattle.theory.proofs.Placement.{held-apart}
 use Rattle.cluster.specs.declared.Cluster.{Cluster}
@@ -22,11 +24,12 @@ use Rattle.cluster.specs.Blocks.{share_in, ProfilesFit, PlacementOf}
 use Rattle.loads.specs.declared.Loads.{Loads}
 use Rattle.loads.specs.Loads.{load_sum, copy_sum, LoadShiftAsked, ShiftedTo}
 use Rattle.loads.proofs.Laws.{loads-narrow, copies-max}
-use Rattle.transfers.specs.declared.Hit.TheVariants.{Nothing, Move, Swap}
-use Rattle.transfers.specs.Route.{hit_of, Shift}
-use Rattle.search.specs.Scene.{found_of, NextFound}
-use Rattle.search.specs.declared.Found.{Found}
-use Rattle.balance.specs.Standing.{StepAsked, FollowAsked, Followed, ran_of}
+use Rattle.transfers.specs.Route.{Shift}
+use Rattle.search.specs.declared.Step.{Step}
+use Rattle.search.specs.declared.Step.TheVariants.{Move, Swap, RackMove, RackSwap}
+use Rattle.search.specs.Scene.{step_of, NextFound}
+use Rattle.balance.specs.declared.Ran.TheVariants.{Rested, Spent}
+use Rattle.balance.specs.Standing.{StepAsked, ShiftAsked, Shifted, Followed, ran_of}
 
 -- ── Followed ───────────────────────────────────────────────────────────────────────────────────────────────────────────
 
@@ -104,40 +107,44 @@ module _ {c : Cluster} {words profiles : List ℕ} {l : Loads} (asked : StepAske
         lacks = stays j two.lacks m ∙ two.lacks;
       }
 
-module _ {words profiles : List ℕ} {l : Loads} where
-  pub followed-nothing : Followed words profiles l Nothing words l
-  unfolding after hit_of
-  followed-nothing = record { words_are = λ across. refl; loads-follow = λ c asked s. asked }
+module _ {words profiles : List ℕ} {l : Loads} {m n i : ℕ} {later : List ℕ} {given : Loads} where
+  pub shifted-words : later ≡ after_move words m n i → ShiftedTo l m n (share_at profiles i) given
+      → Shifted words profiles l m n i later given
+  shifted-words e to = record { words_are = e; loads-follow = λ c asked s. rw e (asked-shifted asked s to) }
 
-  module _ {m n i : ℕ} {later : List ℕ} {given : Loads} where
-    pub followed-move : later ≡ after_move words m n i → ShiftedTo l m n (share_at profiles i) given
-        → Followed words profiles l (Move m n i) later given
-    unfolding after hit_of
-    followed-move e to =
-        record { words_are = λ across. e; loads-follow = λ c asked s. rw e (asked-shifted asked s to) }
+  module _ (one : Shifted words profiles l m n i later given) where
+    pub followed-move : {step : Step} {across : Bool} → step_of (Some step) ≡ relocate across m n i → Followed words profiles l step later given
+    unfolding after
+    followed-move e = record { words_are = rw e one.words_are; loads-follow = λ c asked s. one.loads-follow c asked (rw e at s) }
 
     -- the second shift of an exchange follows its first
-    module _ (one : Followed words profiles l (Move m n i) later given) where
-      moved : later ≡ after_move words m n i
-      unfolding after hit_of
-      moved = one.words_are false
+    back : {j : ℕ} {c : Cluster} → StepAsked c words profiles l → Shift c words m n i × Shift c words n m j → Shift c later n m j
+    back asked s = rw one.words_are (shift_back asked s.0 s.1)
 
-      back : {j : ℕ} {c : Cluster} → StepAsked c words profiles l → Shift c words m n i × Shift c words n m j → Shift c later n m j
-      back asked s = rw moved (shift_back asked s.0 s.1)
+    pub follow-back : {j : ℕ} {c : Cluster} → StepAsked c words profiles l → Shift c words m n i × Shift c words n m j
+        → ShiftAsked later profiles given n m j
+    follow-back {j} {c} asked s = record { cluster = c; asked = one.loads-follow c asked s.0; copy = back asked s }
 
-      pub follow-back : {j : ℕ} {c : Cluster} → StepAsked c words profiles l → Shift c words m n i × Shift c words n m j
-          → FollowAsked later profiles given (Move n m j)
-      follow-back {j} {c} asked s =
-          record { cluster = c; asked = one.loads-follow c asked s.0; found = back asked s }
+    pub followed-swap : {j : ℕ} {last : List ℕ} {r : Loads} → Shifted later profiles given n m j last r
+        → {step : Step} {across : Bool} → step_of (Some step) ≡ exchange across m n i j → Followed words profiles l step last r
+    unfolding after after_swap
+    followed-swap two e =
+        record {
+          words_are = rw (e, ← one.words_are) two.words_are;
+          loads-follow = λ c asked s. let at = rw e at s in two.loads-follow c (one.loads-follow c asked at.0) (back asked at);
+        }
 
-      pub followed-swap : {j : ℕ} {last : List ℕ} {r : Loads} → Followed later profiles given (Move n m j) last r
-          → Followed words profiles l (Swap m n i j) last r
-      unfolding after after_swap hit_of
-      followed-swap two =
-          record {
-            words_are = λ across. rw (← moved) (two.words_are across);
-            loads-follow = λ c asked s. two.loads-follow c (one.loads-follow c asked s.0) (back asked s);
-          }
+-- a move and an exchange, within a rack or across racks
+module _ {step : Step} {m n i : ℕ} where
+  pub is_move : (step ≡ Move m n i) ⊎ (step ≡ RackMove m n i) → (across : Bool) × (step_of (Some step) ≡ relocate across m n i)
+  unfolding step_of
+  is_move (inl e) = (false, rw e)
+  is_move (inr e) = (true, rw e)
+
+  pub is_swap : {j : ℕ} → (step ≡ Swap m n i j) ⊎ (step ≡ RackSwap m n i j) → (across : Bool) × (step_of (Some step) ≡ exchange across m n i j)
+  unfolding step_of
+  is_swap (inl e) = (false, rw e)
+  is_swap (inr e) = (true, rw e)
 
 -- ── run ────────────────────────────────────────────────────────────────────────────────────────────────────────────────
 
@@ -170,19 +177,28 @@ along-first {c} {words} {profiles} {limit} =
       coming = λ p count at. rw (sub-zero limit, zero-add (run p limit words).steps);
     }
 
-module _ {c : Cluster} {first profiles words : List ℕ} {limit steps : ℕ} {found : Found}
-    (along : Along c first profiles limit steps words) (next : NextFound c words profiles found) where
-  step_is : (p : Plan) (count : ℕ → ℕ) → PlacementOf p count c first profiles → found_of found ≡ next_step p words
-  step_is p count at = next.is p count (along.placement p count at)
+some-is_step : (s : Step) → is_step (step_of (Some s)) ≡ true
+unfolding step_of
+some-is_step (Move m n i) = refl
+some-is_step (Swap m n i j) = refl
+some-is_step (RackMove m n i) = refl
+some-is_step (RackSwap m n i j) = refl
+
+module _ {c : Cluster} {first profiles words : List ℕ} {limit steps : ℕ} (along : Along c first profiles limit steps words) where
+  step_is : (r : Option Step) → NextFound c words profiles r
+      → (p : Plan) (count : ℕ → ℕ) → PlacementOf p count c first profiles → step_of r ≡ next_step p words
+  step_is r next p count at = next.is p count (along.placement p count at)
 
   -- one step more, taken
-  pub along-more : steps < limit → is_step (found_of found) ≡ true → Along c first profiles limit (steps + 1) (after words (found_of found))
-  along-more l is =
+  pub along-more : steps < limit → (s : Step) → NextFound c words profiles (Some s)
+      → Along c first profiles limit (steps + 1) (after words (step_of (Some s)))
+  along-more l s next =
       record {
         within = omega arith;
-        same_length = after-length words (found_of found) ∙ along.same_length;
-        placement = λ p count at. rw (step_is p count at) (placement-next p count c words profiles (along.placement p count at));
-        coming = λ p count at. rw (step_is p count at) (more p (sym (ap is_step (step_is p count at)) ∙ is) (along.coming p count at));
+        same_length = after-length words (step_of (Some s)) ∙ along.same_length;
+        placement = λ p count at. rw (step_is _ next p count at) (placement-next p count c words profiles (along.placement p count at));
+        coming = λ p count at.
+            rw (step_is _ next p count at) (more p (sym (ap is_step (step_is _ next p count at)) ∙ some-is_step s) (along.coming p count at));
       }
     where
       counted : ℕ → Run → Run
@@ -197,17 +213,19 @@ module _ {c : Cluster} {first profiles words : List ℕ} {limit steps : ℕ} {fo
           ∙ ap (extended steps) (run-suc p words (limit - (steps + 1)) is)
           ∙ ap (λ (n : ℕ). counted n later) (omega arith)
 
-  -- no step is left, and the limit is used
-  pub along-rest : is_step (found_of found) ≡ false → (p : Plan) (count : ℕ → ℕ) → PlacementOf p count c first profiles
-      → ran_of (record { rested = true; steps = steps }) words ≡ run p limit first
-  unfolding ran_of
-  along-rest is p count at =
-      let rest = sym (step_is p count at) ∙ is_step-false (found_of found) is in
+  -- no step is left
+  pub along-rest : NextFound c words profiles None → (p : Plan) (count : ℕ → ℕ) → PlacementOf p count c first profiles
+      → ran_of (Rested steps) words ≡ run p limit first
+  unfolding ran_of step_of
+  along-rest next p count at =
+      let rest : next_step p words ≡ none = sym (step_is None next p count at) in
       sym (along.coming p count at ∙ (rw (run_none p words (limit - steps) rest, add-zero steps)))
 
-  pub along-end : limit ≤ steps → {is : Bool} → is_step (found_of found) ≡ is → (p : Plan) (count : ℕ → ℕ)
-      → PlacementOf p count c first profiles → ran_of (record { rested = not is; steps = steps }) words ≡ run p limit first
+  -- one is left, and the limit is used
+  pub along-end : limit ≤ steps → (s : Step) → NextFound c words profiles (Some s) → (p : Plan) (count : ℕ → ℕ)
+      → PlacementOf p count c first profiles → ran_of (Spent steps) words ≡ run p limit first
   unfolding ran_of
-  along-end l e p count at =
+  along-end l s next p count at =
       let all : limit - steps ≡ 0 = omega (arith, along.within) in
-      sym (along.coming p count at ∙ (rw (all, run-zero p words, add-zero steps, ← (step_is p count at), e)))
+      sym (along.coming p count at
+      ∙ (rw (all, run-zero p words, add-zero steps, ← (step_is _ next p count at), some-is_step s)))

@@ -1,17 +1,17 @@
 -- What steps over the words are given and say, in the model's terms.
-use Rattle.std.specs.Prelude.{◌≡◌, Bool, List, ℕ}
+use Rattle.std.specs.Prelude.{◌≡◌, true, false, List, ℕ, Option, Some}
 use Rattle.model.specs.Plan.{Plan}
-use Rattle.model.specs.Steps.{next_step, after, Run}
+use Rattle.model.specs.Steps.{next_step, after_move, after, Run}
 use Rattle.cluster.specs.declared.Cluster.{Cluster}
 use Rattle.cluster.specs.Blocks.{PlacementFits}
 use Rattle.loads.specs.declared.Loads.{Loads}
 use Rattle.loads.specs.Loads.{LoadsOf}
 use Rattle.index.specs.Index.{Ordered, Cleared}
-use Rattle.transfers.specs.declared.Hit.{Hit}
-use Rattle.transfers.specs.Route.{hit_of, HitFound}
+use Rattle.transfers.specs.Route.{Shift, StepFound}
 use Rattle.search.specs.Scene.{step_of}
 use Rattle.search.specs.declared.Step.{Step}
 use Rattle.balance.specs.declared.Ran.{Ran}
+use Rattle.balance.specs.declared.Ran.TheVariants.{Rested, Spent}
 
 -- A placement with its loads and copies.
 pub record StepAsked (c : Cluster) (words profiles : List ℕ) (loads : Loads) : Type 0 where
@@ -24,22 +24,34 @@ pub record OrderedAsked (c : Cluster) (words profiles index : List ℕ) (loads :
   pub ordered : Ordered c profiles index
   pub cleared : Cleared index
 
--- What was found at a placement with these loads.
-pub record FollowAsked (words profiles : List ℕ) (loads : Loads) (hit : Hit) : Type 0 where
+-- A copy at a placement with these loads that is to pass from m to n.
+pub record ShiftAsked (words profiles : List ℕ) (loads : Loads) (m n i : ℕ) : Type 0 where
   pub cluster : Cluster
   pub asked : StepAsked cluster words profiles loads
-  pub found : HitFound cluster words hit
+  pub copy : Shift cluster words m n i
+
+-- It has passed, and the loads are those of the later words, at every such placement.
+pub record Shifted (words profiles : List ℕ) (loads : Loads) (m n i : ℕ) (later : List ℕ) (r : Loads) : Type 0 where
+  pub words_are : later ≡ after_move words m n i
+  pub loads-follow : (c : Cluster) → StepAsked c words profiles loads → Shift c words m n i → StepAsked c later profiles r
+
+-- What was found at a placement with these loads.
+pub record FollowAsked (words profiles : List ℕ) (loads : Loads) (step : Step) : Type 0 where
+  pub cluster : Cluster
+  pub asked : StepAsked cluster words profiles loads
+  pub found : StepFound cluster words (step_of (Some step))
 
 -- It is taken, and the loads are those of the later words, at every such placement.
-pub record Followed (words profiles : List ℕ) (loads : Loads) (hit : Hit) (later : List ℕ) (r : Loads) : Type 0 where
-  pub words_are : (across : Bool) → later ≡ after words (hit_of across hit)
-  pub loads-follow : (c : Cluster) → StepAsked c words profiles loads → HitFound c words hit → StepAsked c later profiles r
+pub record Followed (words profiles : List ℕ) (loads : Loads) (step : Step) (later : List ℕ) (r : Loads) : Type 0 where
+  pub words_are : later ≡ after words (step_of (Some step))
+  pub loads-follow : (c : Cluster) → StepAsked c words profiles loads → StepFound c words (step_of (Some step)) → StepAsked c later profiles r
 
 -- The next step, taken.
-pub record Stepped (p : Plan) (words later : List ℕ) (r : Step) : Type 0 where
+pub record Stepped (p : Plan) (words later : List ℕ) (r : Option Step) : Type 0 where
   pub step_is : step_of r ≡ next_step p words
   pub words_are : later ≡ after words (next_step p words)
 
 -- The answer of a run and the words at exit, as the model's run.
 unfoldable pub ran_of : Ran → List ℕ → Run
-ran_of r words = record { rested = r.rested; steps = r.steps; words = words }
+ran_of (Rested steps) words = record { rested = true; steps = steps; words = words }
+ran_of (Spent steps) words = record { rested = false; steps = steps; words = words }

@@ -6,25 +6,29 @@ ghost use Rattle.model.specs.Plan.{Plan};
 ghost use Rattle.model.specs.Steps.{run};
 ghost use Rattle.cluster.specs.Blocks.{PlacementOf};
 ghost use Rattle.index.specs.Index.{Ordered};
-ghost use Rattle.transfers.specs.declared.Hit.TheVariants.{Move};
 ghost use Rattle.search.specs.Scene.{NextFound};
-ghost use Rattle.balance.specs.Standing.{StepAsked, OrderedAsked, FollowAsked, Followed, Stepped, ran_of};
+ghost use Rattle.balance.specs.Standing.{StepAsked, OrderedAsked, ShiftAsked, Shifted, FollowAsked, Followed, Stepped, ran_of};
 
 use cluster::Cluster;
 use index::INDEX_LENGTH;
 use loads::Loads;
-use search::{Found, Step};
-use transfers::Hit;
+use search::Step;
 
-// How a run ended, and the number of steps taken.
+// How a run ended, at rest or with its step limit used and a step left, and the number of steps taken.
 #[derive(Clone, Copy)]
-pub struct Ran {
-    pub rested: bool,
-    pub steps: u32,
+pub enum Ran {
+    Rested(u32),
+    Spent(u32),
 }
 
 // The next step, not taken; the index is made anew from the words and the loads.
-fn look(words: &[u64], profiles: &[u64], index: &mut [u64], loads: Loads, cluster: Cluster) -> Found
+fn look(
+    words: &[u64],
+    profiles: &[u64],
+    index: &mut [u64],
+    loads: Loads,
+    cluster: Cluster,
+) -> Option<Step>
     requires { OrderedAsked cluster words.now profiles.now index.old loads }
     ensures { NextFound cluster words.now profiles.now result
         × Ordered cluster profiles.now index.new }
@@ -36,22 +40,23 @@ fn look(words: &[u64], profiles: &[u64], index: &mut [u64], loads: Loads, cluste
 
 // The copy of block i on m passes to n, in the words and in the loads.
 fn shift(words: &mut [u64], profiles: &[u64], loads: Loads, m: usize, n: usize, i: usize) -> Loads
-    requires { FollowAsked words.old profiles.now loads (Move m n i) }
-    ensures { Followed words.old profiles.now loads (Move m n i) words.new result }
+    requires { ShiftAsked words.old profiles.now loads m n i }
+    ensures { Shifted words.old profiles.now loads m n i words.new result }
 {
     words[i] = bits::shift_bit(words[i], m, n);
     loads::shift(loads, m, n, cluster::share_of(profiles[i]))
 }
 
 // A step that was found, taken in the words and in the loads; an exchange is two shifts.
-fn follow(words: &mut [u64], profiles: &[u64], loads: Loads, hit: Hit) -> Loads
-    requires { FollowAsked words.old profiles.now loads hit }
-    ensures { Followed words.old profiles.now loads hit words.new result }
+fn follow(words: &mut [u64], profiles: &[u64], loads: Loads, step: Step) -> Loads
+    requires { FollowAsked words.old profiles.now loads step }
+    ensures { Followed words.old profiles.now loads step words.new result }
 {
-    match hit {
-        Hit::Nothing => loads,
-        Hit::Move { m, n, i } => shift(words, profiles, loads, m, n, i),
-        Hit::Swap { m, n, i, j } => {
+    match step {
+        Step::Move { m, n, i } | Step::RackMove { m, n, i } => {
+            shift(words, profiles, loads, m, n, i)
+        }
+        Step::Swap { m, n, i, j } | Step::RackSwap { m, n, i, j } => {
             let given = shift(words, profiles, loads, m, n, i);
             shift(words, profiles, given, n, m, j)
         }
@@ -72,38 +77,30 @@ fn run_ordered(
         → ran_of result words.new ≡ run p limit words.old }
 {
     let mut loads = start;
-    let mut steps: u32 = 0;
-    while steps < limit {
-        let hit = look(words, profiles, index, loads, cluster).hit;
-        if !transfers::is_found(hit) {
-            return Ran {
-                rested: true,
-                steps,
-            };
-        }
-        loads = follow(words, profiles, loads, hit);
+    for steps in 0..limit {
+        let Some(step) = look(words, profiles, index, loads, cluster) else {
+            return Ran::Rested(steps);
+        };
+        loads = follow(words, profiles, loads, step);
         index::clear(index);
-        steps += 1;
     }
-    let hit = look(words, profiles, index, loads, cluster).hit;
-    Ran {
-        rested: !transfers::is_found(hit),
-        steps,
+    match look(words, profiles, index, loads, cluster) {
+        None => Ran::Rested(limit),
+        Some(_) => Ran::Spent(limit),
     }
 }
 
 // Takes the next step, or leaves the words as they are at rest.
-pub fn step(words: &mut [u64], profiles: &[u64], loads: Loads, cluster: Cluster) -> Step
+pub fn step(words: &mut [u64], profiles: &[u64], loads: Loads, cluster: Cluster) -> Option<Step>
     requires { StepAsked cluster words.old profiles.now loads }
     ensures { (p : Plan) (count : ℕ → ℕ) → PlacementOf p count cluster words.old profiles.now
         → Stepped p words.old words.new result }
 {
     let mut index = [0u64; INDEX_LENGTH];
     index::start(&mut index[..], profiles, cluster);
-    let found = look(words, profiles, &mut index[..], loads, cluster);
-    let hit = found.hit;
-    follow(words, profiles, loads, hit);
-    search::as_step(found)
+    let step = look(words, profiles, &mut index[..], loads, cluster)?;
+    follow(words, profiles, loads, step);
+    Some(step)
 }
 
 // Takes next steps until rest or until the step limit is used. Shares never change, so their order is made once.

@@ -7,7 +7,8 @@ ghost use Rattle.model.specs.Plan.{Plan};
 ghost use Rattle.model.specs.Placement.{bit, domains_used};
 ghost use Rattle.model.specs.Steps.{shifted};
 ghost use Rattle.cluster.specs.Cluster.{InRange, ClusterOf};
-ghost use Rattle.bits.specs.Words.{Lowest, FoldedTo};
+ghost use Rattle.std.specs.Iterator.{at_most};
+ghost use Rattle.bits.specs.Words.{Lowest, NextOne, FoldedTo};
 
 use cluster::Cluster;
 
@@ -49,6 +50,37 @@ pub fn lowest(word: u64) -> usize
     ensures { Lowest word result }
 {
     u64::trailing_zeros(word) as usize
+}
+
+// The set bits of a word that are still to come, lowest first.
+#[derive(Clone, Copy)]
+pub struct SetBits {
+    pub rest: u64,
+}
+
+impl Iterator for SetBits {
+    type Item = usize;
+
+    ghost next_gives = { λ s r t. NextOne s.rest r t.rest };
+
+    ghost remaining = { λ s. at_most s.rest };
+
+    #[inline]
+    fn next(&mut self) -> Option<usize> {
+        if self.rest == 0 {
+            return None;
+        }
+        let m = lowest(self.rest);
+        self.rest = without_bit(self.rest, m);
+        Some(m)
+    }
+}
+
+// The set bits of a word, lowest first.
+pub fn ones(word: u64) -> SetBits
+    ensures { result.rest ≡ word }
+{
+    SetBits { rest: word }
 }
 
 // The bits of a that b lacks.
@@ -96,15 +128,9 @@ fn any_of(word: u64, from: usize, size: usize) -> usize
     ensures { result ≡ min 1 (sum size (λ x. bit word (from + x))) }
 {
     if size == 64 {
-        if word == 0 {
-            return 0;
-        }
-        return 1;
+        return usize::from(word != 0);
     }
-    if (word >> from) % (1u64 << size) == 0 {
-        return 0;
-    }
-    1
+    usize::from((word >> from) % (1u64 << size) != 0)
 }
 
 // How many of the `groups` ranges of `size` bits each have a bit set.
@@ -113,10 +139,8 @@ fn groups_used(word: u64, groups: usize, size: usize) -> usize
     ensures { result ≡ sum groups (λ d. min 1 (sum size (λ x. bit word (d * size + x)))) }
 {
     let mut used: usize = 0;
-    let mut d: usize = 0;
-    while d < groups {
+    for d in 0..groups {
         used += any_of(word, d * size, size);
-        d += 1;
     }
     used
 }
@@ -127,10 +151,8 @@ fn fold(word: u64, size: usize, total: usize) -> u64
     ensures { FoldedTo word size total result }
 {
     let mut folded = word;
-    let mut at = size;
-    while at < total {
-        folded = folded | (word >> at);
-        at += size;
+    for at in (size..total).step_by(size) {
+        folded |= word >> at;
     }
     folded
 }

@@ -1,2 +1,3 @@
 pub mod PlayLaws
 pub mod Short
+pub mod Numbers

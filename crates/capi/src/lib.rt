@@ -23,7 +23,7 @@ pub extern "C" fn bpl_plan(plan: &[u8]) -> u32
     ensures { result ≡ verdict_code (judge plan.now) }
 {
     let reading = plan::read(plan);
-    codes::tell_plan(reading)
+    codes::tell(reading)
 }
 
 // Chooses the counts.
@@ -33,7 +33,7 @@ pub extern "C" fn bpl_counts(plan: &[u8], counts: &mut [u8]) -> u32
         ≡ effect 0 no_numbers counts.old [] (counts_call plan.now counts.old) }
 {
     let answer = service::counts(plan, counts);
-    codes::tell_counts(answer)
+    codes::tell(answer)
 }
 
 // Makes the first placement.
@@ -43,7 +43,7 @@ pub extern "C" fn bpl_first(plan: &[u8], words: &mut [u64]) -> u32
         ≡ effect 0 no_numbers words.old [] (first_call plan.now words.old) }
 {
     let answer = service::first(plan, words);
-    codes::tell_first(answer)
+    codes::tell(answer)
 }
 
 // Checks a placement. It never writes.
@@ -53,7 +53,7 @@ pub extern "C" fn bpl_check(plan: &[u8], words: &[u64]) -> u32
         ≡ effect 0 no_numbers words.now [] (check_call plan.now words.now) }
 {
     let answer = service::check(plan, words);
-    codes::tell_check(answer)
+    codes::tell(answer)
 }
 
 // Reports on a placement: hottest load, coolest load, sum of loads, largest share.
@@ -105,7 +105,7 @@ pub extern "C" fn bpl_listing(plan: &[u8], limit: u32, text: &mut [u8], out: &mu
         return SHORT_OUT;
     }
     let answer = listing::listing(plan, limit, text);
-    codes::tell_listing(answer, out)
+    codes::tell_number(answer.map(|size| size as u64), out)
 }
 
 // Converts a version 1 or 2 plan to version 3 in a lent buffer. The result's length is answered.
@@ -118,7 +118,7 @@ pub extern "C" fn bpl_convert(plan: &[u8], buffer: &mut [u8], out: &mut [u64]) -
         return SHORT_OUT;
     }
     let answer = conversion::convert(plan, buffer);
-    codes::tell_convert(answer, out)
+    codes::tell_number(answer.map(|length| length as u64), out)
 }
 
 // Plays a script of checks, steps and runs over one plan and its words, and answers the last reply.
@@ -157,7 +157,7 @@ pub extern "C" fn bpl_read(
         return SHORT_OUT;
     }
     let answer = reads::read(plan, block, tick, list, count);
-    codes::tell_reads(answer, out)
+    codes::tell_number(answer, out)
 }
 
 // Counts a block's popularity in a lent list of entries. The list is never written.
@@ -176,5 +176,5 @@ pub extern "C" fn bpl_popularity(
         return SHORT_OUT;
     }
     let answer = reads::popularity(plan, block, list, count);
-    codes::tell_reads(answer, out)
+    codes::tell_number(answer, out)
 }

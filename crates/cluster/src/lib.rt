@@ -1,7 +1,7 @@
 // A cluster's numbers, and those of its blocks in one word each, as they travel from the reader to every inner function.
 #![tactic(auto)]
 
-ghost use Rattle.std.specs.Prelude.{◌≡◌, ◌+◌, ◌≤◌, ◌<◌, min};
+ghost use Rattle.std.specs.Prelude.{◌≡◌, ◌+◌, ◌≤◌, ◌<◌};
 ghost use Rattle.model.specs.Refusal.{max_machines, max_blocks};
 ghost use Rattle.theory.specs.Widths.{popularity_bound, share_bound};
 ghost use Rattle.cluster.specs.Cluster.{machines_in, InRange};
@@ -11,16 +11,6 @@ ghost use Rattle.cluster.specs.Blocks.{link_in, linked_to, demand_word, populari
 pub const MAX_MACHINES: usize = 64;
 
 pub const MAX_BLOCKS: usize = 1024;
-
-// The smaller of two numbers.
-pub fn smaller(a: u64, b: u64) -> u64
-    ensures { result ≡ min a b }
-{
-    if b < a {
-        return b;
-    }
-    a
-}
 
 // The racks R, the machines in each S, the mains feeds F, the copies that a machine can hold C, and the blocks B.
 #[derive(Clone, Copy)]

@@ -10,21 +10,12 @@ ghost use Rattle.conversion.specs.Pieces.{new_records, RecordsAsked, PlanAsked};
 ghost use Rattle.conversion.specs.Entries.{convert_outcome, Convertible};
 
 use header::{Format, Header};
-use plan::Reading;
+use refusal::Refusal;
 
 // The last version that is taken, and the one that is written.
 const CONVERTED_VERSION: usize = 2;
 
 const WRITTEN_VERSION: usize = 3;
-
-// The number of a buffer that is too short.
-const SHORT_BUFFER: u8 = 12;
-
-#[derive(Clone, Copy)]
-pub enum ConvertAnswer {
-    Refused(u8),
-    Converted(usize),
-}
 
 // Puts the records of an accepted plan in file order.
 fn put_records(bytes: &[u8], h: Header, new: Format, buffer: &mut [u8], at: usize) -> usize
@@ -34,10 +25,8 @@ fn put_records(bytes: &[u8], h: Header, new: Format, buffer: &mut [u8], at: usiz
     let old = header::format_in(bytes);
     let cluster = h.cluster;
     let mut next = at;
-    let mut i: usize = 0;
-    while i < cluster.blocks {
+    for i in 0..cluster.blocks {
         next = encoding::put_record(bytes, old, new, i, buffer, next);
-        i += 1;
     }
     next
 }
@@ -52,29 +41,23 @@ fn put_plan(bytes: &[u8], h: Header, new: Format, buffer: &mut [u8]) -> usize
 }
 
 // Converts an accepted plan: refused where the buffer is shorter than the new file.
-fn convert_accepted(bytes: &[u8], h: Header, buffer: &mut [u8]) -> ConvertAnswer
+fn convert_accepted(bytes: &[u8], h: Header, buffer: &mut [u8]) -> Result<usize, Refusal>
     requires { Convertible bytes.now h }
     ensures { convert_outcome result buffer.new ≡ convert_call bytes.now buffer.old }
 {
     let cluster = h.cluster;
     let new = header::format_of(WRITTEN_VERSION);
     if buffer.len() < header::record_at(new, cluster.blocks) {
-        return ConvertAnswer::Refused(SHORT_BUFFER);
+        return Err(Refusal::ShortBuffer);
     }
-    ConvertAnswer::Converted(put_plan(bytes, h, new, buffer))
+    Ok(put_plan(bytes, h, new, buffer))
 }
 
 // Converts any bytes' plan into a lent buffer. A refusal writes nothing.
-pub fn convert(bytes: &[u8], buffer: &mut [u8]) -> ConvertAnswer
+pub fn convert(bytes: &[u8], buffer: &mut [u8]) -> Result<usize, Refusal>
     ensures { convert_outcome result buffer.new ≡ convert_call bytes.now buffer.old }
 {
-    let marked = header::mark_refusal(bytes, CONVERTED_VERSION);
-    if marked != 0 {
-        return ConvertAnswer::Refused(marked);
-    }
-    let reading = plan::read(bytes);
-    match reading {
-        Reading::Refused(code) => ConvertAnswer::Refused(code),
-        Reading::Accepted(h) => convert_accepted(bytes, h, buffer),
-    }
+    header::check_mark(bytes, CONVERTED_VERSION)?;
+    let h = plan::read(bytes)?;
+    convert_accepted(bytes, h, buffer)
 }

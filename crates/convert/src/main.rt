@@ -5,11 +5,9 @@
 ghost use Rattle.std.specs.Prelude.{◌≡◌, ◌≤◌, length, IfSome, OnOk};
 ghost use Rattle.std.specs.Io.KnownBytes.{Appends};
 ghost use Rattle.model.specs.Conversion.{convert_verdict, converted_output, converted_errors};
-ghost use Rattle.input.specs.Input.{SourceIs};
-ghost use Rattle.convert.specs.Output.{converted_stream, errors_of, result_room, line_room, result_size, answer_output, answer_errors, Sends};
+ghost use Rattle.convert.specs.Output.{output_for, errors_for, result_room, line_room, result_size, answer_output, answer_errors, Sends};
 
-use conversion::ConvertAnswer;
-use input::{Input, Source};
+use refusal::Refusal;
 use std::io::{Read, Write};
 use std::process::ExitCode;
 use std::{fmt, io};
@@ -19,40 +17,35 @@ const RESULT_ROOM: usize = 7183;
 
 const LINE_ROOM: usize = 12;
 
-// Converts the bytes that came; where a read failed, no byte is converted and nothing is refused.
-fn answer(source: Source, buffer: &mut [u8]) -> ConvertAnswer
-    requires { SourceIs source × (result_room ≤ length buffer.old) }
-    ensures { Sends result buffer.new (converted_stream source) (errors_of source) }
+// Converts the bytes into a buffer with room for every new file.
+fn answer(bytes: &[u8], buffer: &mut [u8]) -> Result<usize, Refusal>
+    requires { result_room ≤ length buffer.old }
+    ensures { Sends result buffer.new (output_for bytes.now) (errors_for bytes.now) }
 {
-    let bytes = source.bytes;
-    let input = source.input;
-    match input {
-        Input::Failed => ConvertAnswer::Converted(0),
-        Input::Ended(size) => conversion::convert(&bytes[..size], buffer),
-        Input::Full => conversion::convert(&bytes, buffer),
-    }
+    conversion::convert(bytes, buffer)
 }
 
 // The part of the buffer that goes to standard output: the new file, nothing after a refusal.
-fn output<'a>(answer: ConvertAnswer, buffer: &'a mut [u8]) -> &'a mut [u8]
+fn output<'a>(answer: Result<usize, Refusal>, buffer: &'a mut [u8]) -> &'a mut [u8]
     requires { result_size answer ≤ length buffer.old }
     ensures { result.now ≡ answer_output answer buffer.old }
 {
     match answer {
-        ConvertAnswer::Refused(_) => &mut buffer[..0],
-        ConvertAnswer::Converted(size) => &mut buffer[..size],
+        Err(_) => &mut buffer[..0],
+        Ok(size) => &mut buffer[..size],
     }
 }
 
 // The part of a lent line that goes to standard error: `refused` and the number, nothing after a conversion.
-fn errors<'a>(answer: ConvertAnswer, line: &'a mut [u8]) -> &'a mut [u8]
+fn errors<'a>(answer: Result<usize, Refusal>, line: &'a mut [u8]) -> &'a mut [u8]
     requires { line_room ≤ length line.old }
     ensures { result.now ≡ answer_errors answer }
 {
-    let ConvertAnswer::Refused(code) = answer else {
+    let Err(refusal) = answer else {
         return &mut line[..0];
     };
-    let numbers = [code as u64];
+    let code = u8::from(refusal);
+    let numbers = [u64::from(code)];
     let size = text::put_line(line, 0, b"refused", &numbers);
     &mut line[..size]
 }
@@ -75,24 +68,20 @@ impl fmt::Display for Failure {
     }
 }
 
-// Writes to both streams what is due for what was read, and nothing else.
+// Writes to both streams what is due for the bytes that came, and nothing else.
 fn write<W: Write, E: Write>(
     out: &mut W,
     err: &mut E,
-    source: Source,
+    bytes: &[u8],
     output: &[u8],
     errors: &[u8],
 ) -> Result<(), Failure>
-    requires { SourceIs source × (output.now ≡ converted_stream source) × (errors.now ≡ errors_of source) }
+    requires { (output.now ≡ output_for bytes.now) × (errors.now ≡ errors_for bytes.now) }
     ensures output { OnOk result
-        (Appends (W.contents out.old) (W.contents out.new) (converted_stream source)) }
+        (Appends (W.contents out.old) (W.contents out.new) (output_for bytes.now)) }
     ensures errors { OnOk result
-        (Appends (E.contents err.old) (E.contents err.new) (errors_of source)) }
+        (Appends (E.contents err.old) (E.contents err.new) (errors_for bytes.now)) }
 {
-    let input = source.input;
-    if let Input::Failed = input {
-        return Err(Failure::Input(input::read_failed()));
-    }
     err.write_all(errors).map_err(Failure::Errors)?;
     out.write_all(output).map_err(Failure::Output)
 }
@@ -107,10 +96,10 @@ fn run<R: Read, W: Write, E: Write>(reader: &mut R, out: &mut W, err: &mut E) ->
     let source = input::fill(reader).map_err(Failure::Input)?;
     let mut buffer = [0u8; RESULT_ROOM];
     let mut line = [0u8; LINE_ROOM];
-    let answer = answer(source, &mut buffer);
+    let answer = answer(source.bytes(), &mut buffer);
     let output = output(answer, &mut buffer);
     let errors = errors(answer, &mut line);
-    write(out, err, source, output, errors)
+    write(out, err, source.bytes(), output, errors)
 }
 
 fn main(rt: HostRuntime) -> ExitCode {

@@ -31,10 +31,8 @@ fn put_numbers(buffer: &mut [u8], at: usize, widths: &[usize], numbers: &[u64]) 
     ensures { Put at (numbers_bytes widths.now numbers.now) buffer.old buffer.new result }
 {
     let mut next = at;
-    let mut i: usize = 0;
-    while i < widths.len() {
-        next = put_number(buffer, next, widths[i], numbers[i]);
-        i += 1;
+    for (&width, &number) in widths.iter().zip(numbers) {
+        next = put_number(buffer, next, width, number);
     }
     next
 }

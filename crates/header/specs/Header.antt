@@ -1,14 +1,14 @@
 -- What the reader of the header says, in the model's terms.
-use Rattle.std.specs.Prelude.{◌≡◌, cond, List, ℕ, ◌<◌, ◌≤◌, ltb, length}
+use Rattle.std.specs.Prelude.{◌≡◌, cond, List, ℕ, ◌<◌, ◌≤◌, ltb, length, Result, Ok, Err}
 use Rattle.model.specs.Plan.{mark_in, version_in, racks_in, rack_size_in, feeds_in, capacity_in, budget_in, block_count_in, common_length, header_length, Format as ModelFormat, format_in, record_at, plan_in}
 use Rattle.model.specs.Refusal.{or_else, max_blocks, check1, check2, check3, check4, check22, check5, check6, check7, plan_refusal, refusal}
+use Rattle.refusal.specs.declared.Refusal.{Refusal}
+use Rattle.refusal.specs.Rows.{number_of}
 use Rattle.cluster.specs.declared.Cluster.{Cluster}
 use Rattle.cluster.specs.Cluster.{InRange}
 use Rattle.header.specs.declared.Header.{Header}
 use Rattle.header.specs.declared.Format.{Format}
 use Rattle.header.specs.Format.{as_format, FormatFits}
-use Rattle.header.specs.declared.HeaderAnswer.{HeaderAnswer}
-use Rattle.header.specs.declared.HeaderAnswer.TheVariants.{Refused, Passed}
 
 -- The header's fields, as the structs have them, with so many blocks.
 abbrev pub cluster_counted : ℕ → List ℕ → Cluster
@@ -70,6 +70,6 @@ pub record RefusedAs (bytes : List ℕ) (code : ℕ) : Type 0 where
   pub is : refusal bytes ≡ code
   pub some : 1 ≤ code
 
-abbrev pub HeaderChecked : List ℕ → HeaderAnswer → Type 0
-HeaderChecked bytes (Refused code) = RefusedAs bytes code
-HeaderChecked bytes (Passed h) = PassedAs bytes h
+abbrev pub HeaderChecked : List ℕ → Result Header Refusal → Type 0
+HeaderChecked bytes (Err refusal) = RefusedAs bytes (number_of refusal)
+HeaderChecked bytes (Ok h) = PassedAs bytes h

@@ -1,5 +1,5 @@
--- Laws of the index: words written one after the other, one mark in a part, the blocks entered one after the other, the order, the
--- loads beside it, and the free blocks of a word.
+-- Laws of the index: one mark in a part, the blocks entered one after the other, the order, the loads beside it, and the free blocks of
+-- a word.
 -- Assumes nothing.
 use mathlib.Core.Path.{◌≡◌, refl, ap, sym, ◌∙◌}
 use mathlib.Core.List.{List}
@@ -8,7 +8,7 @@ use Prim.Native.Nat.{ℕ, ◌+◌, ◌*◌, ◌-◌, ◌/◌, ◌%◌, ◌^◌, 
 use native.Mathlib.Nat.{zero-mul, one-mul}
 use native.Mathlib.Decide.{ℕ_discrete, dec_lt}
 use native.Mathlib.Omega.{arith}
-use lib.ListN.{length, get_or, set, length-set, replicate, get_or-replicate}
+use lib.ListN.{length, get_or, set, replicate, get_or-replicate}
 use lib.Seq.{get_or-set_same, get_or-set_other}
 use Rattle.order.proofs.Sums.{delta-same, delta-other}
 use Rattle.model.specs.Refusal.{max_machines, max_blocks}
@@ -18,30 +18,6 @@ use Rattle.cluster.specs.declared.Cluster.{Cluster}
 use Rattle.bits.specs.Words.{Lowest}
 use Rattle.bits.proofs.Laws.{bit-from}
 use Rattle.index.specs.Index.{index_length, words_by_number, words_by_rank, keys_at, ranks_at, loads_at, spot, key_at, rank_at, Ordered, Cleared, Indexed, CopiedTo, Marked}
-
--- ── words written ──────────────────────────────────────────────────────────────────────────────────────────────────────
-
--- the words from `from` on and below `to` are those of f, the others as they were
-pub record Written (entry : List ℕ) (from to : ℕ) (f : ℕ → ℕ) (later : List ℕ) : Type 0 where
-  pub sized : length later ≡ index_length
-  pub here : (k : ℕ) → from ≤ k → k < to → get_or later k 0 ≡ f k
-  pub others : (k : ℕ) → (from ≤ k → k < to → ⊥) → get_or later k 0 ≡ get_or entry k 0
-
-pub written_none : (entry : List ℕ) (from : ℕ) (f : ℕ → ℕ) → length entry ≡ index_length → Written entry from from f entry
-written_none entry from f sized = record { sized = sized; here = λ k l h. absurd (omega arith); others = λ k apart. refl }
-
-pub written-more : {entry later : List ℕ} {from to v : ℕ} {f : ℕ → ℕ} → Written entry from to f later → from ≤ to → to < index_length
-    → v ≡ f to → Written entry from (to + 1) f (set later to v)
-written-more {later = later} {from} {to} {v} past start room is =
-    record {
-      sized = length-set later to v ∙ past.sized;
-      here = λ k l h. elim (ℕ_discrete k to) [
-        | yes e ↦ rw e (get_or-set_same later to v 0 (omega (arith, past.sized)) ∙ is)
-        | no d ↦ get_or-set_other later to k v 0 d ∙ past.here k l (omega arith)
-      ];
-      others = λ k apart.
-          get_or-set_other later to k v 0 (λ e. apart (omega arith) (omega arith)) ∙ past.others k (λ l h. apart l (omega arith));
-    }
 
 -- ── spot ───────────────────────────────────────────────────────────────────────────────────────────────────────────────
 
@@ -84,11 +60,6 @@ module _ (index : List ℕ) (part a i : ℕ) (room : cell part a i < length inde
 pub record Marking (entry index : List ℕ) (part word rest i : ℕ) : Type 0 where
   pub here : (m : ℕ) → m < max_machines → spot index part m i + bit rest m ≡ bit word m
   pub others : (m k : ℕ) → m < max_machines → k < max_blocks → (k ≡ i → ⊥) → spot index part m k ≡ spot entry part m k
-
-pub marking-none : (entry : List ℕ) (part word i : ℕ) → ((m : ℕ) → m < max_machines → spot entry part m i ≡ 0)
-    → Marking entry entry part word word i
-marking-none entry part word i clear =
-    record { here = λ m l. ap (λ (x : ℕ). x + bit word m) (clear m l) ∙ (omega arith); others = λ m k ml kl apart. refl }
 
 -- what leaves the part's bits leaves this
 pub marking-same : {entry index later : List ℕ} {part word rest i : ℕ}

@@ -1,6 +1,6 @@
 -- The index of a placement: four parts of 1,024 words. For each machine the bit set of its blocks by number, sixteen words each; the
 -- same by rank; the keys of the blocks by rising share; and each block's rank. After them a word for each machine, its load.
-use Rattle.std.specs.Prelude.{◌≡◌, List, ℕ, ◌+◌, ◌*◌, ◌/◌, ◌%◌, ◌<◌, ◌≤◌, length, get_or}
+use Rattle.std.specs.Prelude.{◌≡◌, List, ℕ, ◌+◌, ◌*◌, ◌/◌, ◌%◌, ◌<◌, ◌≤◌, length, get_or, Option, Some, None}
 use Rattle.model.specs.Refusal.{max_machines, max_blocks}
 use Rattle.model.specs.Placement.{bit, held}
 use Rattle.cluster.specs.declared.Cluster.{Cluster}
@@ -122,12 +122,22 @@ pub record NextAsked (index : List ℕ) (part m n from : ℕ) (c : Cluster) : Ty
   pub from-max : from ≤ max_blocks
   pub blocks-max : c.blocks ≤ max_blocks
 
--- r is the first place from `from` on at which m holds a block and n does not, or past the last block.
-pub record NextOf (index : List ℕ) (part m n from : ℕ) (c : Cluster) (r : ℕ) : Type 0 where
+-- No place from `from` on and below `to` is one at which m holds a block and n does not.
+abbrev pub NoneFree : List ℕ → ℕ → ℕ → ℕ → ℕ → ℕ → Type 0
+NoneFree index part m n from to = (k : ℕ) → from ≤ k → k < to → spot index part m k ≡ 1 → spot index part n k ≡ 0 → ⊥
+
+-- r is the first place from `from` on at which m holds a block and n does not.
+pub record NextAt (index : List ℕ) (part m n from : ℕ) (c : Cluster) (r : ℕ) : Type 0 where
   pub at_least : from ≤ r
-  pub passed : (k : ℕ) → from ≤ k → k < r → k < c.blocks → spot index part m k ≡ 1 → spot index part n k ≡ 0 → ⊥
-  pub holds : r < c.blocks → spot index part m r ≡ 1
-  pub lacks : r < c.blocks → spot index part n r ≡ 0
+  pub below : r < c.blocks
+  pub passed : NoneFree index part m n from r
+  pub holds : spot index part m r ≡ 1
+  pub lacks : spot index part n r ≡ 0
+
+-- The first such place, or none up to the last block.
+abbrev pub NextOf : List ℕ → ℕ → ℕ → ℕ → ℕ → Cluster → Option ℕ → Type 0
+NextOf index part m n from c (Some r) = NextAt index part m n from c r
+NextOf index part m n from c None = NoneFree index part m n from c.blocks
 
 -- Blocks by rising share.
 pub record AboveAsked (index : List ℕ) (c : Cluster) : Type 0 where

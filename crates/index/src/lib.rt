@@ -26,11 +26,7 @@ fn copy_part(index: &mut [u64], part: usize, from: &[u64], count: usize)
     requires { CopyAsked index.old part from.now count }
     ensures { CopiedTo index.old part from.now count index.new }
 {
-    let mut k: usize = 0;
-    while k < count {
-        index[part + k] = from[k];
-        k += 1;
-    }
+    index[part..part + count].copy_from_slice(&from[..count]);
 }
 
 // Puts the blocks in order of their shares into an index that has no bit sets yet.
@@ -49,11 +45,7 @@ pub fn clear(index: &mut [u64])
     requires { length index.old ≡ index_length }
     ensures { ClearedTo index.old index.new }
 {
-    let mut k: usize = 0;
-    while k < KEYS_AT {
-        index[k] = 0;
-        k += 1;
-    }
+    index[..KEYS_AT].fill(0);
 }
 
 // Block i entered at the machines that its word names, by number and by rank.
@@ -62,14 +54,11 @@ fn enter(index: &mut [u64], word: u64, i: usize)
     ensures { Entered index.old word i index.new }
 {
     let r = index[RANKS_AT + i] as usize;
-    let mut rest = word;
-    while rest != 0 {
-        let m = bits::lowest(rest);
+    for m in bits::ones(word) {
         let number = BY_NUMBER + m * 16 + i / 64;
         index[number] = bits::with_bit(index[number], i % 64);
         let rank = BY_RANK + m * 16 + r / 64;
         index[rank] = bits::with_bit(index[rank], r % 64);
-        rest = bits::without_bit(rest, m);
     }
 }
 
@@ -79,10 +68,8 @@ pub fn fill(index: &mut [u64], words: &[u64], cluster: Cluster)
     ensures { (profiles : List ℕ) → Ordered cluster profiles index.old
         → Indexed cluster words.now profiles index.new }
 {
-    let mut i: usize = 0;
-    while i < cluster.blocks {
+    for i in 0..cluster.blocks {
         enter(index, words[i], i);
-        i += 1;
     }
 }
 
@@ -94,8 +81,16 @@ pub fn put_loads(index: &mut [u64], loads: &[u64])
     copy_part(index, LOADS_AT, loads, MAX_MACHINES);
 }
 
-// The first place from `from` on, by number or by rank, of a block that m holds and n does not; past the last block where there is none.
-pub fn next(index: &[u64], part: usize, m: usize, n: usize, from: usize, cluster: Cluster) -> usize
+// The first place from `from` on, by number or by rank, of a block that m holds and n does not; none where there is no such block.
+// The loop stays a `while`: it goes on by words of 64 places.
+pub fn next(
+    index: &[u64],
+    part: usize,
+    m: usize,
+    n: usize,
+    from: usize,
+    cluster: Cluster,
+) -> Option<usize>
     requires { NextAsked index.now part m n from cluster }
     ensures { NextOf index.now part m n from cluster result }
 {
@@ -104,27 +99,20 @@ pub fn next(index: &[u64], part: usize, m: usize, n: usize, from: usize, cluster
         let free = bits::and_not(index[part + m * 16 + k / 64], index[part + n * 16 + k / 64])
             >> (k % 64);
         if free != 0 {
-            return k + bits::lowest(free);
+            let at = k + bits::lowest(free);
+            return if at < cluster.blocks { Some(at) } else { None };
         }
         k = (k / 64 + 1) * 64;
     }
-    k
+    None
 }
 
-// The first rank whose share is above `bound`; past the last block where there is none.
+// The first rank whose share is above `bound`; past the last block where there is none, and no `Option`: the ranks from it on are the
+// answer.
 pub fn first_above(index: &[u64], bound: u64, cluster: Cluster) -> usize
     requires { AboveAsked index.now cluster }
     ensures { AboveOf index.now bound cluster result }
 {
-    let mut low: usize = 0;
-    let mut high = cluster.blocks;
-    while low < high {
-        let middle = (low + high) / 2;
-        if ranking::key_share(index[KEYS_AT + middle]) <= bound {
-            low = middle + 1;
-        } else {
-            high = middle;
-        }
-    }
-    low
+    let keys = &index[KEYS_AT..KEYS_AT + cluster.blocks];
+    keys.partition_point(|key| ranking::key_share(*key) <= bound)
 }

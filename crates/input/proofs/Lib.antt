@@ -1,4 +1,3 @@
-pub mod Laws
 pub mod OnWhole
 mod Parts
 mod Known

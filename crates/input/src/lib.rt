@@ -1,34 +1,41 @@
-// Standard input, read whole or up to one byte more than any plan has, and what the reads say of it.
+// Standard input, read whole or up to one byte more than any plan has.
 #![tactic(auto)]
 
-ghost use Rattle.std.specs.Prelude.{◌≡◌, ◌≢◌, ◌<◌, ◌≤◌, [], pos, length, take, IfOk, IfSome};
+ghost use Rattle.std.specs.Prelude.{◌≡◌, ◌≢◌, ◌<◌, ◌≤◌, [], List, ℕ, Some, length, take, IfOk, IfSome, OnOk};
 ghost use Rattle.std.specs.Io.KnownBytes.{Consumes, IsAtEnd};
 ghost use Rattle.std.specs.IoError.{error_kind};
 ghost use Rattle.model.specs.Listing.{input_room};
-ghost use Rattle.input.specs.Moved.{Moved};
-ghost use Rattle.input.specs.Input.{input_of, SourceIs, InputIs};
+ghost use Rattle.input.specs.Input.{failed_by, InputIs};
 
 use std::io;
 use std::io::{ErrorKind, Read};
+use std::marker::Model;
 
 // One byte more than the largest plan has. Of a longer input no more is read: it is judged as it would be in full.
 const INPUT_ROOM: usize = 7185;
 
-// What the reads say of the input: one failed, or the end came after so many bytes, or the buffer is full.
-#[derive(Clone, Copy)]
-pub enum Input {
-    Failed,
-    Ended(usize),
-    Full,
+// The bytes that came: the first `size` of the buffer.
+#[derive(Drop)]
+pub struct Source {
+    buffer: [u8; INPUT_ROOM],
+    size: usize,
 }
 
-// The buffer after reading, how many bytes came, what the read after them answered, and what that says of the input.
-#[derive(Clone, Copy)]
-pub struct Source {
-    pub bytes: [u8; INPUT_ROOM],
-    pub size: usize,
-    pub next: isize,
-    pub input: Input,
+impl Model for Source {
+    ghost Value = { List ℕ };
+
+    ghost view = { λ s. take s.size s.buffer };
+
+    ghost invariant = { λ s. s.size ≤ length s.buffer };
+}
+
+impl Source {
+    // The bytes that came.
+    pub fn bytes(&self) -> &[u8]
+        ensures { result.now ≡ self.now }
+    {
+        &self.buffer[..self.size]
+    }
 }
 
 // Reads until the part is full or nothing more comes; so many bytes came.
@@ -49,49 +56,43 @@ fn read_full<R: Read>(reader: &mut R, part: &mut [u8]) -> io::Result<usize>
     Ok(size)
 }
 
-// What the read after so many bytes answers: 0 at the end of the input. After a full buffer none is made, and the answer is -1.
-fn read_on<R: Read>(reader: &mut R, size: usize) -> io::Result<isize>
-    ensures moved { IfOk result (λ next. Moved 1 next) }
+// How many bytes, one at most, the read after so many gives. After a full buffer none is made.
+fn read_on<R: Read>(reader: &mut R, size: usize) -> io::Result<Option<usize>>
+    ensures within { IfOk result (λ next. IfSome next (λ more. more ≤ 1)) }
     ensures ended { IfOk result
-        (λ next. IfSome (R.remaining reader.old) (λ rest. rest ≡ [] → size ≢ input_room → next ≡ pos 0)) }
+        (λ next. IfSome (R.remaining reader.old) (λ rest. rest ≡ [] → size ≢ input_room → next ≡ Some 0)) }
 {
     if size == INPUT_ROOM {
-        return Ok(-1);
+        return Ok(None);
     }
     let mut next = [0u8; 1];
     let more = reader.read(&mut next)?;
-    Ok(more as isize)
+    Ok(Some(more))
 }
 
-// What so many bytes in a buffer and the answer of the read after them say of the input.
-fn judge(size: usize, room: usize, next: isize) -> Input
-    ensures { result ≡ input_of size room next }
+// Whether the read after the end says that one has failed: it gave more.
+// A `match`: with `is_some_and` the proof stayed open, since it could not name what the closure promises.
+fn gave_more(next: Option<usize>) -> bool
+    ensures { result ≡ failed_by next }
 {
-    if size == room {
-        return Input::Full;
+    match next {
+        None => false,
+        Some(more) => more > 0,
     }
-    if next == 0 {
-        return Input::Ended(size);
-    }
-    Input::Failed
 }
 
 // Reads until the buffer is full or nothing more comes, then once more to see whether the input has ended.
 pub fn fill<R: Read>(reader: &mut R) -> io::Result<Source>
-    ensures source { IfOk result (λ source. SourceIs source) }
-    ensures whole { IfOk result
-        (λ source. IfSome (R.remaining reader.old) (λ whole. InputIs source.bytes source.input whole)) }
+    ensures source { IfOk result (λ source. length source ≤ input_room) }
+    ensures whole { OnOk result (IfSome (R.remaining reader.old) (λ whole. InputIs result whole)) }
 {
-    let mut bytes = [0u8; INPUT_ROOM];
-    let size = read_full(reader, &mut bytes)?;
+    let mut buffer = [0u8; INPUT_ROOM];
+    let size = read_full(reader, &mut buffer)?;
     let next = read_on(reader, size)?;
-    let input = judge(size, INPUT_ROOM, next);
-    Ok(Source {
-        bytes,
-        size,
-        next,
-        input,
-    })
+    if gave_more(next) {
+        return Err(read_failed());
+    }
+    Ok(Source { buffer, size })
 }
 
 // The error to tell of where the reads say that one failed.

@@ -2,57 +2,73 @@
 #![tactic(auto)]
 
 ghost use Rattle.std.specs.Prelude.{◌≡◌, ◌≤◌, length};
+ghost use Rattle.refusal.specs.Rows.{number_of};
 ghost use Rattle.search.specs.Scene.{step_of};
+ghost use Rattle.service.specs.Entries.{run_reply};
 ghost use Rattle.script.specs.Script.{reply_is};
-ghost use Rattle.interface.specs.Interface.{over, step_numbers, reply_numbers};
+ghost use Rattle.interface.specs.Interface.{over, step_numbers, run_numbers, reply_numbers};
 
-use script::LastReply;
+use balance::Ran;
+use refusal::Refusal;
+use script::Reply;
 use search::Step;
 
 // A refusal's number as the code returned.
-pub fn code_of(number: u8) -> u32
-    ensures { result ≡ number }
+pub fn code_of(refusal: Refusal) -> u32
+    ensures { result ≡ number_of refusal }
 {
-    number as u32
+    u32::from(u8::from(refusal))
 }
 
 // Writes the numbers into the first words of out; its later words stay.
+#[tactic(auto, unfolding(crate::specs::Interface::over))]
 pub fn write_numbers(out: &mut [u64], numbers: &[u64])
     requires { length numbers.now ≤ length out.old }
     ensures { out.new ≡ over numbers.now out.old }
 {
-    let mut i: usize = 0;
-    while i < numbers.len() {
-        out[i] = numbers[i];
-        i += 1;
-    }
+    out[..numbers.len()].copy_from_slice(numbers);
 }
 
 // A step as numbers: 1 if there is one, its kind, m, n, i, j; 0 where there is none.
-pub fn step_numbers(step: Step) -> [u64; 6]
+#[tactic(auto, unfolding(crate::specs::Interface::step_numbers, search::specs::Scene::step_of))]
+pub fn step_numbers(step: Option<Step>) -> [u64; 6]
     ensures { result ≡ step_numbers (step_of step) }
 {
     match step {
-        Step::Rest => [0, 0, 0, 0, 0, 0],
-        Step::Move { m, n, i } => [1, 0, m as u64, n as u64, i as u64, 0],
-        Step::Swap { m, n, i, j } => [1, 1, m as u64, n as u64, i as u64, j as u64],
-        Step::RackMove { m, n, i } => [1, 2, m as u64, n as u64, i as u64, 0],
-        Step::RackSwap { m, n, i, j } => [1, 3, m as u64, n as u64, i as u64, j as u64],
+        None => [0, 0, 0, 0, 0, 0],
+        Some(Step::Move { m, n, i }) => [1, 0, m as u64, n as u64, i as u64, 0],
+        Some(Step::Swap { m, n, i, j }) => [1, 1, m as u64, n as u64, i as u64, j as u64],
+        Some(Step::RackMove { m, n, i }) => [1, 2, m as u64, n as u64, i as u64, 0],
+        Some(Step::RackSwap { m, n, i, j }) => [1, 3, m as u64, n as u64, i as u64, j as u64],
+    }
+}
+
+// A run as numbers: 1 for rest and 0 for spent, and the number of steps.
+#[tactic(auto, unfolding(crate::specs::Interface::run_numbers))]
+pub fn run_numbers(ran: Ran) -> [u64; 2]
+    ensures { result ≡ run_numbers (run_reply ran) }
+{
+    match ran {
+        Ran::Rested(steps) => [1, u64::from(steps)],
+        Ran::Spent(steps) => [0, u64::from(steps)],
     }
 }
 
 // A reply as numbers: its kind (0 refused, 1 checked, 2 a step, 3 a run), then its own.
-pub fn reply_numbers(reply: LastReply) -> [u64; 7]
+#[tactic(auto, using(crate::proofs::Laws::six_numbers), unfolding(crate::specs::Interface::run_numbers, crate::specs::Interface::reply_numbers, script::specs::Script::reply_is))]
+pub fn reply_numbers(reply: Result<Reply, Refusal>) -> [u64; 7]
     ensures { result ≡ reply_numbers (reply_is reply) }
 {
     match reply {
-        LastReply::Refused(number) => [0, number as u64, 0, 0, 0, 0, 0],
-        LastReply::Checked => [1, 0, 0, 0, 0, 0, 0],
-        LastReply::Stepped(step) => {
+        Err(refusal) => [0, u64::from(code_of(refusal)), 0, 0, 0, 0, 0],
+        Ok(Reply::Checked) => [1, 0, 0, 0, 0, 0, 0],
+        Ok(Reply::Stepped(step)) => {
             let s = step_numbers(step);
             [2, s[0], s[1], s[2], s[3], s[4], s[5]]
         }
-        LastReply::Rested(steps) => [3, 1, steps as u64, 0, 0, 0, 0],
-        LastReply::Spent(steps) => [3, 0, steps as u64, 0, 0, 0, 0],
+        Ok(Reply::Ran(ran)) => {
+            let r = run_numbers(ran);
+            [3, r[0], r[1], 0, 0, 0, 0]
+        }
     }
 }

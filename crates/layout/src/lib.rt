@@ -73,12 +73,10 @@ pub fn lay(cursor: Cursor, count: usize) -> LaidBlock
 {
     let mut at = cursor;
     let mut word: u64 = 0;
-    let mut k: usize = 0;
-    while k < count {
+    for _ in 0..count {
         let visit = at.next();
         word = bits::with_bit(word, visit.machine);
         at = visit.cursor;
-        k += 1;
     }
     LaidBlock { word, cursor: at }
 }
@@ -90,11 +88,9 @@ pub fn lay_all(cluster: Cluster, profiles: &[u64], words: &mut [u64])
         → words.new ≡ filled (block_count p) (first_word p) words.old }
 {
     let mut cursor = Cursor::start(cluster);
-    let mut i: usize = 0;
-    while i < cluster.blocks {
+    for i in 0..cluster.blocks {
         let laid = lay(cursor, cluster::count_of(profiles[i]));
         words[i] = laid.word;
         cursor = laid.cursor;
-        i += 1;
     }
 }

@@ -1,17 +1,15 @@
 -- The pieces of a line one behind the other, and the machines of a word one by one.
 -- Assumes nothing.
 use mathlib.Core.Path.{◌≡◌, ap, sym, ◌∙◌}
-use mathlib.Core.Bool.{Bool}
 use mathlib.Core.List.{List, [], ◌∷◌, ◌++◌, append_assoc, append-nil}
 use Prim.Native.Nat.{ℕ, ◌-◌, ◌^◌}
 use Rattle.model.specs.Refusal.{max_machines}
-use Rattle.model.specs.Listing.{number_field, fields, line_end, line, block_word, holders, end_word}
+use Rattle.model.specs.Listing.{number_field, fields, line_end, line, block_word, holders}
 use Rattle.theory.proofs.Listing.{fields-append, holders-zero, holders-low}
 use Rattle.bits.specs.Words.{Lowest}
 use Rattle.text.specs.Pasted.{Room, Put}
 use Rattle.text.proofs.Laws.{room-first, room_next, put_then}
-use Rattle.lines.specs.declared.FirstRun.{FirstRun}
-use Rattle.lines.specs.Rows.{number_row, end_row}
+use Rattle.lines.specs.Rows.{number_row}
 
 -- the lowest machine's field first, then those of the word without it
 pub fields-low : (rest m : ℕ) → Lowest rest m
@@ -85,22 +83,3 @@ module _ (at i count share word : ℕ) (old : List ℕ) (room : Room at (number_
             → Put at (number_row i count share word) old text₄ next₄
         block-put {text₄} {next₄} ended =
             rw row-pieces (put_then at _ line_end old all_room text₃ text₄ next₃ next₄ body ended)
-
--- the last line, by how the run ended
-module _ (at : ℕ) (r : FirstRun) (rested : Bool) (e : r.ran.rested ≡ rested) where
-  abbrev end_line : List ℕ
-  end_line =
-      line (end_word rested)
-      (r.ran.steps ∷ r.report.max_load ∷ r.report.min_load ∷ r.report.total_load ∷ r.top ∷ [])
-
-  end_row-is : end_row r ≡ end_line
-  unfolding end_row
-  end_row-is =
-      ap (λ (b : Bool). line (end_word b)
-      (r.ran.steps ∷ r.report.max_load ∷ r.report.min_load ∷ r.report.total_load ∷ r.top ∷ [])) e
-
-  pub end-room : {old : List ℕ} → Room at (end_row r) old → Room at end_line old
-  end-room room = rw end_row-is at room
-
-  pub end-put : {old text : List ℕ} {next : ℕ} → Put at end_line old text next → Put at (end_row r) old text next
-  end-put put = rw end_row-is put

@@ -1,10 +1,12 @@
 -- What the lines are given and say, in the model's terms.
-use Rattle.std.specs.Prelude.{List, [], ◌∷◌, ◌++◌, ℕ, get_or}
+use Rattle.std.specs.Prelude.{true, false, List, [], ◌∷◌, ◌++◌, ℕ, get_or}
 use Rattle.order.specs.Table.{joined}
 use Rattle.model.specs.Refusal.{max_machines}
 use Rattle.model.specs.Listing.{line, plan_word, block_word, holders, end_word}
 use Rattle.cluster.specs.declared.Cluster.{Cluster}
 use Rattle.cluster.specs.Blocks.{share_in, count_in, PlacementFits}
+use Rattle.balance.specs.declared.Ran.{Ran}
+use Rattle.balance.specs.declared.Ran.TheVariants.{Rested, Spent}
 use Rattle.text.specs.Pasted.{Room}
 use Rattle.lines.specs.declared.FirstRun.{FirstRun}
 
@@ -26,10 +28,16 @@ first_row c = line plan_word (c.racks ∷ c.rack_size ∷ c.blocks ∷ [])
 abbrev pub rows : Cluster → List ℕ → List ℕ → List ℕ
 rows c profiles words = joined c.blocks (row_at profiles words)
 
-unfoldable pub end_row : FirstRun → List ℕ
-end_row r =
-    line (end_word r.ran.rested)
-    (r.ran.steps ∷ r.report.max_load ∷ r.report.min_load ∷ r.report.total_load ∷ r.top ∷ [])
+-- The last line from its word and the number of steps; by how the run ended.
+abbrev pub number_end : List ℕ → ℕ → FirstRun → List ℕ
+number_end word steps r = line word (steps ∷ r.report.max_load ∷ r.report.min_load ∷ r.report.total_load ∷ r.top ∷ [])
+
+unfoldable pub ended_row : Ran → FirstRun → List ℕ
+ended_row (Rested steps) r = number_end (end_word true) steps r
+ended_row (Spent steps) r = number_end (end_word false) steps r
+
+abbrev pub end_row : FirstRun → List ℕ
+end_row r = ended_row r.ran r
 
 abbrev pub all_rows : Cluster → List ℕ → List ℕ → FirstRun → List ℕ
 all_rows c profiles words r = (first_row c ++ rows c profiles words) ++ end_row r

@@ -4,7 +4,7 @@
 ghost use Rattle.model.specs.Refusal.{max_machines};
 ghost use Rattle.model.specs.Listing.{fields, holders};
 ghost use Rattle.text.specs.Pasted.{Room, Put};
-ghost use Rattle.lines.specs.Rows.{block_row, rows, end_row, all_rows, RowsAsked, LinesAsked};
+ghost use Rattle.lines.specs.Rows.{block_row, rows, number_end, end_row, all_rows, RowsAsked, LinesAsked};
 
 use balance::Ran;
 use cluster::Cluster;
@@ -24,11 +24,8 @@ fn put_holders(text: &mut [u8], at: usize, word: u64) -> usize
     ensures { Put at (fields (holders word max_machines)) text.old text.new result }
 {
     let mut next = at;
-    let mut rest = word;
-    while rest != 0 {
-        let m = bits::lowest(rest);
+    for m in bits::ones(word) {
         next = text::put_field(text, next, m as u64);
-        rest = bits::without_bit(rest, m);
     }
     next
 }
@@ -46,7 +43,7 @@ fn put_block(text: &mut [u8], at: usize, i: usize, profile: u64, word: u64) -> u
     let named = text::put_word(text, at, b"block");
     let listed = text::put_fields(text, named, &numbers);
     let held = put_holders(text, listed, word);
-    text::put_byte(text, held, 10)
+    text::put_byte(text, held, b'\n')
 }
 
 // Puts the block lines in file order.
@@ -61,32 +58,37 @@ fn put_blocks(
     ensures { Put at (rows cluster profiles.now words.now) text.old text.new result }
 {
     let mut next = at;
-    let mut i: usize = 0;
-    while i < cluster.blocks {
+    for i in 0..cluster.blocks {
         next = put_block(text, next, i, profiles[i], words[i]);
-        i += 1;
     }
     next
 }
 
-// Puts the last line: how the run ended, steps, hottest load, coolest load, sum of loads, largest share.
-fn put_last(text: &mut [u8], at: usize, made: FirstRun) -> usize
-    requires { Room at (end_row made) text.old }
-    ensures { Put at (end_row made) text.old text.new result }
+// Puts the last line: its word, steps, hottest load, coolest load, sum of loads, largest share.
+fn put_end(text: &mut [u8], at: usize, word: &[u8], steps: u32, made: FirstRun) -> usize
+    requires { Room at (number_end word.now steps made) text.old }
+    ensures { Put at (number_end word.now steps made) text.old text.new result }
 {
-    let ran = made.ran;
     let report = made.report;
     let numbers = [
-        ran.steps as u64,
+        u64::from(steps),
         report.max_load,
         report.min_load,
         report.total_load,
         made.top,
     ];
-    if ran.rested {
-        return text::put_line(text, at, b"rest", &numbers);
+    text::put_line(text, at, word, &numbers)
+}
+
+// Puts the last line, by how the run ended.
+fn put_last(text: &mut [u8], at: usize, made: FirstRun) -> usize
+    requires { Room at (end_row made) text.old }
+    ensures { Put at (end_row made) text.old text.new result }
+{
+    match made.ran {
+        Ran::Rested(steps) => put_end(text, at, b"rest", steps, made),
+        Ran::Spent(steps) => put_end(text, at, b"spent", steps, made),
     }
-    text::put_line(text, at, b"spent", &numbers)
 }
 
 // Puts all lines.

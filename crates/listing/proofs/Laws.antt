@@ -1,6 +1,6 @@
 -- From the run and the loads to the listing's lines.
 -- Assumes nothing.
-use mathlib.Core.Path.{◌≡◌, ap, ap₂, sym, ◌∙◌}
+use mathlib.Core.Path.{◌≡◌, refl, ap, ap₂, sym, ◌∙◌}
 use mathlib.Core.List.{List, [], ◌∷◌, ◌++◌, append-nil}
 use Prim.Native.Nat.{ℕ, ◌-◌, ◌^◌, ◌<◌, ◌≤◌}
 use native.Mathlib.Nat.{le_of_eq}
@@ -22,10 +22,11 @@ use Rattle.cluster.specs.declared.Cluster.{Cluster}
 use Rattle.cluster.specs.Blocks.{count_in, ProfilesOf, PlacementOf}
 use Rattle.cluster.proofs.Laws.{cluster-blocks, profiles-share, profiles-count, placement-share}
 use Rattle.balance.specs.declared.Ran.{Ran}
+use Rattle.balance.specs.declared.Ran.TheVariants.{Rested, Spent}
 use Rattle.balance.specs.Standing.{ran_of}
 use Rattle.text.specs.Pasted.{Room, Put}
 use Rattle.lines.specs.declared.FirstRun.{FirstRun}
-use Rattle.lines.specs.Rows.{number_row, row_at, first_row, rows, end_row, all_rows}
+use Rattle.lines.specs.Rows.{number_row, row_at, first_row, rows, number_end, ended_row, end_row, all_rows}
 use Rattle.listing.specs.FirstRun.{FirstRunAs}
 
 -- B words filled are the first placement
@@ -45,14 +46,25 @@ first-placement p c profiles of words later sized e =
       same,
     )
 
+-- ── ran_of and ended_row ──────────────────────────────────────────────────────────────────────────
+ran-words : (ran : Ran) (words : List ℕ) → (ran_of ran words).words ≡ words
+unfolding ran_of
+ran-words (Rested steps) words = refl
+ran-words (Spent steps) words = refl
+
+ended_as : (ran : Ran) (words : List ℕ) (r : FirstRun)
+    → ended_row ran r ≡ number_end (end_word (ran_of ran words).rested) (ran_of ran words).steps r
+unfolding ended_row ran_of
+ended_as (Rested steps) words r = refl
+ended_as (Spent steps) words r = refl
+
 -- the placement after the run
 pub run-placement : (p : Plan) (c : Cluster) (limit : ℕ) (profiles : List ℕ) → ProfilesOf p (chosen p) c profiles
     → (ran : Ran) (words : List ℕ) → ran_of ran words ≡ run p limit (first_placement p) → PlacementOf p (chosen p) c words profiles
-unfolding ran_of
 run-placement p c limit profiles of ran words e =
     record {
       profiles-of = of;
-      feasible = rw (ap (λ (q : Run). q.words) e) (listing_of-feasible p of.cluster.valid limit);
+      feasible = rw (sym (ran-words ran words) ∙ ap (λ (q : Run). q.words) e) (listing_of-feasible p of.cluster.valid limit);
     }
 
 -- the lines of a plan whose run is given
@@ -79,20 +91,26 @@ module _ (p : Plan) (c : Cluster) (limit : ℕ) (profiles words : List ℕ) (r :
       in
       rw (count, placement-share p (chosen p) c words profiles placement i l, held)
 
+  abbrev ran : Run
+  ran = ran_of r.ran words
+
   end_is : end_row r ≡ last_line p (run p limit (first_placement p))
-  unfolding end_row last_line report_of ran_of
+  unfolding last_line report_of
   end_is =
-      ap₂ (λ (n m : ℕ). line (end_word r.ran.rested) (r.ran.steps ∷ n ∷ m ∷ r.report.total_load ∷ r.top ∷ [])) made.max-is made.min-is
-      ∙ ap₂ (λ (n m : ℕ). line (end_word r.ran.rested) (r.ran.steps ∷ max_load_of p words ∷ min_load_of p words ∷ n ∷ m ∷ [])) made.total-is made.top-is
+      ended_as r.ran words r
+      ∙ ap₂ (λ (n m : ℕ). line (end_word ran.rested) (ran.steps ∷ n ∷ m ∷ r.report.total_load ∷ r.top ∷ [])) made.max-is made.min-is
+      ∙ ap₂ (λ (n m : ℕ). line (end_word ran.rested) (ran.steps ∷ max_load_of p words ∷ min_load_of p words ∷ n ∷ m ∷ [])) made.total-is made.top-is
+      ∙ ap (λ (placed : List ℕ). last_line p (record { rested = ran.rested; steps = ran.steps; words = placed })) (sym (ran-words r.ran words))
       ∙ ap (last_line p) made.run_is
 
   listing-is : all_rows c profiles words r ≡ listing_of p limit
-  unfolding listing_of plan_line ran_of
+  unfolding listing_of plan_line
   listing-is =
       let of = made.profiles-of.cluster in
       let blocks : rows c profiles words ≡ joined (block_count p) (block_line p (run p limit (first_placement p)).words) =
       joined-cong c.blocks _ _ row_is
       ∙ ap (λ (n : ℕ). joined n (block_line p words)) all
+      ∙ ap (λ (placed : List ℕ). joined (block_count p) (block_line p placed)) (sym (ran-words r.ran words))
       ∙ ap (λ (q : Run). joined (block_count p) (block_line p q.words)) made.run_is
       in
       ap₂ (λ (s t : List ℕ). first_row c ++ s ++ t) blocks end_is

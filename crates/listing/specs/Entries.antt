@@ -1,9 +1,9 @@
 -- The entries' answers and the lent text at exit, as the model's outcome.
-use Rattle.std.specs.Prelude.{List, ℕ}
+use Rattle.std.specs.Prelude.{List, ℕ, Result, Ok, Err}
 use Rattle.model.specs.Calls.{Outcome, answered, refuse}
-use Rattle.listing.specs.declared.ListingAnswer.{ListingAnswer}
-use Rattle.listing.specs.declared.ListingAnswer.TheVariants.{Refused, Listed}
+use Rattle.refusal.specs.declared.Refusal.{Refusal}
+use Rattle.refusal.specs.Rows.{number_of}
 
-unfoldable pub listing_outcome : ListingAnswer → List ℕ → Outcome ℕ
-listing_outcome (Refused code) text = refuse code text
-listing_outcome (Listed size) text = record { answer = answered size; items = text }
+unfoldable pub listing_outcome : Result ℕ Refusal → List ℕ → Outcome ℕ
+listing_outcome (Err refusal) text = refuse (number_of refusal) text
+listing_outcome (Ok size) text = record { answer = answered size; items = text }

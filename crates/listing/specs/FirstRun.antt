@@ -9,8 +9,6 @@ use Rattle.model.specs.Listing.{listing_room}
 use Rattle.cluster.specs.declared.Cluster.{Cluster}
 use Rattle.cluster.specs.Blocks.{ProfilesOf, PlacementFits}
 use Rattle.header.specs.declared.Header.{Header}
-use Rattle.plan.specs.declared.Reading.{Reading}
-use Rattle.plan.specs.declared.Reading.TheVariants.{Refused, Accepted}
 use Rattle.plan.specs.Reading.{plan_of}
 use Rattle.balance.specs.Standing.{ran_of}
 use Rattle.lines.specs.declared.FirstRun.{FirstRun}
@@ -39,8 +37,3 @@ pub record ListAsked (bytes : List ℕ) (h : Header) (text : List ℕ) : Type 0 
 pub record PutAsked (bytes : List ℕ) (h : Header) (words text : List ℕ) : Type 0 where
   pub asked : ListAsked bytes h text
   pub words_are : length words ≡ h.cluster.blocks
-
--- The number of a refused plan, 0 for an accepted one.
-unfoldable pub reading_code : Reading → ℕ
-reading_code (Refused code) = code
-reading_code (Accepted h) = 0

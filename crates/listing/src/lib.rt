@@ -1,29 +1,20 @@
 // The listing that the program prints: the run that it tells of, and the public entries that write it into a lent text.
 #![tactic(auto)]
 
-ghost use Rattle.std.specs.Prelude.{◌≡◌};
-ghost use Rattle.model.specs.Listing.{listing_of, listing_call, print_call};
+ghost use Rattle.std.specs.Prelude.{◌≡◌, ◌<◌, ◌≤◌, length, MatchResult};
+ghost use Rattle.model.specs.Listing.{listing_room, listing_of, listing_call, print_call};
 ghost use Rattle.plan.specs.Reading.{plan_of};
 ghost use Rattle.text.specs.Pasted.{Put};
-ghost use Rattle.listing.specs.FirstRun.{FirstRunAsked, FirstRunAs, ListAsked, PutAsked, reading_code};
+ghost use Rattle.listing.specs.FirstRun.{FirstRunAsked, FirstRunAs, ListAsked, PutAsked};
 ghost use Rattle.listing.specs.Entries.{listing_outcome};
 
 use cluster::MAX_BLOCKS;
 use header::Header;
 use lines::FirstRun;
-use plan::Reading;
+use refusal::Refusal;
 
-// Bytes that every listing fits in, and the code for a shorter text, above all refusal numbers.
+// Bytes that every listing fits in.
 const LISTING_ROOM: usize = 65536;
-
-const SHORT_TEXT: u8 = 255;
-
-// What the entries answer: refused with its number, or the number of bytes written.
-#[derive(Clone, Copy)]
-pub enum ListingAnswer {
-    Refused(u8),
-    Listed(usize),
-}
 
 // The profiles at the chosen counts in the lent list, and in the words the placement after a run from the first placement.
 fn run_first(
@@ -68,41 +59,37 @@ fn list_accepted(bytes: &[u8], h: Header, limit: u32, text: &mut [u8]) -> usize
     put_listing(bytes, h, limit, &mut words[..blocks], text)
 }
 
-// The number of a refused plan, 0 for an accepted one.
-fn refusal_code(reading: Reading) -> u8
-    ensures { result ≡ reading_code reading }
-{
-    match reading {
-        Reading::Refused(code) => code,
-        Reading::Accepted(_) => 0,
-    }
-}
-
-// Lists any bytes' plan in a lent text. Too short a text and a refused plan are answered with their number, and nothing is written.
-pub fn listing(bytes: &[u8], limit: u32, text: &mut [u8]) -> ListingAnswer
-    ensures { listing_outcome result text.new ≡ listing_call bytes.now limit text.old }
+// Refuses a text that not every listing fits in.
+fn check_room(text: &[u8]) -> Result<(), Refusal>
+    ensures { MatchResult result (λ _. listing_room ≤ length text.now)
+        (λ refusal. (length text.now < listing_room) × (refusal ≡ Refusal.ShortText)) }
 {
     if text.len() < LISTING_ROOM {
-        return ListingAnswer::Refused(SHORT_TEXT);
+        return Err(Refusal::ShortText);
     }
-    let reading = plan::read(bytes);
-    match reading {
-        Reading::Refused(code) => ListingAnswer::Refused(code),
-        Reading::Accepted(h) => ListingAnswer::Listed(list_accepted(bytes, h, limit, text)),
-    }
+    Ok(())
+}
+
+// Lists any bytes' plan in a lent text. Too short a text and a refused plan are refused, and nothing is written.
+pub fn listing(bytes: &[u8], limit: u32, text: &mut [u8]) -> Result<usize, Refusal>
+    ensures { listing_outcome result text.new ≡ listing_call bytes.now limit text.old }
+{
+    check_room(text)?;
+    let h = plan::read(bytes)?;
+    Ok(list_accepted(bytes, h, limit, text))
 }
 
 // What the program prints for any bytes, in a lent text: the listing, or the line of a refused plan.
-pub fn print(bytes: &[u8], limit: u32, text: &mut [u8]) -> ListingAnswer
+pub fn print(bytes: &[u8], limit: u32, text: &mut [u8]) -> Result<usize, Refusal>
     ensures { listing_outcome result text.new ≡ print_call bytes.now limit text.old }
 {
-    if text.len() < LISTING_ROOM {
-        return ListingAnswer::Refused(SHORT_TEXT);
+    check_room(text)?;
+    match plan::read(bytes) {
+        Err(refusal) => {
+            let code = u8::from(refusal);
+            let numbers = [u64::from(code)];
+            Ok(text::put_line(text, 0, b"refused", &numbers))
+        }
+        Ok(h) => Ok(list_accepted(bytes, h, limit, text)),
     }
-    let reading = plan::read(bytes);
-    let Reading::Accepted(h) = reading else {
-        let numbers = [refusal_code(reading) as u64];
-        return ListingAnswer::Listed(text::put_line(text, 0, b"refused", &numbers));
-    };
-    ListingAnswer::Listed(list_accepted(bytes, h, limit, text))
 }

@@ -1,5 +1,5 @@
 -- The loads of the machines and the copies on each, as sums over the words.
-use Rattle.std.specs.Prelude.{◌≡◌, List, ℕ, ◌+◌, ◌*◌, ◌<◌, ◌≤◌, length, get_or}
+use Rattle.std.specs.Prelude.{◌≡◌, List, ◌↔◌, ℕ, ◌+◌, ◌*◌, ◌<◌, ◌≤◌, length, get_or}
 use Rattle.order.specs.Sum.{sum, delta}
 use Rattle.order.specs.Search.{largest, smallest}
 use Rattle.model.specs.Refusal.{max_machines, max_blocks}
@@ -66,3 +66,8 @@ pub record ReportOf (l : Loads) (c : Cluster) (r : LoadReport) : Type 0 where
   pub max-is : r.max_load ≡ largest (machines_in c) (λ m. get_or l.load m 0)
   pub min-is : r.min_load ≡ smallest (machines_in c) (λ m. get_or l.load m 0)
   pub total-is : r.total_load ≡ sum (machines_in c) (λ m. get_or l.load m 0)
+
+-- Of the machines before `end` those with room are the set bits of r.
+pub record RoomTo (c : Cluster) (copies : List ℕ) (end r : ℕ) : Type 0 where
+  pub is : (n : ℕ) → n < end → (bit r n ≡ 1) ↔ (get_or copies n 0 < c.capacity)
+  pub past : (n : ℕ) → end ≤ n → bit r n ≡ 0

@@ -1,8 +1,12 @@
 // The loads of the machines and the copies on each: from the words in one pass, after a shift, and as a report.
+// The machines that have room for one copy more.
 #![tactic(auto)]
 
+ghost use Rattle.std.specs.Prelude.{◌≡◌, length};
+ghost use Rattle.model.specs.Refusal.{max_machines};
+ghost use Rattle.cluster.specs.Cluster.{InRange, machines_in};
 ghost use Rattle.cluster.specs.Blocks.{PlacementFits};
-ghost use Rattle.loads.specs.Loads.{AddAsked, AddedTo, LoadsOf, LoadShiftAsked, ShiftedTo, ReportAsked, ReportOf};
+ghost use Rattle.loads.specs.Loads.{AddAsked, AddedTo, LoadsOf, LoadShiftAsked, ShiftedTo, ReportAsked, ReportOf, RoomTo};
 
 use cluster::{Cluster, MAX_MACHINES};
 
@@ -26,12 +30,9 @@ fn add_word(loads: &mut [u64], copies: &mut [usize], word: u64, share: u64)
     requires { AddAsked loads.old copies.old share }
     ensures { AddedTo loads.old copies.old word share loads.new copies.new }
 {
-    let mut rest = word;
-    while rest != 0 {
-        let m = bits::lowest(rest);
+    for m in bits::ones(word) {
         loads[m] = loads[m] + share;
         copies[m] = copies[m] + 1;
-        rest = bits::without_bit(rest, m);
     }
 }
 
@@ -42,15 +43,13 @@ pub fn sum_words(words: &[u64], profiles: &[u64], cluster: Cluster) -> Loads
 {
     let mut load = [0u64; MAX_MACHINES];
     let mut copies = [0usize; MAX_MACHINES];
-    let mut i: usize = 0;
-    while i < cluster.blocks {
+    for i in 0..cluster.blocks {
         add_word(
             &mut load[..],
             &mut copies[..],
             words[i],
             cluster::share_of(profiles[i]),
         );
-        i += 1;
     }
     Loads { load, copies }
 }
@@ -74,25 +73,32 @@ pub fn report(loads: Loads, cluster: Cluster) -> LoadReport
     requires { ReportAsked loads cluster }
     ensures { ReportOf loads cluster result }
 {
-    let load = loads.load;
     let machines = cluster.racks * cluster.rack_size;
     let mut max_load: u64 = 0;
-    let mut min_load = load[0];
+    let mut min_load = loads.load[0];
     let mut total_load: u64 = 0;
-    let mut m: usize = 0;
-    while m < machines {
-        if max_load < load[m] {
-            max_load = load[m];
-        }
-        if load[m] < min_load {
-            min_load = load[m];
-        }
-        total_load += load[m];
-        m += 1;
+    for m in 0..machines {
+        max_load = max_load.max(loads.load[m]);
+        min_load = min_load.min(loads.load[m]);
+        total_load += loads.load[m];
     }
     LoadReport {
         max_load,
         min_load,
         total_load,
     }
+}
+
+// The machines with fewer copies than they can hold, as the set bits of a word.
+pub fn with_room(copies: &[usize], cluster: Cluster) -> u64
+    requires { InRange cluster × (length copies.now ≡ max_machines) }
+    ensures { RoomTo cluster copies.now (machines_in cluster) result }
+{
+    let mut room: u64 = 0;
+    for m in 0..cluster.machines() {
+        if copies[m] < cluster.capacity {
+            room = bits::with_bit(room, m);
+        }
+    }
+    room
 }

@@ -4,12 +4,14 @@ use mathlib.Core.Path.{◌≡◌, sym}
 use mathlib.Core.List.{List}
 use Prim.Native.Nat.{ℕ, ◌<◌, ◌≤◌, ◌∣◌}
 use native.Mathlib.Nat.{le_trans, le_of_lt}
-use lib.ListN.{get_or}
+use lib.ListN.{get_or, length, take}
+use native.Mathlib.Omega.{arith}
+use Rattle.std.proofs.lemmas.List.{get_or-take, length-take-le}
 use Rattle.model.specs.Plan.{Plan, upper}
 use Rattle.model.specs.Replication.{unit, need}
 use Rattle.theory.proofs.Replication.{unit-divides, need-is}
 use Rattle.cluster.specs.declared.Cluster.{Cluster}
-use Rattle.cluster.specs.Blocks.{popularity_in, most_in, DemandInRange, DemandsOf}
+use Rattle.cluster.specs.Blocks.{popularity_in, most_in, DemandInRange, DemandsFit, DemandsOf}
 use Rattle.cluster.proofs.Laws.{cluster-block, demands-popularity, demands-least, demands-most}
 use Rattle.needs.specs.declared.Fraction.{Fraction}
 use Rattle.needs.specs.Needs.{FractionFits, NeedOf}
@@ -45,3 +47,12 @@ module _ (p : Plan) (c : Cluster) (demands : List ℕ) (of : DemandsOf p c deman
             (rw (P, least) at found.less-above)),
         high,
       )
+
+-- ── a pass over the blocks ───────────────────────────────────────────────────────────────────────
+-- the demand at an index of the part that belongs to blocks is that block's, and in its ranges
+pub block-here : (c : Cluster) (demands : List ℕ) → DemandsFit c demands → (i : ℕ) → i < length (take c.blocks demands)
+    → (i < c.blocks) × (get_or (take c.blocks demands) i 0 ≡ get_or demands i 0) × DemandInRange (get_or (take c.blocks demands) i 0)
+block-here c demands fit i l =
+    let below : i < c.blocks = omega (arith, length-take-le c.blocks demands fit.room) in
+    let is = get_or-take c.blocks demands i 0 below in
+    (below, is, rw is (fit.each i below))

@@ -1,5 +1,5 @@
 -- What shares, needs and the passes over the blocks are given and say, in the model's terms.
-use Rattle.std.specs.Prelude.{◌≡◌, List, ℕ, suc, ◌*◌, ◌-◌, ◌^◌, ◌<◌, ◌≤◌, get_or}
+use Rattle.std.specs.Prelude.{◌≡◌, Option, Some, None, List, ℕ, suc, ◌*◌, ◌-◌, ◌^◌, ◌<◌, ◌≤◌, get_or}
 use Rattle.order.specs.Sum.{sum}
 use Rattle.model.specs.Plan.{Plan, block_count, block_of, upper, min_total}
 use Rattle.model.specs.Refusal.{max_blocks}
@@ -21,18 +21,37 @@ pub record FractionFits (f : Fraction) : Type 0 where
 abbrev pub fraction_share : Fraction → ℕ
 fraction_share f = share f.popularity f.count
 
--- A next share, and one block's share more that is not above it.
-pub record NextShareAsked (next : NextShare) (share : Fraction) : Type 0 where
-  pub next_fits : FractionFits next.share
-  pub share-fits : FractionFits share
-  pub share-max : fraction_share share ≤ fraction_share next.share
-  pub blocks-room : next.blocks < max_blocks
+-- A next share as a number, above all shares where no block has one, and how many blocks have it.
+abbrev pub next_share : Option NextShare → ℕ
+next_share None = share_bound
+next_share (Some next) = fraction_share next.share
 
--- That share, and how many blocks have it.
-pub record NextAs (next : NextShare) (share : Fraction) (r : NextShare) : Type 0 where
-  pub share-is : r.share ≡ share
-  pub tied : fraction_share share ≡ fraction_share next.share → r.blocks ≡ suc next.blocks
-  pub replaced : fraction_share share < fraction_share next.share → r.blocks ≡ 1
+abbrev pub next_blocks : Option NextShare → ℕ
+next_blocks None = 0
+next_blocks (Some next) = next.blocks
+
+abbrev pub NextFits : Option NextShare → Type 0
+NextFits None = Unit {0}
+NextFits (Some next) = FractionFits next.share
+
+-- A next share, if there is one, and one block's share more that is not above it.
+pub record NextShareAsked (next : Option NextShare) (share : Fraction) : Type 0 where
+  pub next_fits : NextFits next
+  pub share-fits : FractionFits share
+  pub share-narrow : fraction_share share < share_bound
+  pub share-max : fraction_share share ≤ next_share next
+  pub blocks-room : next_blocks next < max_blocks
+
+-- A next share that some blocks have, with one block more: as it was where that one's share is above it, with one block more where it is
+-- equal, and where it is below, that share and that block alone.
+pub record Joined (next blocks share next' blocks' : ℕ) : Type 0 where
+  pub kept : next < share → (next' ≡ next) × (blocks' ≡ blocks)
+  pub tied : share ≡ next → (next' ≡ next) × (blocks' ≡ suc blocks)
+  pub replaced : share < next → (next' ≡ share) × (blocks' ≡ 1)
+
+pub record NextAs (next : Option NextShare) (share : Fraction) (r : NextShare) : Type 0 where
+  pub fits : FractionFits r.share
+  pub joined : Joined (next_share next) (next_blocks next) (fraction_share share) (fraction_share r.share) r.blocks
 
 -- Estimates are reckoned in parts of a copy.
 abbrev pub parts : ℕ

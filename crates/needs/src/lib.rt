@@ -17,9 +17,6 @@ const PARTS: u64 = 281474976710656;
 
 const UNIT_PARTS: u64 = UNIT * PARTS;
 
-// No popularity is as large.
-const POPULARITY_BOUND: u64 = 4294967296;
-
 // A share before it is divided: a block's popularity, and its count of copies.
 #[derive(Clone, Copy)]
 pub struct Fraction {
@@ -51,15 +48,6 @@ pub struct Extent {
     pub copies: usize,
 }
 
-pub fn larger(a: u64, b: u64) -> u64
-    ensures { result ≡ max a b }
-{
-    if a < b {
-        return b;
-    }
-    a
-}
-
 // The share in units: the popularity times the unit's quotient by the count.
 pub fn share_at(at: Fraction) -> u64
     requires { FractionFits at }
@@ -79,7 +67,8 @@ fn raised(top: u64, share: Fraction) -> u64
     top
 }
 
-// Shares are compared without a division: by the popularities, each times the other's count.
+// Shares are compared without a division: by the popularities, each times the other's count. A function, since `PartialOrd` cannot ask
+// that the products fit.
 fn is_less(a: Fraction, b: Fraction) -> bool
     requires { FractionFits a × FractionFits b }
     ensures { result ≡ ltb (fraction_share a) (fraction_share b) }
@@ -87,17 +76,18 @@ fn is_less(a: Fraction, b: Fraction) -> bool
     a.popularity * (b.count as u64) < b.popularity * (a.count as u64)
 }
 
-// The next share with one block more, whose share with one copy less is not above it.
-fn next_with(next: NextShare, share: Fraction) -> NextShare
+// The next share with one block's share more that is not above it: of equal shares the blocks of both.
+fn next_with(next: Option<NextShare>, share: Fraction) -> NextShare
     requires { NextShareAsked next share }
     ensures { NextAs next share result }
 {
-    let smallest = next.share;
-    if is_less(share, smallest) {
-        return NextShare { share, blocks: 1 };
+    match next {
+        Some(next) if !is_less(share, next.share) => {
+            let blocks = next.blocks + 1;
+            NextShare { share, blocks }
+        }
+        _ => NextShare { share, blocks: 1 },
     }
-    let blocks = next.blocks + 1;
-    NextShare { share, blocks }
 }
 
 // What a popularity is multiplied by to estimate the copies, in parts, that keep its share within the figure; rounded down.
@@ -116,7 +106,7 @@ pub fn needed(demand: u64, figure: u64, scale: u64) -> usize
 {
     let popularity = cluster::popularity_of(demand);
     let estimate = (popularity * scale + (PARTS - 1)) / PARTS;
-    let k = larger(cluster::least_of(demand) as u64, estimate);
+    let k = estimate.max(cluster::least_of(demand) as u64);
     if figure * k < popularity * UNIT {
         return k as usize + 1;
     }
@@ -130,36 +120,35 @@ pub fn tally_of(demands: &[u64], cluster: Cluster, wanted: u64) -> Tally
 {
     let scale = scale_of(wanted);
     let mut total: usize = 0;
-    let none = Fraction {
-        popularity: POPULARITY_BOUND,
-        count: 1,
-    };
-    let mut next = NextShare {
-        share: none,
-        blocks: 0,
-    };
-    let mut i: usize = 0;
-    while i < cluster.blocks {
-        let demand = demands[i];
+    let mut next: Option<NextShare> = None;
+    for &demand in &demands[..cluster.blocks] {
         let count = needed(demand, wanted, scale);
         total += count;
         if count > cluster::least_of(demand) {
             let popularity = cluster::popularity_of(demand);
             let count = count - 1;
             let share = Fraction { popularity, count };
-            let smallest = next.share;
-            if !is_less(smallest, share) {
-                next = next_with(next, share);
+            if let Some(smallest) = next
+                && is_less(smallest.share, share)
+            {
+                continue;
             }
+            next = Some(next_with(next, share));
         }
-        i += 1;
     }
-    let fewer = total - next.blocks;
+    // Where all blocks have their least copies, the needs stay the same at any larger figure.
+    let Some(next) = next else {
+        return Tally {
+            total,
+            next: wanted + 1,
+            fewer: total,
+        };
+    };
     let share = next.share;
     Tally {
         total,
         next: share_at(share),
-        fewer,
+        fewer: total - next.blocks,
     }
 }
 
@@ -172,9 +161,7 @@ pub fn extent_of(demands: &[u64], cluster: Cluster) -> Extent
     let mut high: u64 = 0;
     let mut total: u64 = 0;
     let mut copies: usize = 0;
-    let mut i: usize = 0;
-    while i < cluster.blocks {
-        let demand = demands[i];
+    for &demand in &demands[..cluster.blocks] {
         let popularity = cluster::popularity_of(demand);
         let count = cluster::most_of(demand);
         low = raised(low, Fraction { popularity, count });
@@ -182,7 +169,6 @@ pub fn extent_of(demands: &[u64], cluster: Cluster) -> Extent
         high = raised(high, Fraction { popularity, count });
         total += popularity;
         copies += count;
-        i += 1;
     }
     Extent {
         low,

@@ -7,16 +7,18 @@ use lib.ListN.{length, take}
 use Rattle.model.specs.Listing.{printed, step_limit, listing_room, print_call}
 use Rattle.theory.proofs.Listing.{wrote-size, wrote-part, wrote-never, print_call-made}
 use Rattle.listing.specs.Entries.{listing_outcome}
-use Rattle.listing.specs.declared.ListingAnswer.TheVariants.{Refused, Listed}
+use Rattle.std.proofs.Common.{Ok, Err}
+use Rattle.refusal.specs.declared.Refusal.{Refusal}
+use Rattle.refusal.specs.Rows.{number_of}
 
 -- ── print_call ────────────────────────────────────────────────────────────────────────────────────
 module _ (bytes text after : List ℕ) (enough : listing_room ≤ length text) where
   -- a text with room is never refused
-  pub print_call-never : (code : ℕ) → listing_outcome (Refused code) after ≡ print_call bytes step_limit text → ⊥
+  pub print_call-never : (refusal : Refusal) → listing_outcome (Err refusal) after ≡ print_call bytes step_limit text → ⊥
   unfolding listing_outcome
-  print_call-never code e = wrote-never (printed bytes step_limit) text after code (e ∙ print_call-made bytes text step_limit enough)
+  print_call-never refusal e = wrote-never (printed bytes step_limit) text after (number_of refusal) (e ∙ print_call-made bytes text step_limit enough)
 
-  module _ (size : ℕ) (e : listing_outcome (Listed size) after ≡ print_call bytes step_limit text) where
+  module _ (size : ℕ) (e : listing_outcome (Ok size) after ≡ print_call bytes step_limit text) where
     pub print_call-size : size ≡ length (printed bytes step_limit)
     unfolding listing_outcome
     print_call-size = wrote-size (printed bytes step_limit) text after size (e ∙ print_call-made bytes text step_limit enough)

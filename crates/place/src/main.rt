@@ -1,15 +1,12 @@
 // The program: reads a plan from standard input and prints its listing, or `refused` and the number.
 #![tactic(auto)]
 
-ghost use Rattle.std.specs.Prelude.{◌≡◌, ◌≤◌, length, IfOk, IfSome, OnOk};
+ghost use Rattle.std.specs.Prelude.{◌≡◌, ◌≤◌, length, IfSome, OnOk};
 ghost use Rattle.std.specs.Io.KnownBytes.{Appends};
 ghost use Rattle.model.specs.Listing.{printed, step_limit, listing_room, print_call};
 ghost use Rattle.listing.specs.Entries.{listing_outcome};
-ghost use Rattle.input.specs.Input.{SourceIs, InputIs};
-ghost use Rattle.place.specs.Output.{listed_output};
 
-use input::{Input, Source};
-use listing::ListingAnswer;
+use refusal::Refusal;
 use std::io::{Read, Write};
 use std::process::ExitCode;
 use std::{fmt, io};
@@ -17,7 +14,7 @@ use std::{fmt, io};
 const STEP_LIMIT: u32 = 100000;
 
 // Prints for the bytes into a lent text, with the program's step limit.
-fn print(bytes: &[u8], text: &mut [u8]) -> ListingAnswer
+fn print(bytes: &[u8], text: &mut [u8]) -> Result<usize, Refusal>
     ensures { listing_outcome result text.new ≡ print_call bytes.now step_limit text.old }
 {
     listing::print(bytes, STEP_LIMIT, text)
@@ -28,25 +25,10 @@ fn list<'a>(bytes: &[u8], text: &'a mut [u8]) -> &'a mut [u8]
     requires { listing_room ≤ length text.old }
     ensures { result.now ≡ printed bytes.now step_limit }
 {
-    let answer = print(bytes, text);
-    let ListingAnswer::Listed(size) = answer else {
+    let Ok(size) = print(bytes, text) else {
         return &mut text[..0];
     };
     &mut text[..size]
-}
-
-// The part of a lent text that holds the output: what is printed for the bytes that came, nothing where a read failed.
-fn output<'a>(source: Source, text: &'a mut [u8]) -> &'a mut [u8]
-    requires { SourceIs source × (listing_room ≤ length text.old) }
-    ensures { result.now ≡ listed_output source }
-{
-    let bytes = source.bytes;
-    let input = source.input;
-    match input {
-        Input::Failed => &mut text[..0],
-        Input::Ended(size) => list(&bytes[..size], text),
-        Input::Full => list(&bytes, text),
-    }
 }
 
 // Why nothing was printed, or not all of it: standard input or standard output failed.
@@ -65,15 +47,11 @@ impl fmt::Display for Failure {
     }
 }
 
-// Writes the output for what was read, and nothing else.
-fn write<W: Write>(out: &mut W, source: Source, text: &[u8]) -> Result<(), Failure>
-    requires { SourceIs source × (text.now ≡ listed_output source) }
-    ensures { OnOk result (Appends (W.contents out.old) (W.contents out.new) (listed_output source)) }
+// Writes what is printed for the bytes that came, and nothing else.
+fn write<W: Write>(out: &mut W, bytes: &[u8], text: &[u8]) -> Result<(), Failure>
+    requires { text.now ≡ printed bytes.now step_limit }
+    ensures { OnOk result (Appends (W.contents out.old) (W.contents out.new) (printed bytes.now step_limit)) }
 {
-    let input = source.input;
-    if let Input::Failed = input {
-        return Err(Failure::Input(input::read_failed()));
-    }
     out.write_all(text).map_err(Failure::Output)
 }
 
@@ -84,8 +62,8 @@ fn run<R: Read, W: Write>(reader: &mut R, out: &mut W) -> Result<(), Failure>
 {
     let source = input::fill(reader).map_err(Failure::Input)?;
     let mut text = [0u8; 65536];
-    let part = output(source, &mut text);
-    write(out, source, part)
+    let part = list(source.bytes(), &mut text);
+    write(out, source.bytes(), part)
 }
 
 fn main(rt: HostRuntime) -> ExitCode {

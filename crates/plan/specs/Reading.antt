@@ -1,15 +1,13 @@
 -- What the reader's answers say, in the model's terms.
-use Rattle.std.specs.Prelude.{◌≡◌, List, ℕ, ◌<◌, ◌≤◌, length}
+use Rattle.std.specs.Prelude.{◌≡◌, List, ℕ, ◌<◌, ◌≤◌, length, Result, Ok, Err}
 use Rattle.order.specs.Table.{table, filled}
 use Rattle.model.specs.Plan.{Plan, min_total, format_in, record_at, block_in, plan_in}
 use Rattle.model.specs.Refusal.{blocks_refusal, Verdict, refused, accepted, judge}
+use Rattle.refusal.specs.declared.Refusal.{Refusal}
+use Rattle.refusal.specs.Rows.{number_of}
 use Rattle.cluster.specs.Cluster.{ClusterOf}
 use Rattle.cluster.specs.Blocks.{demand_of, DemandsFit}
 use Rattle.header.specs.declared.Header.{Header}
-use Rattle.plan.specs.declared.Reading.{Reading}
-use Rattle.plan.specs.declared.Reading.TheVariants.{Refused, Accepted}
-use Rattle.plan.specs.declared.Records.{Records}
-use Rattle.plan.specs.declared.Records.TheVariants.{Fault, Total}
 
 -- The plan with a header's fields and the records of the bytes.
 unfoldable pub plan_of : List ℕ → Header → Plan
@@ -25,9 +23,9 @@ plan_of bytes h =
     }
 
 -- The reader's answer on these bytes, as the model's verdict.
-unfoldable pub verdict_of : List ℕ → Reading → Verdict
-verdict_of bytes (Refused code) = refused code
-verdict_of bytes (Accepted h) = accepted (plan_of bytes h)
+unfoldable pub verdict_of : List ℕ → Result Header Refusal → Verdict
+verdict_of bytes (Err refusal) = refused (number_of refusal)
+verdict_of bytes (Ok h) = accepted (plan_of bytes h)
 
 pub record FaultAs (bytes : List ℕ) (code : ℕ) : Type 0 where
   pub is : blocks_refusal (plan_in bytes) ≡ code
@@ -38,9 +36,9 @@ pub record TotalAs (bytes : List ℕ) (total : ℕ) : Type 0 where
   pub is : total ≡ min_total (plan_in bytes)
 
 -- What the pass over the records finds.
-abbrev pub RecordsRead : List ℕ → Records → Type 0
-RecordsRead bytes (Fault code) = FaultAs bytes code
-RecordsRead bytes (Total total) = TotalAs bytes total
+abbrev pub RecordsRead : List ℕ → Result ℕ Refusal → Type 0
+RecordsRead bytes (Err refusal) = FaultAs bytes (number_of refusal)
+RecordsRead bytes (Ok total) = TotalAs bytes total
 
 -- What taking the records apart is given: an accepted plan's bytes with its header, and room for its demands.
 pub record DecodeAsked (bytes : List ℕ) (h : Header) (demands : List ℕ) : Type 0 where

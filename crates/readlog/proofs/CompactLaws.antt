@@ -12,7 +12,7 @@ use Rattle.order.proofs.Selects.{select-snoc}
 use Rattle.model.specs.declared.Entry.{Entry}
 use Rattle.model.specs.ReadLog.{no_entry, in_window, current}
 use Rattle.readwindow.specs.Window.{kept_with}
-use Rattle.readlog.specs.Records.{Swept, sweep, swept, SweptTo, cleared, compacted, CompactedAs}
+use Rattle.readlog.specs.Records.{Swept, sweep, swept, SweptTo, compacted, CompactedAs}
 use Rattle.readlog.proofs.SweptLaws.{swept-length, swept_kept}
 
 -- Kept entries, n cleared records, and the rest of the list.
@@ -91,15 +91,9 @@ module _ (tick : ℕ) (list : List Entry) where
       front-more i (swept tick list i).list (swept tick list i).kept below (swept-length tick list i) (swept_kept tick list i)
       (swept-front i (omega arith))
 
-pub swept-most : (tick span count : ℕ) (list list' : List Entry) (kept : ℕ) → count ≤ span → SweptTo tick count list list' kept → kept ≤ span
-swept-most tick span count list list' kept below to =
-    let most = swept_kept tick list count in
-    let is = to.kept-is in
-    omega (arith, most, is)
-
 pub cleared-compacted : (tick span count : ℕ) (list list' : List Entry) (kept : ℕ) → span ≤ length list → count ≤ span
-    → SweptTo tick count list list' kept → CompactedAs tick span count list (cleared kept span list') kept
-unfolding cleared compacted
+    → SweptTo tick count list list' kept → CompactedAs tick span count list (take kept list' ++ replicate (span - kept) no_entry ++ drop span list') kept
+unfolding compacted
 cleared-compacted tick span count list list' kept room below to =
     let at = swept-front tick list count (omega arith) in
     let number : kept ≡ length (current tick (take count list)) = to.kept-is ∙ at.number in

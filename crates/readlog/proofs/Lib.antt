@@ -1,4 +1,2 @@
-pub mod CountLaws
 pub mod SweptLaws
-pub mod ClearLaws
 pub mod CompactLaws

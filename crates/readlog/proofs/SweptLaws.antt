@@ -13,7 +13,7 @@ use Rattle.model.specs.ReadLog.{no_entry, age, window}
 use Rattle.readwindow.specs.Window.{kept_with}
 use Rattle.readlog.specs.Records.{sweep, swept}
 
-pub kept_with-max : (kept now tick : ℕ) → kept_with kept now tick ≤ kept + 1
+kept_with-max : (kept now tick : ℕ) → kept_with kept now tick ≤ kept + 1
 unfolding kept_with
 kept_with-max kept now tick = go (ltb (age now tick) window)
   where

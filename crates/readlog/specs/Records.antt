@@ -1,12 +1,12 @@
 -- What the functions over a lent list do, record by record and as a whole.
-use Rattle.std.specs.Prelude.{◌≡◌, cond, List, ◌++◌, ℕ, zero, suc, ◌-◌, ltb, eqb, length, get_or, set, take, drop, replicate}
+use Rattle.std.specs.Prelude.{◌≡◌, cond, List, ◌++◌, ℕ, zero, suc, ◌-◌, ltb, length, get_or, set, take, drop, replicate, Option, option_map, slice_get}
 use Rattle.model.specs.declared.Entry.{Entry}
 use Rattle.model.specs.ReadLog.{no_entry, current}
 use Rattle.readwindow.specs.Window.{kept_with}
 
--- The tick of the last of so many entries; `tick` where there is none.
-unfoldable pub last_or : List Entry → ℕ → ℕ → ℕ
-last_or list count tick = cond (eqb count 0) tick (get_or list (count - 1) no_entry).tick
+-- The tick of the last entry, if there is one.
+abbrev pub last_in : List Entry → Option ℕ
+last_in list = option_map (λ (e : Entry). e.tick) (slice_get list (length list - 1))
 
 -- The list and the number of entries kept, after so many records.
 pub record Swept : Type 0 where
@@ -26,10 +26,6 @@ swept tick list (suc i) = sweep tick i (swept tick list i)
 pub record SweptTo (tick count : ℕ) (list list' : List Entry) (kept : ℕ) : Type 0 where
   pub list-is : list' ≡ (swept tick list count).list
   pub kept-is : kept ≡ (swept tick list count).kept
-
--- The records from `start` up to `span` become 0.
-unfoldable pub cleared : ℕ → ℕ → List Entry → List Entry
-cleared start span list = take start list ++ replicate (span - start) no_entry ++ drop span list
 
 -- The entries kept of the first `count`, cleared records up to `span`, and the list's own behind them.
 unfoldable pub compacted : ℕ → ℕ → ℕ → List Entry → List Entry

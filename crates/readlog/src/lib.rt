@@ -4,19 +4,18 @@
 
 ghost use Rattle.std.specs.Prelude.{◌≡◌, ◌≤◌, length, take};
 ghost use Rattle.model.specs.ReadLog.{entry, reads_of};
-ghost use Rattle.readlog.specs.Records.{last_or, SweptTo, cleared, CompactedAs, appended};
+ghost use Rattle.readwindow.specs.Window.{read_number};
+ghost use Rattle.readlog.specs.Records.{last_in, SweptTo, CompactedAs, appended};
 
 use model::Entry;
+use refusal::Refusal;
 
-// The tick of the last of `count` entries; `tick` where there is none.
-pub fn last_tick(list: &[Entry], count: usize, tick: u32) -> u32
+// The tick of the last of `count` entries.
+pub fn last_tick(list: &[Entry], count: usize) -> Option<u32>
     requires { count ≤ length list.now }
-    ensures { result ≡ last_or list.now count tick }
+    ensures { result ≡ last_in (take count list.now) }
 {
-    if count == 0 {
-        return tick;
-    }
-    list[count - 1].tick
+    list[..count].last().map(|e| e.tick)
 }
 
 // The number of a block's entries among the first `count` records.
@@ -24,42 +23,23 @@ pub fn reads_of(list: &[Entry], count: usize, block: u32) -> usize
     requires { count ≤ length list.now }
     ensures { result ≡ reads_of block (take count list.now) }
 {
-    let mut found: usize = 0;
-    let mut i: usize = 0;
-    while i < count {
-        found = readwindow::tally(found, list[i].block, block);
-        i += 1;
-    }
-    found
+    list[..count].iter().filter(|e| e.block == block).count()
 }
 
 // Moves the entries of the window among the first `count` records to the front, in order, and answers how many they are. What stands
 // behind them is of no use.
 fn compact(list: &mut [Entry], count: usize, tick: u32) -> usize
     requires { count ≤ length list.old }
-    ensures { SweptTo tick count list.old list.new result }
+    ensures swept { SweptTo tick count list.old list.new result }
+    ensures most { result ≤ count }
 {
     let mut kept: usize = 0;
-    let mut i: usize = 0;
-    while i < count {
+    for i in 0..count {
         let e = list[i];
         list[kept] = e;
-        kept = readwindow::keep(kept, tick, e.tick);
-        i += 1;
+        kept += usize::from(readwindow::is_current(tick, e.tick));
     }
     kept
-}
-
-// Clears the records from `start` up to `span`.
-fn clear(list: &mut [Entry], start: usize, span: usize)
-    requires { (start ≤ span) × (span ≤ length list.old) }
-    ensures { list.new ≡ cleared start span list.old }
-{
-    let mut i = start;
-    while i < span {
-        list[i] = Entry { block: 0, tick: 0 };
-        i += 1;
-    }
 }
 
 // Drops the entries that are too old: the others move to the front in order, and the later records below `span` are cleared. Answers how
@@ -69,19 +49,23 @@ pub fn drop_old(list: &mut [Entry], span: usize, count: usize, tick: u32) -> usi
     ensures { CompactedAs tick span count list.old list.new result }
 {
     let kept = compact(list, count, tick);
-    clear(list, kept, span);
+    list[kept..span].fill(Entry { block: 0, tick: 0 });
     kept
 }
 
-// Stores an entry at a place below `span`; nothing where the place is not.
-pub fn append(list: &mut [Entry], at: usize, span: usize, block: u32, tick: u32)
+// Stores an entry at a place below `span`, and answers the new count; stores nothing where the place is not.
+pub fn append(
+    list: &mut [Entry],
+    at: usize,
+    span: usize,
+    block: u32,
+    tick: u32,
+) -> Result<u64, Refusal>
     requires { span ≤ length list.old }
-    ensures { list.new ≡ appended (entry block tick) at span list.old }
+    ensures answer { result ≡ read_number at span }
+    ensures list { list.new ≡ appended (entry block tick) at span list.old }
 {
-    if at < span {
-        list[at] = Entry {
-            block: block,
-            tick: tick,
-        };
-    }
+    let count = readwindow::new_count(at, span)?;
+    list[at] = Entry { block, tick };
+    Ok(count)
 }

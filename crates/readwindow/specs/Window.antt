@@ -1,33 +1,23 @@
--- What is counted of each entry of a list, one after the other, and what becomes of a call's refusal code.
-use Rattle.std.specs.Prelude.{ℕ, zero, suc, ◌+◌, max, cond, not, ◌==◌, nat_lt}
-use Rattle.model.specs.Refusal.{refuse_if, or_else}
+-- What is counted of each entry of a list, and the checks of a read on numbers.
+use Rattle.std.specs.Prelude.{Bool, ℕ, ◌+◌, cond, not, nat_lt, Option, None, Some, Result, Ok, Err}
+use Rattle.model.specs.Refusal.{refuse_if}
 use Rattle.model.specs.ReadLog.{age, window, gap_bound}
-use Rattle.readwindow.specs.declared.ReadsAnswer.{ReadsAnswer}
-use Rattle.readwindow.specs.declared.ReadsAnswer.TheVariants.{Refused, Number}
+use Rattle.refusal.specs.declared.Refusal.{Refusal}
+use Rattle.refusal.specs.declared.Refusal.TheVariants.{FullList}
 
--- The code so far, else 20 where the last tick's age is 2 to the power 31 or more.
-unfoldable pub gap_code : ℕ → ℕ → ℕ → ℕ
-gap_code code tick last = or_else code (refuse_if (not (nat_lt (age tick last) gap_bound)) 20 0)
+-- 20 where there is a last tick and its age is 2 to the power 31 or more.
+abbrev pub gap_code : ℕ → Option ℕ → ℕ
+gap_code tick None = 0
+gap_code tick (Some last) = refuse_if (not (nat_lt (age tick last) gap_bound)) 20 0
 
--- So many where the code is 0, else none.
-unfoldable pub unrefused : ℕ → ℕ → ℕ
-unrefused code n = cond (code == 0) n 0
+-- Whether an entry of this tick is in the window.
+abbrev pub is_current : ℕ → ℕ → Bool
+is_current now tick = nat_lt (age now tick) window
 
 -- The number of entries kept, with the next one.
 unfoldable pub kept_with : ℕ → ℕ → ℕ → ℕ
-kept_with kept now tick = cond (nat_lt (age now tick) window) (kept + 1) kept
+kept_with kept now tick = cond (is_current now tick) (kept + 1) kept
 
--- The number of a block's entries, with the next record's.
-unfoldable pub tallied : ℕ → ℕ → ℕ → ℕ
-tallied before found block = cond (found == block) (before + 1) before
-
--- A refusal, or a number of entries: of a popularity the larger of two, of a read one more than are kept, unless the list is full.
-abbrev pub number_unless : ℕ → ReadsAnswer → ReadsAnswer
-number_unless zero answer = answer
-number_unless (suc code) answer = Refused (suc code)
-
-unfoldable pub popularity_number : ℕ → ℕ → ℕ → ReadsAnswer
-popularity_number code own other = number_unless code (Number (max own other))
-
-unfoldable pub read_number : ℕ → ℕ → ℕ → ReadsAnswer
-read_number code kept span = number_unless code (cond (nat_lt kept span) (Number (kept + 1)) (Refused 21))
+-- Of a read: one more than are kept, unless the list is full.
+abbrev pub read_number : ℕ → ℕ → Result ℕ Refusal
+read_number kept span = cond (nat_lt kept span) (Ok (kept + 1)) (Err FullList)

@@ -5,6 +5,7 @@ ghost use Rattle.std.specs.Prelude.{◌≡◌, cond, ℕ, ◌/◌, ◌<◌, ◌�
 ghost use Rattle.model.specs.Plan.{Plan, machines, block_count, is_paired, max_replicas, upper, block_in};
 ghost use Rattle.model.specs.Refusal.{max_machines, check8, check9, alike, pair_refusal};
 ghost use Rattle.theory.specs.Widths.{most_replicas, popularity_bound};
+ghost use Rattle.refusal.specs.Rows.{code_of};
 ghost use Rattle.cluster.specs.Cluster.{machines_in, InRange};
 ghost use Rattle.cluster.specs.Blocks.{link_of};
 ghost use Rattle.header.specs.Format.{as_format};
@@ -12,6 +13,7 @@ ghost use Rattle.records.specs.Records.{RecordIn, RecordsIn, RecordsOf};
 
 use cluster::Cluster;
 use header::Format;
+use refusal::Refusal;
 
 // The popularity of block i. With a width that is known to the compiler the bytes are read without a loop.
 pub fn popularity(bytes: &[u8], format: Format, i: usize) -> u64
@@ -56,6 +58,7 @@ pub fn pair_byte(bytes: &[u8], format: Format, i: usize) -> usize
 }
 
 // The link of block i to its partner: 2 to the next block, 0 to the preceding one, 1 where it has none.
+// It stays a number: a demand's word keeps it in two bits, and the partner is block i + link - 1.
 pub fn link(bytes: &[u8], format: Format, i: usize) -> usize
     requires { RecordIn bytes.now (as_format format) i }
     ensures { ((p : Plan) → RecordsOf p (as_format format) bytes.now → i < block_count p → result ≡ link_of p i) × (result < 4) }
@@ -104,34 +107,20 @@ pub fn upper_count(version: usize, cluster: Cluster, link: usize) -> usize
     ensures { ((p : Plan) (i : ℕ) → version ≡ p.version → machines_in cluster ≡ machines p → link ≡ link_of p i
         → result ≡ upper p i) × (result < 256) }
 {
-    let most = max_replicas(version);
-    let machines = machines_for(cluster, link);
-    if machines < most {
-        return machines;
-    }
-    most
+    max_replicas(version).min(machines_for(cluster, link))
 }
 
-// Checks 8 and 9 of one block; 0 where both pass.
-pub fn block_refusal(most: usize, domains: usize, least: usize, spread: usize) -> u8
-    ensures { result ≡ check8 most least (check9 domains least spread 0) }
+// Checks 8 and 9 of one block.
+pub fn check_block(most: usize, domains: usize, least: usize, spread: usize) -> Result<(), Refusal>
+    ensures { code_of result ≡ check8 most least (check9 domains least spread 0) }
 {
-    if least == 0 {
-        return 8;
+    if least == 0 || least > most {
+        return Err(Refusal::LeastCopies);
     }
-    if least > most {
-        return 8;
+    if spread == 0 || spread > least || spread > domains {
+        return Err(Refusal::Spread);
     }
-    if spread == 0 {
-        return 9;
-    }
-    if spread > least {
-        return 9;
-    }
-    if spread > domains {
-        return 9;
-    }
-    0
+    Ok(())
 }
 
 // Whether blocks i and j have the same popularity, least copies and spread.
@@ -139,36 +128,27 @@ fn are_alike(bytes: &[u8], format: Format, i: usize, j: usize) -> bool
     requires { RecordIn bytes.now (as_format format) i × RecordIn bytes.now (as_format format) j }
     ensures { result ≡ alike (block_in (as_format format) bytes.now i) (block_in (as_format format) bytes.now j) }
 {
-    if popularity(bytes, format, i) != popularity(bytes, format, j) {
-        return false;
-    }
-    if min_replicas(bytes, format, i) != min_replicas(bytes, format, j) {
-        return false;
-    }
-    min_domains(bytes, format, i) == min_domains(bytes, format, j)
+    popularity(bytes, format, i) == popularity(bytes, format, j)
+        && min_replicas(bytes, format, i) == min_replicas(bytes, format, j)
+        && min_domains(bytes, format, i) == min_domains(bytes, format, j)
 }
 
-// Check 17 of block i; 0 where it passes.
-pub fn pair_refusal(bytes: &[u8], format: Format, blocks: usize, i: usize) -> u8
+// Check 17 of block i.
+pub fn check_pair(bytes: &[u8], format: Format, blocks: usize, i: usize) -> Result<(), Refusal>
     requires { RecordsIn bytes.now (as_format format) blocks × (i < blocks) }
-    ensures { (p : Plan) → RecordsOf p (as_format format) bytes.now → blocks ≡ block_count p → result ≡ pair_refusal p i }
+    ensures { (p : Plan) → RecordsOf p (as_format format) bytes.now → blocks ≡ block_count p → code_of result ≡ pair_refusal p i }
 {
     let byte = pair_byte(bytes, format, i);
-    if byte > 1 {
-        return 17;
-    }
     if byte == 0 {
-        return 0;
+        return Ok(());
     }
     let next = i + 1;
-    if next == blocks {
-        return 17;
+    if byte > 1
+        || next == blocks
+        || pair_byte(bytes, format, next) == 1
+        || !are_alike(bytes, format, i, next)
+    {
+        return Err(Refusal::PairByte);
     }
-    if pair_byte(bytes, format, next) == 1 {
-        return 17;
-    }
-    if !are_alike(bytes, format, i, next) {
-        return 17;
-    }
-    0
+    Ok(())
 }

@@ -1,14 +1,16 @@
 -- Laws of the blocks that go and of words that are overwritten.
 -- Assumes nothing.
-use mathlib.Core.Path.{◌≡◌, refl, ap, sym, ◌∙◌}
+use mathlib.Core.Path.{◌≡◌, refl, ap, ap₂, sym, ◌∙◌}
 use mathlib.Core.Bool.{Bool, true, false, cond}
-use mathlib.Core.List.{List}
-use Prim.Native.Nat.{ℕ, ◌+◌, ◌-◌, ◌<◌, ◌≤◌}
-use native.Mathlib.Decide.{ℕ_discrete, dec_lt}
+use mathlib.Core.List.{List, ◌++◌}
+use Prim.Native.Nat.{ℕ, ◌+◌, ◌-◌, ◌<◌}
 use native.Mathlib.Omega.{arith}
-use lib.ListN.{length, get_or, set, length-set}
-use lib.Seq.{get_or-set_same, get_or-set_other}
-use Rattle.order.proofs.Tables.{uncut, uncut-below, uncut-from, closed_is}
+use borrow.Rule.Slice.PartMut.{put_mid}
+use lib.ListN.{length, get_or, take, drop, replicate, length-append, length-take, length-drop}
+use Rattle.std.proofs.Common.{append_assoc}
+use lib.Seq.{paste, take-take, take_at, drop_at, drop-drop}
+use Rattle.std.proofs.lemmas.Slice.{between_is}
+use Rattle.order.specs.Table.{cut}
 use Rattle.model.specs.Plan.{Plan, block_count, pairs_next, pairs_back}
 use Rattle.model.specs.Recordings.{after_deletion}
 use Rattle.theory.specs.Refusal.{Shaped}
@@ -18,7 +20,7 @@ use Rattle.cluster.specs.declared.Cluster.{Cluster}
 use Rattle.cluster.specs.Blocks.{link_of, link_in, ProfilesOf}
 use Rattle.cluster.proofs.Laws.{cluster-blocks, link_of-single, profile_of-link}
 use Rattle.removal.specs.declared.Gone.{Gone}
-use Rattle.removal.specs.Removal.{GoneOf, GoneWith, CloseAsked, closed_up, Overwritten, Removed}
+use Rattle.removal.specs.Removal.{GoneOf, GoneWith, CloseAsked, closed_up, Removed}
 
 -- ── GoneOf ───────────────────────────────────────────────────────────────────────────────────────
 
@@ -57,44 +59,36 @@ gone-head p shaped i l single back =
     let marked = link-next p i single back in
     record { first-is = sym (first_gone-head p shaped i l marked); count-is = sym (gone_count-paired p i (is_paired-first p i marked)) }
 
--- ── Overwritten ──────────────────────────────────────────────────────────────────────────────────
-
-pub overwritten-none : (words : List ℕ) (from : ℕ) (f : ℕ → ℕ) → Overwritten words from from f words
-overwritten-none words from f = record { sized = refl; here = λ k l h. absurd (omega arith); others = λ k apart. refl }
-
-pub overwritten-more : {words later : List ℕ} {from to v : ℕ} {f : ℕ → ℕ} → Overwritten words from to f later → from ≤ to
-    → to < length words → v ≡ f to → Overwritten words from (to + 1) f (set later to v)
-overwritten-more {later = later} {from} {to} {v} past start room is =
-    record {
-      sized = length-set later to v ∙ past.sized;
-      here = λ k l h. elim (ℕ_discrete k to) [
-        | yes e ↦ rw e (get_or-set_same later to v 0 (omega (arith, past.sized)) ∙ is)
-        | no d ↦ get_or-set_other later to k v 0 d ∙ past.here k l (omega arith)
-      ];
-      others = λ k apart.
-          get_or-set_other later to k v 0 (λ e. apart (omega arith) (omega arith)) ∙ past.others k (λ l h. apart l (omega arith));
-    }
-
 -- ── closed_up ─────────────────────────────────────────────────────────────────────────────────────
 
 -- the words moved down, and the vacated ones cleared
-pub closed_up-made : (words moved later : List ℕ) (blocks first count : ℕ) → CloseAsked words blocks first count
-    → Overwritten words first (blocks - count) (λ (k : ℕ). get_or words (k + count) 0) moved
-    → Overwritten moved (blocks - count) blocks (λ (k : ℕ). 0) later
-    → later ≡ closed_up blocks first count words
-unfolding closed_up
-closed_up-made words moved later blocks first count asked down zeros =
-    closed_is blocks first count 0 words asked.inside asked.room 0 later
-    (zeros.sized ∙ down.sized)
-    (λ k l. zeros.others k (λ a b. omega arith) ∙ kept k l)
-    zeros.here
-    (λ k l. zeros.others k (λ a b. omega arith) ∙ down.others k (λ a b. omega arith))
+pub closed_up-made : (words moved zeros : List ℕ) (blocks first count : ℕ) → CloseAsked words blocks first count
+    → moved ≡ paste words first (drop (first + count) words) (blocks - (first + count)) → zeros ≡ replicate count 0
+    → put_mid (blocks - count) (blocks - (blocks - count)) moved zeros ≡ closed_up blocks first count words
+unfolding closed_up cut
+closed_up-made words moved zeros blocks first count asked copied cleared =
+    ap₂ ◌++◌ kept (ap₂ ◌++◌ cleared later)
+    ∙ sym (append_assoc (cut first count (take blocks words)) (replicate count 0) (drop blocks words))
   where
-    kept : (k : ℕ) → k < blocks - count → get_or moved k 0 ≡ get_or words (uncut first count k) 0
-    kept k l = elim (dec_lt k first) [
-      | yes h ↦ down.others k (λ a b. omega arith) ∙ ap (λ (j : ℕ). get_or words j 0) (sym (uncut-below first count k h))
-      | no h ↦ down.here k (omega arith) l ∙ ap (λ (j : ℕ). get_or words j 0) (sym (uncut-from first count k (omega arith)))
-    ]
+    left : List ℕ
+    left = take first words ++ take (blocks - (first + count)) (drop (first + count) words)
+
+    left-sized : length left ≡ blocks - count
+    left-sized =
+        length-append (take first words) (take (blocks - (first + count)) (drop (first + count) words))
+        ∙ (omega (arith, asked.inside, asked.room, length-take first words, length-take (blocks - (first + count)) (drop (first + count) words), length-drop (first + count) words))
+
+    kept : take (blocks - count) moved ≡ cut first count (take blocks words)
+    kept =
+        ap (take (blocks - count)) copied ∙ take_at left (drop (first + (blocks - (first + count))) words) (blocks - count) left-sized
+        ∙ ap₂ ◌++◌ (sym (take-take first blocks words (omega (arith, asked.inside)))) (between_is words (first + count) blocks)
+
+    later : drop (blocks - (blocks - count)) (drop (blocks - count) moved) ≡ drop blocks words
+    later =
+        ap (λ (l : List ℕ). drop (blocks - (blocks - count)) (drop (blocks - count) l)) copied
+        ∙ ap (drop (blocks - (blocks - count))) (drop_at left (drop (first + (blocks - (first + count))) words) (blocks - count) left-sized)
+        ∙ drop-drop (blocks - (blocks - count)) (first + (blocks - (first + count))) words
+        ∙ ap (λ (n : ℕ). drop n words) {x = first + (blocks - (first + count)) + (blocks - (blocks - count))} {y = blocks} (omega (arith, asked.inside))
 
 -- ── Removed ──────────────────────────────────────────────────────────────────────────────────────
 

@@ -1,5 +1,5 @@
 -- What the functions of a deletion ask for and give.
-use Rattle.std.specs.Prelude.{◌≡◌, List, ◌++◌, ℕ, ◌+◌, ◌<◌, ◌≤◌, length, get_or, take, drop, replicate}
+use Rattle.std.specs.Prelude.{◌≡◌, List, ◌++◌, ℕ, ◌+◌, ◌<◌, ◌≤◌, length, take, drop, replicate}
 use Rattle.order.specs.Table.{cut}
 use Rattle.model.specs.Plan.{Plan, block_count}
 use Rattle.model.specs.Recordings.{first_gone, gone_count, after_deletion}
@@ -25,12 +25,6 @@ pub record CloseAsked (words : List ℕ) (blocks first count : ℕ) : Type 0 whe
 -- The other words of the `blocks` in order, the vacated ones 0, and the words past them as they were.
 unfoldable pub closed_up : ℕ → ℕ → ℕ → List ℕ → List ℕ
 closed_up blocks first count words = cut first count (take blocks words) ++ replicate count 0 ++ drop blocks words
-
--- The words from `from` on and below `to` are those of f, the others as they were.
-pub record Overwritten (words : List ℕ) (from to : ℕ) (f : ℕ → ℕ) (words' : List ℕ) : Type 0 where
-  pub sized : length words' ≡ length words
-  pub here : (k : ℕ) → from ≤ k → k < to → get_or words' k 0 ≡ f k
-  pub others : (k : ℕ) → (from ≤ k → k < to → ⊥) → get_or words' k 0 ≡ get_or words k 0
 
 -- Block i is deleted from the words of plan p.
 pub record Removed (p : Plan) (i : ℕ) (words words' : List ℕ) (gone : Gone) : Type 0 where

@@ -1,10 +1,10 @@
 // A block deleted from a placement's words: which blocks go, and the later ones close up.
 #![tactic(auto)]
 
-ghost use Rattle.std.specs.Prelude.{◌≡◌, ℕ, ◌+◌, ◌<◌, ◌≤◌, length, get_or};
+ghost use Rattle.std.specs.Prelude.{◌≡◌, ℕ, ◌+◌, ◌<◌, ◌≤◌};
 ghost use Rattle.model.specs.Plan.{Plan};
 ghost use Rattle.cluster.specs.Blocks.{link_in, PlacementFits, ProfilesOf};
-ghost use Rattle.removal.specs.Removal.{GoneWith, CloseAsked, closed_up, Overwritten, Removed};
+ghost use Rattle.removal.specs.Removal.{GoneWith, CloseAsked, closed_up, Removed};
 
 use cluster::Cluster;
 
@@ -20,40 +20,13 @@ pub fn gone_with(word: u64, i: usize) -> Gone
     requires { 1 ≤ i + link_in word }
     ensures { GoneWith word i result }
 {
-    let link = cluster::link_of(word);
-    if link == 1 {
-        return Gone { first: i, count: 1 };
-    }
-    if link == 0 {
-        return Gone {
+    match cluster::link_of(word) {
+        0 => Gone {
             first: i - 1,
             count: 2,
-        };
-    }
-    Gone { first: i, count: 2 }
-}
-
-// The words from `first` on and below `end` take those `count` places on.
-fn move_down(words: &mut [u64], first: usize, end: usize, count: usize)
-    requires { (first ≤ end) × (end + count ≤ length words.old) }
-    ensures { Overwritten words.old first end (λ (k : ℕ). get_or words.old (k + count) 0) words.new }
-{
-    let mut k = first;
-    while k < end {
-        words[k] = words[k + count];
-        k += 1;
-    }
-}
-
-// The words from `start` on and below `end` become 0.
-fn clear(words: &mut [u64], start: usize, end: usize)
-    requires { (start ≤ end) × (end ≤ length words.old) }
-    ensures { Overwritten words.old start end (λ (k : ℕ). 0) words.new }
-{
-    let mut k = start;
-    while k < end {
-        words[k] = 0;
-        k += 1;
+        },
+        1 => Gone { first: i, count: 1 },
+        _ => Gone { first: i, count: 2 },
     }
 }
 
@@ -63,8 +36,8 @@ pub fn close_up(words: &mut [u64], blocks: usize, first: usize, count: usize)
     ensures { words.new ≡ closed_up blocks first count words.old }
 {
     let end = blocks - count;
-    move_down(words, first, end, count);
-    clear(words, end, blocks);
+    words.copy_within(first + count..blocks, first);
+    words[end..blocks].fill(0);
 }
 
 // A block deleted, with its partner where it has one. Answers which blocks went.

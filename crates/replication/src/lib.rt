@@ -33,10 +33,7 @@ fn bracket_of(extent: Extent, allowed: usize, blocks: usize) -> Bracket
     ensures { (result.low ≡ extent.low) × (result.high ≡ extent.high) × BracketFits result }
 {
     let copies = extent.popularity * UNIT / (extent.low + 1) + blocks as u64 / 2;
-    let mut over: u64 = 0;
-    if copies > allowed as u64 {
-        over = cluster::smaller(copies - allowed as u64, MOST_OVER);
-    }
+    let over = copies.saturating_sub(allowed as u64).min(MOST_OVER);
     let spare = allowed - extent.copies;
     Bracket {
         low: extent.low,
@@ -68,10 +65,7 @@ fn turn_after(turn: u64) -> u64
     requires { turn < 8 }
     ensures { result < 8 }
 {
-    if turn == 7 {
-        return 6;
-    }
-    turn + 1
+    if turn == 7 { 6 } else { turn + 1 }
 }
 
 // The bracket after a probe. The upper end moves to the probe where that is reachable. Else the lower end moves to the next share; where
@@ -84,29 +78,27 @@ fn narrowed(bracket: Bracket, wanted: u64, tally: Tally, allowed: usize) -> Brac
     if tally.total <= allowed {
         let spare = allowed - tally.total;
         return Bracket {
-            low: bracket.low,
             high: wanted,
-            over: bracket.over,
             spare: spare as u64,
             turn,
+            ..bracket
         };
     }
     if tally.fewer <= allowed {
         return Bracket {
             low: tally.next,
-            high: cluster::smaller(tally.next, bracket.high),
+            high: tally.next.min(bracket.high),
             over: 0,
-            spare: bracket.spare,
             turn,
+            ..bracket
         };
     }
     let over = tally.fewer - allowed;
     Bracket {
         low: tally.next,
-        high: bracket.high,
         over: over as u64,
-        spare: bracket.spare,
         turn,
+        ..bracket
     }
 }
 
@@ -151,14 +143,12 @@ fn fill_needed(items: &mut [u64], cluster: Cluster, wanted: u64) -> u64
 {
     let scale = needs::scale_of(wanted);
     let mut top: u64 = 0;
-    let mut i: usize = 0;
-    while i < cluster.blocks {
+    for i in 0..cluster.blocks {
         let demand = items[i];
         let profile = profile_at(demand, needs::needed(demand, wanted, scale));
         let share = cluster::share_of(profile);
-        top = needs::larger(top, share);
+        top = top.max(share);
         items[i] = profile;
-        i += 1;
     }
     top
 }
@@ -170,12 +160,10 @@ pub fn fill_held(items: &mut [u64], words: &[u64], cluster: Cluster) -> u64
         → FilledAs p (count_of p words.now) cluster items.old items.new result }
 {
     let mut top: u64 = 0;
-    let mut i: usize = 0;
-    while i < cluster.blocks {
+    for i in 0..cluster.blocks {
         let held = profile_at(items[i], bits::count_set(words[i]));
-        top = needs::larger(top, cluster::share_of(held));
+        top = top.max(cluster::share_of(held));
         items[i] = held;
-        i += 1;
     }
     top
 }

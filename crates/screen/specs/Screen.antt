@@ -70,10 +70,11 @@ abbrev pub Side : (mine theirs : ℕ → ℕ) → ℕ → Bool → Type 0
 Side mine theirs k true = Alone mine theirs k
 Side mine theirs k false = Alone theirs mine k
 
+-- What the sweep knows with one block more, where that block is not to be exchanged.
 abbrev pub BlockSwept : Sweep → Bool → ℕ → ℕ → Sweep → Type 0
 BlockSwept s own share margin r =
     (mine theirs : ℕ → ℕ) (index : List ℕ) (blocks k : ℕ) → SharesRise index blocks → share ≡ share_at index k → Side mine theirs k own
-    → SweptBelow mine theirs index margin blocks k s.top s.reach s.under → r.found ≡ false
+    → SweptBelow mine theirs index margin blocks k s.top s.reach s.under
     → SweptBelow mine theirs index margin blocks (k + 1) r.top r.reach r.under
 
 pub record WordAsked (index : List ℕ) (base margin : ℕ) : Type 0 where
@@ -86,8 +87,9 @@ pub record Bits (mine theirs : ℕ → ℕ) (a b base : ℕ) : Type 0 where
   pub of-mine : (t : ℕ) → t < 64 → mine (base + t) ≡ bit a t
   pub of-theirs : (t : ℕ) → t < 64 → theirs (base + t) ≡ bit b t
 
+-- What it knows with the blocks of a word more.
 abbrev pub WordSwept : ℕ → ℕ → List ℕ → ℕ → ℕ → Sweep → Sweep → Type 0
 WordSwept a b index base margin s r =
     (mine theirs : ℕ → ℕ) (blocks : ℕ) → SharesRise index blocks → Bits mine theirs a b base
-    → SweptBelow mine theirs index margin blocks base s.top s.reach s.under → r.found ≡ false
+    → SweptBelow mine theirs index margin blocks base s.top s.reach s.under
     → SweptBelow mine theirs index margin blocks (base + 64) r.top r.reach r.under

@@ -9,12 +9,14 @@ use native.Mathlib.Numerals.{add-one}
 use native.Mathlib.Omega.{arith}
 use lib.ListN.{length, get_or, take, drop, drop_of_length-le}
 use lib.Seq.{take-length, drop-length, take_all, drop-cons}
+use Rattle.std.specs.Prelude.{Result, Ok}
+use Rattle.refusal.specs.declared.Refusal.{Refusal}
 use Rattle.model.specs.Steps.{Step}
 use Rattle.model.specs.Calls.{Outcome, RunReply, check_call, step_call, run_call}
 use Rattle.model.specs.Claims.{ask_check, ask_step, ask_run, checked, stepped, ran, Played, played, respond, does, play}
 use Rattle.theorems.proofs.Claim.{claim}
-use Rattle.script.specs.declared.LastReply.{LastReply}
-use Rattle.script.specs.declared.LastReply.TheVariants.{Checked}
+use Rattle.script.specs.declared.Reply.{Reply}
+use Rattle.script.specs.declared.Reply.TheVariants.{Checked}
 use Rattle.script.specs.Script.{source_of, lent_of, request_of, request_in, source_bytes, call_with, call_of, calls_of, reply_is, played_by}
 use Rattle.script.specs.Promise.{ScriptPlayed}
 
@@ -59,14 +61,14 @@ does-part bytes item words n out fewer e =
 
 -- the calls from item i on, played from the reply and the words there, end as the whole script does
 module _ (bytes other script before : List ℕ) where
-  abbrev pub Left : LastReply → List ℕ → ℕ → Type 0
+  abbrev pub Left : Result Reply Refusal → List ℕ → ℕ → Type 0
   Left reply words i = play (reply_is reply) (calls_of bytes other (drop i script)) words ≡ play checked (calls_of bytes other script) before
 
-  pub left-first : Left Checked before 0
+  pub left-first : Left (Ok Checked) before 0
   unfolding reply_is
   left-first = refl
 
-  pub left-more : (reply next : LastReply) (words later : List ℕ) (i : ℕ) → i < length script
+  pub left-more : (reply next : Result Reply Refusal) (words later : List ℕ) (i : ℕ) → i < length script
       → played_by next later ≡ does (call_of bytes other (get_or script i 0)) words → Left reply words i → Left next later (i + 1)
   unfolding calls_of play
   left-more reply next words later i l e left =
@@ -74,13 +76,13 @@ module _ (bytes other script before : List ℕ) where
       (λ j. play (e j).reply (calls_of bytes other (drop (suc i) script)) (e j).words)
       ∙ (rw (drop-cons script i 0 l) at left))
 
-  left_end : (reply : LastReply) (words : List ℕ) (i : ℕ) → length script ≤ i → Left reply words i
+  left_end : (reply : Result Reply Refusal) (words : List ℕ) (i : ℕ) → length script ≤ i → Left reply words i
       → played_by reply words ≡ play checked (calls_of bytes other script) before
   unfolding calls_of play
   left_end reply words i l left = rw (drop_of_length-le script l) at left
 
   -- the script is played: the model's play, and so the claim
-  pub script-played : (reply : LastReply) (words : List ℕ) (i : ℕ) → length script ≤ i → Left reply words i
+  pub script-played : (reply : Result Reply Refusal) (words : List ℕ) (i : ℕ) → length script ≤ i → Left reply words i
       → ScriptPlayed bytes other script before reply words
   script-played reply words i l left =
       let same = left_end reply words i l left in

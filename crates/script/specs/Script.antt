@@ -1,9 +1,12 @@
 -- A script: one number for each call. Its calls as the model's, and the code's replies as the model's.
-use Rattle.std.specs.Prelude.{true, false, List, [], ◌∷◌, ℕ, zero, suc, ◌/◌, ◌%◌, ◌^◌}
+use Rattle.std.specs.Prelude.{Result, Ok, Err, List, [], ◌∷◌, ℕ, zero, suc, ◌/◌, ◌%◌, ◌^◌}
 use Rattle.model.specs.Claims.{Request, ask_check, ask_step, ask_run, Call, Reply, refused_by, checked, stepped, ran, Played}
+use Rattle.refusal.specs.declared.Refusal.{Refusal}
+use Rattle.refusal.specs.Rows.{number_of}
 use Rattle.search.specs.Scene.{step_of}
-use Rattle.script.specs.declared.LastReply.{LastReply}
-use Rattle.script.specs.declared.LastReply.TheVariants.{Refused, Checked, Stepped, Rested, Spent}
+use Rattle.service.specs.Entries.{run_reply}
+use Rattle.script.specs.declared.Reply.{Reply as LastReply}
+use Rattle.script.specs.declared.Reply.TheVariants.{Checked, Stepped, Ran}
 
 -- Bits 0 to 31 of an item: the step limit of a run.
 abbrev pub limit_span : ℕ
@@ -51,13 +54,12 @@ calls_of bytes other [] = []
 calls_of bytes other (item ∷ script) = call_of bytes other item ∷ calls_of bytes other script
 
 -- The code's reply as the model's.
-unfoldable pub reply_is : LastReply → Reply
-reply_is (Refused code) = refused_by code
-reply_is Checked = checked
-reply_is (Stepped step) = stepped (step_of step)
-reply_is (Rested steps) = ran (record { rested = true; steps = steps })
-reply_is (Spent steps) = ran (record { rested = false; steps = steps })
+unfoldable pub reply_is : Result LastReply Refusal → Reply
+reply_is (Err refusal) = refused_by (number_of refusal)
+reply_is (Ok Checked) = checked
+reply_is (Ok (Stepped step)) = stepped (step_of step)
+reply_is (Ok (Ran r)) = ran (run_reply r)
 
 -- With the words afterwards.
-abbrev pub played_by : LastReply → List ℕ → Played
+abbrev pub played_by : Result LastReply Refusal → List ℕ → Played
 played_by reply words = record { reply = reply_is reply; words = words }

@@ -1,9 +1,11 @@
 -- Laws of one kind of step: which machines are of the kind, and the kinds in their order.
 -- Assumes nothing.
-use mathlib.Core.Path.{◌≡◌, refl, ap, ap₂, sym, ◌∙◌}
+use mathlib.Core.Path.{◌≡◌, refl, ap, ap₂, ◌∙◌}
 use mathlib.Core.Bool.{Bool, true, false, not, beq}
 use mathlib.Core.List.{List}
 use Prim.Native.Nat.{ℕ, ◌+◌, ◌*◌, ◌/◌, ◌%◌, ◌<◌, ◌≤◌}
+use Rattle.std.proofs.Common.{Option, Some, None}
+use Rattle.std.specs.Option.{MatchOption}
 use native.Mathlib.Nat.{add-zero, mod-lt, div-lt_iff_lt-mul, mul-div_cancel, mul-mod_left}
 use native.Mathlib.Decide.{dec_lt}
 use native.Mathlib.Omega.{arith}
@@ -11,15 +13,14 @@ use borrow.Author.Tests.{eq-eqb, ne_eqb}
 use lib.Arith.{digits_div}
 use lib.Dec.{eqb}
 use Rattle.order.proofs.Arithmetic.{mod-digits}
-use Rattle.order.proofs.Booleans.{no-contradiction}
 use Rattle.model.specs.Plan.{Plan}
-use Rattle.model.specs.Steps.{Step, none, relocate, exchange, is_step, routes, next_move, next_swap, or_step, next_step}
+use Rattle.model.specs.Steps.{Step as ModelStep, none, relocate, exchange, routes, next_move, next_swap, or_step, next_step}
 use Rattle.cluster.specs.declared.Cluster.{Cluster}
 use Rattle.cluster.specs.Cluster.{domain_in, InRange}
-use Rattle.transfers.specs.declared.Hit.{Hit}
-use Rattle.transfers.specs.Route.{hit_of, route_step}
-use Rattle.search.specs.declared.Found.{Found}
-use Rattle.search.specs.Scene.{route_of, row_of, kind_step, HitIs, NextFound}
+use Rattle.transfers.specs.Route.{route_step}
+use Rattle.search.specs.declared.Step.{Step}
+use Rattle.search.specs.declared.Step.TheVariants.{Move, Swap, RackMove, RackSwap}
+use Rattle.search.specs.Scene.{step_of, route_of, row_of, kind_step, FoundIs, NextFound}
 
 -- ── of_kind ────────────────────────────────────────────────────────────────────────────────────────────────────────────
 
@@ -80,48 +81,48 @@ module _ (c : Cluster) (range : InRange c) where
 
 -- ── next_step ───────────────────────────────────────────────────────────────────────────────────────────────────────────
 
--- a kind that is found comes before the later ones, and one that is not leaves them
-take-first : (s later : Step) → is_step s ≡ true → s ≡ or_step s later
-take-first none later e = no-contradiction (sym e)
-take-first (relocate racks m n i) later e = refl
-take-first (exchange racks m n i j) later e = refl
+-- the first of three
+or_step-grouped : (a b later : ModelStep) → or_step (or_step a b) later ≡ or_step a (or_step b later)
+or_step-grouped none b later = refl
+or_step-grouped (relocate racks m n i) b later = refl
+or_step-grouped (exchange racks m n i j) b later = refl
 
-pass-first : (s later : Step) → is_step s ≡ false → later ≡ or_step s later
-pass-first none later e = refl
-pass-first (relocate racks m n i) later e = no-contradiction e
-pass-first (exchange racks m n i j) later e = no-contradiction e
+-- what one kind finds, or else a later one
+pub or_kind : {c : Cluster} {words profiles : List ℕ} {wanted later : Plan → ModelStep} (r q : Option Step) {Post : Type 0}
+    → FoundIs c words profiles wanted (step_of r) → MatchOption r Post (λ s. q ≡ Some s)
+    → (Post → FoundIs c words profiles later (step_of q)) → FoundIs c words profiles (λ p. or_step (wanted p) (later p)) (step_of q)
+unfolding step_of
+or_kind {wanted} {later} None q found e after =
+    record {
+      sound = (after e).sound;
+      is = λ p count at. (after e).is p count at ∙ ap (λ (s : ModelStep). or_step s (later p)) (found.is p count at);
+    }
+or_kind {wanted} {later} (Some s) q found e after =
+    rw e
+    (record {
+      sound = found.sound;
+      is = λ p count at.
+          taken s (later p)
+          ∙ ap (λ (s : ModelStep). or_step s (later p)) (found.is p count at);
+    })
+  where
+    taken : (s : Step) (later : ModelStep) → step_of (Some s) ≡ or_step (step_of (Some s)) later
+    taken (Move m n i) later = refl
+    taken (Swap m n i j) later = refl
+    taken (RackMove m n i) later = refl
+    taken (RackSwap m n i j) later = refl
 
-module _ {c : Cluster} {words profiles : List ℕ} {across : Bool} {wanted : Plan → Step} {r : Hit}
-    (found : HitIs c words profiles across wanted r) where
-  pub kind-taken : (later : Plan → Step) → is_step (hit_of across r) ≡ true
-      → HitIs c words profiles across (λ p. or_step (wanted p) (later p)) r
-  kind-taken later e =
-      record {
-        sound = found.sound;
-        is = λ p count at. take-first (hit_of across r) (later p) e ∙ ap (λ (s : Step). or_step s (later p)) (found.is p count at);
-      }
-
-  pub kind-passed : {later : Plan → Step} {farther : Bool} {q : Hit} → is_step (hit_of across r) ≡ false
-      → HitIs c words profiles farther later q → HitIs c words profiles farther (λ p. or_step (wanted p) (later p)) q
-  kind-passed {later} e next =
-      record {
-        sound = next.sound;
-        is = λ p count at.
-            next.is p count at
-            ∙ pass-first (hit_of across r) (later p) e
-            ∙ ap (λ (s : Step). or_step s (later p)) (found.is p count at);
-      }
-
--- the kinds after Move, and those after Swap
-abbrev pub after_moves : List ℕ → Plan → Step
-after_moves words p = or_step (kind_step p words true false) (or_step (kind_step p words false true) (kind_step p words true true))
-
-abbrev pub after_swaps : List ℕ → Plan → Step
-after_swaps words p = or_step (kind_step p words false true) (kind_step p words true true)
-
--- all of them are the definition's next step
-pub next_step-kinds : {c : Cluster} {words profiles : List ℕ} {r : Found}
-    → HitIs c words profiles r.across (λ p. or_step (kind_step p words false false) (after_moves words p)) r.hit
+-- the four kinds are the definition's next step
+pub next_step-kinds : {c : Cluster} {words profiles : List ℕ} (r : Option Step)
+    → FoundIs c words profiles (λ p. or_step (or_step (or_step
+    (kind_step p words false false) (kind_step p words true false)) (kind_step p words false true)) (kind_step p words true true)) (step_of r)
     → NextFound c words profiles r
 unfolding next_step next_move next_swap routes kind_step row_of route_of route_step
-next_step-kinds found = found
+next_step-kinds {words} r found =
+    record {
+      sound = found.sound;
+      is = λ p count at.
+          found.is p count at
+          ∙ or_step-grouped (or_step (kind_step p words false false) (kind_step p words true false)) (kind_step p words false true) (kind_step p words true true)
+          ∙ or_step-grouped (kind_step p words false false) (kind_step p words true false) (or_step (kind_step p words false true) (kind_step p words true true));
+    }

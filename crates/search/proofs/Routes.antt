@@ -6,6 +6,7 @@ use mathlib.Core.List.{List}
 use Prim.Native.Nat.{ℕ, ◌-◌, ◌<◌, ◌≤◌}
 use native.Mathlib.Nat.{div-add-mod', mul-le-mul_right}
 use native.Mathlib.Omega.{arith}
+use Rattle.std.proofs.Common.{Option}
 use Rattle.order.proofs.Booleans.{not_so, no-contradiction}
 use Rattle.model.specs.Plan.{Plan, machines, block_count}
 use Rattle.model.specs.Refusal.{max_machines}
@@ -24,11 +25,10 @@ use Rattle.transfers.specs.declared.Route.{Route}
 use Rattle.index.specs.Index.{rank_at, share_at, load_at}
 use Rattle.screen.specs.Screen.{ScreenAsked, Alone, ranked_on, RuledOut}
 use Rattle.transfers.specs.declared.Hit.{Hit}
-use Rattle.transfers.specs.declared.Hit.TheVariants.{Nothing}
 use Rattle.transfers.specs.Route.{hit_of, route_step, MarginOf, RouteAsked, HitOf}
 use Rattle.transfers.proofs.Searches.{none_found, test-none}
 use Rattle.search.specs.declared.Row.{Row}
-use Rattle.search.specs.Scene.{KindAsked, PartedOf, OpenAsked, OpenFound, kind_at, route_of, RouteAt, HitIs}
+use Rattle.search.specs.Scene.{KindAsked, PartedOf, OpenAsked, OpenFound, kind_at, route_of, RouteAt, FoundIs}
 
 -- ── route_step ───────────────────────────────────────────────────────────────────────────────────────────────────────────
 
@@ -138,7 +138,7 @@ module _ {c : Cluster} {words profiles index : List ℕ} {row : Row} {n margin :
               };
         }
 
-    pub route-found : (r : Hit)
+    pub route-found : (r : Option Hit)
         → HitOf c words profiles route_here row.swapping (λ across p. route_step p words row.swapping across row.m n) r
         → OpenFound c words profiles row n margin r
     route-found r found =
@@ -193,8 +193,8 @@ module _ {c : Cluster} {words profiles index : List ℕ} {row : Row} {n : ℕ}
   abbrev wanted : Plan → Step
   wanted p = route_of p words row.swapping row.across row.m n
 
-  pub nothing-other : false ≡ kind_here → HitIs c words profiles row.across wanted Nothing
-  unfolding hit_of route_of
+  pub nothing-other : false ≡ kind_here → FoundIs c words profiles wanted none
+  unfolding route_of
   nothing-other e =
       record { sound = tt; is = λ p count placement. rw (sym (cluster-size p c placement.profiles-of.cluster), sym e) }
 
@@ -205,8 +205,7 @@ module _ {c : Cluster} {words profiles index : List ℕ} {row : Row} {n : ℕ}
     this p count placement = rw (sym (cluster-size p c placement.profiles-of.cluster), sym kind)
 
     nothing-barren : ((p : Plan) (count : ℕ → ℕ) → PlacementOf p count c words profiles → Barren p words row.swapping row.m n)
-        → HitIs c words profiles row.across wanted Nothing
-    unfolding hit_of
+        → FoundIs c words profiles wanted none
     nothing-barren barren =
         record {
           sound = tt;
@@ -228,7 +227,7 @@ module _ {c : Cluster} {words profiles index : List ℕ} {row : Row} {n : ℕ}
           ∙ copies-used c words profiles loads copies of p placement.profiles-of.cluster n at.n-below
 
     -- nothing leaves a machine that has no more load
-    level-barren : load_at index row.m ≤ load_at index n → HitIs c words profiles row.across wanted Nothing
+    level-barren : load_at index row.m ≤ load_at index n → FoundIs c words profiles wanted none
     level-barren l = nothing-barren (λ p count placement. go p (load_of p count placement row.m at.asked.row_in.m-below) (load_of p count placement n at.n-below) row.swapping)
       where
         go : (p : Plan) → load_at index row.m ≡ load p words row.m → load_at index n ≡ load p words n
@@ -237,7 +236,7 @@ module _ {c : Cluster} {words profiles index : List ℕ} {row : Row} {n : ℕ}
         go p d e true = λ i j h k s. omega (arith, s.lowers)
 
     -- and nothing moves to a full one
-    pub nothing-full : bit row.targets n ≡ 0 → HitIs c words profiles row.across wanted Nothing
+    pub nothing-full : bit row.targets n ≡ 0 → FoundIs c words profiles wanted none
     nothing-full off = nothing-barren (λ p count placement. go p (n-used p count placement) (cluster-capacity p c placement.profiles-of.cluster) row.swapping (at.asked.targets-are n at.n-below).1)
       where
         go : (p : Plan) → copy_sum c words n ≡ used p words n → c.capacity ≡ p.capacity → (swapping : Bool)
@@ -268,11 +267,11 @@ module _ {c : Cluster} {words profiles index : List ℕ} {row : Row} {n : ℕ}
             λ h. (h.gain, omega (arith, h.below)),
           )
 
-      pub open-found : (r : Hit) → bit row.targets n ≡ 1 → OpenFound c words profiles row n margin_here r
-          → HitIs c words profiles row.across wanted r
+      pub open-found : (r : Option Hit) → bit row.targets n ≡ 1 → OpenFound c words profiles row n margin_here r
+          → FoundIs c words profiles wanted (hit_of row.across r)
       open-found r on found =
           record {
-            sound = found.sound;
+            sound = found.sound row.across;
             is = λ p count placement.
                 found.is p count placement (margin-is p count placement)
                 (λ moving. omega (arith, (at.asked.targets-are n at.n-below).0 on moving, n-used p count placement, cluster-capacity p c placement.profiles-of.cluster))
@@ -281,9 +280,9 @@ module _ {c : Cluster} {words profiles index : List ℕ} {row : Row} {n : ℕ}
           }
 
   -- whatever the kind of the route
-  pub nothing-level : load_at index row.m ≤ load_at index n → HitIs c words profiles row.across wanted Nothing
+  pub nothing-level : load_at index row.m ≤ load_at index n → FoundIs c words profiles wanted none
   nothing-level l = go kind_here refl
     where
-      go : (kind : Bool) → kind ≡ kind_here → HitIs c words profiles row.across wanted Nothing
+      go : (kind : Bool) → kind ≡ kind_here → FoundIs c words profiles wanted none
       go true e = level-barren e l
       go false e = nothing-other e

@@ -1,5 +1,5 @@
 -- What the search is given, and that it finds the definition's next step.
-use Rattle.std.specs.Prelude.{◌≡◌, Bool, true, false, not, cond, List, ◌↔◌, ℕ, ◌*◌, ◌/◌, ◌%◌, ◌<◌, ◌≤◌, eqb, leb, get_or}
+use Rattle.std.specs.Prelude.{◌≡◌, Bool, true, false, not, cond, List, ◌↔◌, ℕ, ◌*◌, ◌/◌, ◌<◌, ◌≤◌, eqb, get_or, Option, Some, None}
 use Rattle.std.specs.Bool.{beq}
 use Rattle.model.specs.Plan.{Plan, machines}
 use Rattle.model.specs.Refusal.{max_machines}
@@ -12,23 +12,20 @@ use Rattle.cluster.specs.Blocks.{PlacementFits, PlacementOf}
 use Rattle.loads.specs.Loads.{copy_sum, LoadsOf}
 use Rattle.index.specs.Index.{load_at, Indexed}
 use Rattle.transfers.specs.declared.Hit.{Hit}
-use Rattle.transfers.specs.Route.{hit_of, route_step, HitFound, MarginOf, HasRoom}
+use Rattle.transfers.specs.Route.{hit_of, route_step, StepFound, MarginOf, HasRoom}
 use Rattle.search.specs.declared.Step.{Step}
-use Rattle.search.specs.declared.Step.TheVariants.{Rest, Move, Swap, RackMove, RackSwap}
-use Rattle.search.specs.declared.Found.{Found}
+use Rattle.search.specs.declared.Step.TheVariants.{Move, Swap, RackMove, RackSwap}
+use Rattle.search.specs.declared.Kind.{Kind}
+use Rattle.search.specs.declared.Kind.TheVariants.{Move as KindMove, Swap as KindSwap, RackMove as KindRackMove, RackSwap as KindRackSwap}
 use Rattle.search.specs.declared.Row.{Row}
 
 -- The answer as the model's step.
-unfoldable pub step_of : Step → ModelStep
-step_of Rest = none
-step_of (Move m n i) = relocate false m n i
-step_of (Swap m n i j) = exchange false m n i j
-step_of (RackMove m n i) = relocate true m n i
-step_of (RackSwap m n i j) = exchange true m n i j
-
--- A find as the model's step.
-abbrev pub found_of : Found → ModelStep
-found_of found = hit_of found.across found.hit
+unfoldable pub step_of : Option Step → ModelStep
+step_of None = none
+step_of (Some (Move m n i)) = relocate false m n i
+step_of (Some (Swap m n i j)) = exchange false m n i j
+step_of (Some (RackMove m n i)) = relocate true m n i
+step_of (Some (RackSwap m n i j)) = exchange true m n i j
 
 -- Whether n is of the kind: `low` is the first machine of m's rack.
 pub record KindAsked (low size : ℕ) : Type 0 where
@@ -44,12 +41,18 @@ OfKind low size n across r =
 abbrev pub PartedOf : Cluster → ℕ → ℕ → Bool → Type 0
 PartedOf c low n r = (m : ℕ) → low ≡ m / c.rack_size * c.rack_size → r ≡ not (eqb (domain_in c m) (domain_in c n))
 
--- A kind by its number in the order of the steps: 0 Move, 1 Swap, 2 RackMove, 3 RackSwap.
-abbrev pub is_exchange : ℕ → Bool
-is_exchange kind = eqb (kind % 2) 1
+-- Whether a kind's steps are exchanges, and whether they go across racks.
+abbrev pub is_exchange : Kind → Bool
+is_exchange KindMove = false
+is_exchange KindSwap = true
+is_exchange KindRackMove = false
+is_exchange KindRackSwap = true
 
-abbrev pub is_across : ℕ → Bool
-is_across kind = leb 2 kind
+abbrev pub is_across : Kind → Bool
+is_across KindMove = false
+is_across KindSwap = false
+is_across KindRackMove = true
+is_across KindRackSwap = true
 
 -- The definition's search of one kind, from the inside out: at the route (m, n), over all n, over all m and n.
 unfoldable pub route_of : Plan → List ℕ → Bool → Bool → ℕ → ℕ → ModelStep
@@ -75,17 +78,12 @@ pub record FindAsked (c : Cluster) (words profiles index copies : List ℕ) : Ty
   pub all : SearchAsked c words profiles index
   pub copies-are : copies ≡ all.copies
 
--- Of the machines before `end` those with room are the set bits of r.
-pub record RoomTo (c : Cluster) (copies : List ℕ) (end r : ℕ) : Type 0 where
-  pub is : (n : ℕ) → n < end → (bit r n ≡ 1) ↔ (get_or copies n 0 < c.capacity)
-  pub past : (n : ℕ) → end ≤ n → bit r n ≡ 0
-
 -- The machines that an exchange may lead to are all, and a move those with room.
 abbrev pub TargetsOf : Cluster → List ℕ → Bool → ℕ → Type 0
 TargetsOf c words swapping targets =
     (n : ℕ) → n < machines_in c → (bit targets n ≡ 1) ↔ (swapping ≡ false → copy_sum c words n < c.capacity)
 
-pub record KindSearchAsked (c : Cluster) (words profiles index : List ℕ) (kind targets : ℕ) : Type 0 where
+pub record KindSearchAsked (c : Cluster) (words profiles index : List ℕ) (kind : Kind) (targets : ℕ) : Type 0 where
   pub all : SearchAsked c words profiles index
   pub targets-are : TargetsOf c words (is_exchange kind) targets
 
@@ -125,16 +123,16 @@ pub record OpenAsked (c : Cluster) (words profiles index : List ℕ) (row : Row)
   pub margin-narrow : margin < load_bound
 
 -- What is found between them is what the definition's search finds.
-pub record OpenFound (c : Cluster) (words profiles : List ℕ) (row : Row) (n margin : ℕ) (r : Hit) : Type 0 where
-  pub sound : HitFound c words r
+pub record OpenFound (c : Cluster) (words profiles : List ℕ) (row : Row) (n margin : ℕ) (r : Option Hit) : Type 0 where
+  pub sound : (across : Bool) → StepFound c words (hit_of across r)
   pub is : (p : Plan) (count : ℕ → ℕ) → PlacementOf p count c words profiles → MarginOf p words row.m n margin
       → HasRoom p words row.swapping n → (across : Bool) → hit_of across r ≡ route_step p words row.swapping across row.m n
 
 -- What a loop finds is what the definition's search finds.
-pub record HitIs (c : Cluster) (words profiles : List ℕ) (across : Bool) (wanted : Plan → ModelStep) (r : Hit) : Type 0 where
-  pub sound : HitFound c words r
-  pub is : (p : Plan) (count : ℕ → ℕ) → PlacementOf p count c words profiles → hit_of across r ≡ wanted p
+pub record FoundIs (c : Cluster) (words profiles : List ℕ) (wanted : Plan → ModelStep) (s : ModelStep) : Type 0 where
+  pub sound : StepFound c words s
+  pub is : (p : Plan) (count : ℕ → ℕ) → PlacementOf p count c words profiles → s ≡ wanted p
 
 -- And that is the next step of the definition.
-abbrev pub NextFound : Cluster → List ℕ → List ℕ → Found → Type 0
-NextFound c words profiles r = HitIs c words profiles r.across (λ p. next_step p words) r.hit
+abbrev pub NextFound : Cluster → List ℕ → List ℕ → Option Step → Type 0
+NextFound c words profiles r = FoundIs c words profiles (λ p. next_step p words) (step_of r)

@@ -1,21 +1,19 @@
 // The next step of the definition: the first Move, Swap, RackMove or RackSwap, by machines and blocks lowest first.
 #![tactic(auto)]
 
-ghost use Rattle.std.specs.Prelude.{◌≡◌, ◌%◌, ◌≤◌, length};
-ghost use Rattle.model.specs.Refusal.{max_machines};
-ghost use Rattle.model.specs.Steps.{is_step};
-ghost use Rattle.cluster.specs.Cluster.{machines_in, InRange};
-ghost use Rattle.search.specs.Scene.{is_exchange, is_across, step_of, found_of, NextFound, KindAsked, OfKind, PartedOf, OpenAsked, OpenFound, route_of, row_of, kind_step, FindAsked, RoomTo, KindSearchAsked, RowIn, StartsAt, EndsAt, RowAsked, RouteAt, HitIs};
+ghost use Rattle.std.specs.Prelude.{◌≡◌, ◌%◌, ◌≤◌};
+ghost use Rattle.cluster.specs.Cluster.{InRange};
+ghost use Rattle.transfers.specs.Route.{hit_of};
+ghost use Rattle.search.specs.Scene.{is_exchange, is_across, step_of, NextFound, KindAsked, OfKind, PartedOf, OpenAsked, OpenFound, route_of, row_of, kind_step, FindAsked, KindSearchAsked, RowIn, StartsAt, EndsAt, RowAsked, RouteAt, FoundIs};
 
 use cluster::Cluster;
 use index::LOADS_AT;
 use transfers::{Hit, Route};
 
-// A step, or rest. Block i goes from m to n, of an exchange block j from n to m; m and n of a RackMove or RackSwap lie in
+// A step. Block i goes from m to n, of an exchange block j from n to m; m and n of a RackMove or RackSwap lie in
 // different racks.
 #[derive(Clone, Copy)]
 pub enum Step {
-    Rest,
     Move {
         m: usize,
         n: usize,
@@ -40,6 +38,31 @@ pub enum Step {
     },
 }
 
+// The kinds of steps, in their order.
+#[derive(Clone, Copy)]
+enum Kind {
+    Move,
+    Swap,
+    RackMove,
+    RackSwap,
+}
+
+impl Kind {
+    // Whether a step of the kind is an exchange.
+    fn is_exchange(self) -> bool
+        ensures { result ≡ is_exchange self }
+    {
+        matches!(self, Kind::Swap | Kind::RackSwap)
+    }
+
+    // Whether the machines of such a step lie in different racks.
+    fn is_across(self) -> bool
+        ensures { result ≡ is_across self }
+    {
+        matches!(self, Kind::RackMove | Kind::RackSwap)
+    }
+}
+
 // A kind of step and the machine m that it leaves, whose rack starts at `low`; the machines that the kind may lead to are the set bits of
 // `targets`.
 #[derive(Clone, Copy)]
@@ -52,44 +75,18 @@ struct Row {
 }
 
 // Every machine, as targets.
-const ALL: u64 = 18446744073709551615;
+const ALL: u64 = u64::MAX;
 
-// What was found, and whether its machines lie in different racks.
-#[derive(Clone, Copy)]
-pub struct Found {
-    pub across: bool,
-    pub hit: Hit,
-}
-
-// A find as the answer, with its kind.
-pub fn as_step(found: Found) -> Step
-    ensures { step_of result ≡ found_of found }
+// A find as a step; `across` says whether its machines lie in different racks.
+fn as_step(hit: Hit, across: bool) -> Step
+    ensures { step_of (Some result) ≡ hit_of across (Some hit) }
 {
-    let across = found.across;
-    let hit = found.hit;
-    match hit {
-        Hit::Nothing => Step::Rest,
-        Hit::Move { m, n, i } => {
-            if across {
-                return Step::RackMove { m, n, i };
-            }
-            Step::Move { m, n, i }
-        }
-        Hit::Swap { m, n, i, j } => {
-            if across {
-                return Step::RackSwap { m, n, i, j };
-            }
-            Step::Swap { m, n, i, j }
-        }
+    match (hit, across) {
+        (Hit::Move { m, n, i }, false) => Step::Move { m, n, i },
+        (Hit::Swap { m, n, i, j }, false) => Step::Swap { m, n, i, j },
+        (Hit::Move { m, n, i }, true) => Step::RackMove { m, n, i },
+        (Hit::Swap { m, n, i, j }, true) => Step::RackSwap { m, n, i, j },
     }
-}
-
-// Whether a step was found.
-fn is_step(found: Found) -> bool
-    ensures { is_step (found_of found) ≡ result }
-{
-    let hit = found.hit;
-    transfers::is_found(hit)
 }
 
 // Whether n lies in another rack than the one that starts at `low`, or in that one, as the kind wants.
@@ -137,13 +134,13 @@ fn find_open(
     row: Row,
     n: usize,
     margin: u64,
-) -> Hit
+) -> Option<Hit>
     requires { OpenAsked cluster words.now profiles.now index.now row n margin }
     ensures { OpenFound cluster words.now profiles.now row n margin result }
 {
     let m = row.m;
     if screen::rules_out(index, cluster, m, n, margin, row.swapping) {
-        return Hit::Nothing;
+        return None;
     }
     let route = Route {
         parted: is_parted(cluster, row.low, n),
@@ -162,22 +159,22 @@ fn find_route(
     cluster: Cluster,
     row: Row,
     n: usize,
-) -> Hit
+) -> Option<Hit>
     requires { RouteAt cluster words.now profiles.now index.now row n }
-    ensures { HitIs cluster words.now profiles.now row.across
-        (λ p. route_of p words.now row.swapping row.across row.m n) result }
+    ensures { FoundIs cluster words.now profiles.now
+        (λ p. route_of p words.now row.swapping row.across row.m n) (hit_of row.across result) }
 {
     let m = row.m;
     let from = index[LOADS_AT + m];
     let to = index[LOADS_AT + n];
     if from <= to {
-        return Hit::Nothing;
+        return None;
     }
     if !of_kind(row.low, cluster.rack_size, n, row.across) {
-        return Hit::Nothing;
+        return None;
     }
     if bits::bit_at(row.targets, n) == 0 {
-        return Hit::Nothing;
+        return None;
     }
     find_open(words, profiles, index, cluster, row, n, from - to)
 }
@@ -204,42 +201,43 @@ fn row_end(cluster: Cluster, row: Row) -> usize
 }
 
 // The first step of the row's kind from its machine.
-fn find_row(words: &[u64], profiles: &[u64], index: &[u64], cluster: Cluster, row: Row) -> Hit
+fn find_row(
+    words: &[u64],
+    profiles: &[u64],
+    index: &[u64],
+    cluster: Cluster,
+    row: Row,
+) -> Option<Hit>
     requires { RowAsked cluster words.now profiles.now index.now row }
-    ensures { HitIs cluster words.now profiles.now row.across
-        (λ p. row_of p words.now row.swapping row.across row.m) result }
+    ensures { FoundIs cluster words.now profiles.now
+        (λ p. row_of p words.now row.swapping row.across row.m) (hit_of row.across result) }
 {
-    let end = row_end(cluster, row);
-    let mut n = row_start(row);
-    while n < end {
+    for n in row_start(row)..row_end(cluster, row) {
         let hit = find_route(words, profiles, index, cluster, row, n);
-        if transfers::is_found(hit) {
+        if hit.is_some() {
             return hit;
         }
-        n += 1;
     }
-    Hit::Nothing
+    None
 }
 
-// The first step of the kind, 0 Move, 1 Swap, 2 RackMove or 3 RackSwap, to one of the targets.
+// The first step of the kind to one of the targets.
 fn find_kind(
     words: &[u64],
     profiles: &[u64],
     index: &[u64],
     cluster: Cluster,
-    kind: u8,
+    kind: Kind,
     targets: u64,
-) -> Found
+) -> Option<Step>
     requires { KindSearchAsked cluster words.now profiles.now index.now kind targets }
-    ensures { HitIs cluster words.now profiles.now result.across
-        (λ p. kind_step p words.now (is_exchange kind) (is_across kind)) result.hit }
+    ensures { FoundIs cluster words.now profiles.now
+        (λ p. kind_step p words.now (is_exchange kind) (is_across kind)) (step_of result) }
 {
-    let swapping = kind % 2 == 1;
-    let across = 2 <= kind;
+    let swapping = kind.is_exchange();
+    let across = kind.is_across();
     let size = cluster.rack_size;
-    let machines = cluster.machines();
-    let mut m: usize = 0;
-    while m < machines {
+    for m in 0..cluster.machines() {
         let low = m / size * size;
         let row = Row {
             swapping,
@@ -248,33 +246,11 @@ fn find_kind(
             m,
             targets,
         };
-        let hit = find_row(words, profiles, index, cluster, row);
-        if transfers::is_found(hit) {
-            return Found { across, hit };
+        if let Some(hit) = find_row(words, profiles, index, cluster, row) {
+            return Some(as_step(hit, across));
         }
-        m += 1;
     }
-    Found {
-        across,
-        hit: Hit::Nothing,
-    }
-}
-
-// The machines with fewer copies than they can hold, as the set bits of a word.
-fn with_room(copies: &[usize], cluster: Cluster) -> u64
-    requires { InRange cluster × (length copies.now ≡ max_machines) }
-    ensures { RoomTo cluster copies.now (machines_in cluster) result }
-{
-    let machines = cluster.machines();
-    let mut room: u64 = 0;
-    let mut n: usize = 0;
-    while n < machines {
-        if copies[n] < cluster.capacity {
-            room = bits::with_bit(room, n);
-        }
-        n += 1;
-    }
-    room
+    None
 }
 
 // The next step, the first by kind: Move, Swap, RackMove, RackSwap.
@@ -284,22 +260,13 @@ pub fn find(
     index: &[u64],
     copies: &[usize],
     cluster: Cluster,
-) -> Found
+) -> Option<Step>
     requires { FindAsked cluster words.now profiles.now index.now copies.now }
     ensures { NextFound cluster words.now profiles.now result }
 {
-    let room = with_room(copies, cluster);
-    let near = find_kind(words, profiles, index, cluster, 0, room);
-    if is_step(near) {
-        return near;
-    }
-    let swap = find_kind(words, profiles, index, cluster, 1, ALL);
-    if is_step(swap) {
-        return swap;
-    }
-    let far = find_kind(words, profiles, index, cluster, 2, room);
-    if is_step(far) {
-        return far;
-    }
-    find_kind(words, profiles, index, cluster, 3, ALL)
+    let room = loads::with_room(copies, cluster);
+    find_kind(words, profiles, index, cluster, Kind::Move, room)
+        .or_else(|| find_kind(words, profiles, index, cluster, Kind::Swap, ALL))
+        .or_else(|| find_kind(words, profiles, index, cluster, Kind::RackMove, room))
+        .or_else(|| find_kind(words, profiles, index, cluster, Kind::RackSwap, ALL))
 }

@@ -19,12 +19,9 @@ pub fn put_word(text: &mut [u8], at: usize, word: &[u8]) -> usize
     requires { Room at word.now text.old }
     ensures { Put at word.now text.old text.new result }
 {
-    let mut i: usize = 0;
-    while i < word.len() {
-        text[at + i] = word[i];
-        i += 1;
-    }
-    at + i
+    let past = at + word.len();
+    text[at..past].copy_from_slice(word);
+    past
 }
 
 // Puts a number in decimal: the digits of n / 10 first, where it has any.
@@ -32,7 +29,7 @@ pub fn put_decimal(text: &mut [u8], at: usize, n: u64) -> usize
     requires { Room at (decimal n) text.old }
     ensures { Put at (decimal n) text.old text.new result }
 {
-    let digit = 48 + (n % 10) as u8;
+    let digit = b'0' + (n % 10) as u8;
     if n < 10 {
         return put_byte(text, at, digit);
     }
@@ -45,7 +42,7 @@ pub fn put_field(text: &mut [u8], at: usize, n: u64) -> usize
     requires { Room at (number_field n) text.old }
     ensures { Put at (number_field n) text.old text.new result }
 {
-    let next = put_byte(text, at, 32);
+    let next = put_byte(text, at, b' ');
     put_decimal(text, next, n)
 }
 
@@ -55,10 +52,8 @@ pub fn put_fields(text: &mut [u8], at: usize, numbers: &[u64]) -> usize
     ensures { Put at (fields numbers.now) text.old text.new result }
 {
     let mut next = at;
-    let mut i: usize = 0;
-    while i < numbers.len() {
-        next = put_field(text, next, numbers[i]);
-        i += 1;
+    for &number in numbers {
+        next = put_field(text, next, number);
     }
     next
 }
@@ -70,5 +65,5 @@ pub fn put_line(text: &mut [u8], at: usize, word: &[u8], numbers: &[u64]) -> usi
 {
     let named = put_word(text, at, word);
     let listed = put_fields(text, named, numbers);
-    put_byte(text, listed, 10)
+    put_byte(text, listed, b'\n')
 }

@@ -6,13 +6,12 @@ use mathlib.Core.List.{List}
 use mathlib.Core.Logic.{inl, inr, ◌↔◌}
 use Prim.Native.Nat.{ℕ, ◌+◌, ◌<◌, ◌≤◌}
 use native.Mathlib.Decide.{ℕ_discrete, dec_lt}
-use native.Mathlib.Numerals.{add-one}
 use native.Mathlib.Omega.{arith}
+use borrow.Author.Count.{below_more}
 use borrow.Author.Tests.{not-false, eqb-true, eq-eqb, ne_eqb}
 use lib.Dec.{eqb}
 use lib.ListN.{get_or}
 use Rattle.order.proofs.Booleans.{bool_cases, not_so}
-use Rattle.order.proofs.Extremes.{below_suc}
 use Rattle.model.specs.Plan.{Plan, machines, block_count, block_of, is_paired, partner}
 use Rattle.model.specs.Placement.{word_of, held, domains_used, used, share_of}
 use Rattle.model.specs.Steps.{Step, none, relocate, exchange, shifted, is_step, first, can_move, can_swap}
@@ -26,7 +25,7 @@ use Rattle.cluster.specs.Cluster.{machines_in, domain_in}
 use Rattle.cluster.specs.Blocks.{linked_to, share_in, spread_in, PlacementFits, PlacementOf}
 use Rattle.cluster.proofs.Laws.{cluster-blocks, cluster-domain, cluster-machines, mate-paired, mate-single, profiles-mate, placement-block, placement-share, placement-spread, placement-machine}
 use Rattle.transfers.specs.declared.Route.{Route}
-use Rattle.index.specs.Index.{words_by_number, spot, rank_at, NextOf}
+use Rattle.index.specs.Index.{words_by_number, words_by_rank, spot, rank_at, NextAsked, NoneFree, NextAt}
 use Rattle.transfers.specs.Route.{block_step, route_step, Shift, RouteIn, BlockAsked, Lies, InMargin, Passable, Free, NoReturn, ReturnAsked, RouteAsked, RouteScene, Return, FreeReturn, CandidateAsked}
 use Rattle.transfers.proofs.Searches.{step-found, none_found, test-found, test-none}
 
@@ -60,44 +59,61 @@ linked-below fits i l = let linked = fits.profiles-fit.linked i l in omega (arit
 
 -- ── RouteAsked: the candidates, one after the other ─────────────────────────────────────────────────────────────────────
 
--- The search has come to i: every block before it fails, and it is on m and not on n, or past the last.
-pub record Passed (c : Cluster) (words : List ℕ) (route : Route) (Fails : ℕ → Type 0) (i : ℕ) : Type 0 where
-  pub before : (k : ℕ) → k < i → k < c.blocks → Fails k
-  pub holds : i < c.blocks → held words route.m i ≡ 1
-  pub lacks : i < c.blocks → held words route.n i ≡ 0
+-- The search has come to block i: every block before it fails.
+pub record Passed (c : Cluster) (Fails : ℕ → Type 0) (i : ℕ) : Type 0 where
+  pub within : i ≤ c.blocks
+  pub before : (k : ℕ) → k < i → Fails k
 
-module _ {c : Cluster} {words profiles index : List ℕ} {route : Route} {Fails : ℕ → Type 0} (asked : RouteAsked c words profiles index route)
-    (others : (k : ℕ) → k < c.blocks → (held words route.m k ≡ 1 → held words route.n k ≡ 0 → ⊥) → Fails k) where
+pub passed_first : {c : Cluster} {Fails : ℕ → Type 0} → Passed c Fails 0
+passed_first = record { within = omega arith; before = λ k l. absurd (omega arith) }
+
+module _ {c : Cluster} {words profiles index : List ℕ} {route : Route} (asked : RouteAsked c words profiles index route) where
   in-index : (k i : ℕ) → k < machines_in c → i < c.blocks → spot index words_by_number k i ≡ held words k i
   in-index k i l b = asked.indexed.by_number k i (omega (arith, asked.route-in.in-range.machines-max)) b
 
-  from_on : (from : ℕ) {r : ℕ} → ((k : ℕ) → k < from → k < c.blocks → Fails k)
-      → NextOf index words_by_number route.m route.n from c r → Passed c words route Fails r
-  from_on from {r} early next =
-      let on = in-index route.m in
-      let off = in-index route.n in
-      let ml = asked.route-in.m-below in
-      let nl = asked.route-in.n-below in
+  pub next-asked : {part i : ℕ} → part ≤ words_by_rank → i ≤ c.blocks → NextAsked index part route.m route.n i c
+  next-asked part-max l =
+      let route-in = asked.route-in in
       record {
-        before = λ k l b. elim (dec_lt k from) [
-          | yes h ↦ early k h b
-          | no h ↦ others k b (λ holds lacks. next.passed k (omega arith) l b (on k ml b ∙ holds) (off k nl b ∙ lacks))
-        ];
-        holds = λ b. sym (on r ml b) ∙ next.holds b;
-        lacks = λ b. sym (off r nl b) ∙ next.lacks b;
+        sized = asked.indexed.ordered.sized;
+        part-max = part-max;
+        m-below = omega (arith, route-in.m-below, route-in.in-range.machines-max);
+        n-below = omega (arith, route-in.n-below, route-in.in-range.machines-max);
+        from-max = omega (arith, route-in.in-range.blocks-max);
+        blocks-max = route-in.in-range.blocks-max;
       }
 
-  pub passed_first : {r : ℕ} → NextOf index words_by_number route.m route.n 0 c r → Passed c words route Fails r
-  passed_first next = from_on 0 (λ k l b. absurd (omega arith)) next
+  -- the next candidate
+  pub next-candidate : {i r : ℕ} → NextAt index words_by_number route.m route.n i c r → CandidateAsked c words profiles index route r
+  next-candidate {i} {r} next =
+      record {
+        asked = asked;
+        i-below = next.below;
+        holds = sym (in-index route.m r asked.route-in.m-below next.below) ∙ next.holds;
+        lacks = sym (in-index route.n r asked.route-in.n-below next.below) ∙ next.lacks;
+      }
 
-  pub passed-next : {i r : ℕ} → Passed c words route Fails i → Fails i
-      → NextOf index words_by_number route.m route.n (i + 1) c r → Passed c words route Fails r
-  passed-next {i} passed here next =
-      from_on (i + 1) (rw add-one (below_suc i (λ k. k < c.blocks → Fails k) (λ b. here) passed.before)) next
+  -- a block that is no candidate fails
+  module _ {Fails : ℕ → Type 0} (others : (k : ℕ) → k < c.blocks → (held words route.m k ≡ 1 → held words route.n k ≡ 0 → ⊥) → Fails k)
+      {i : ℕ} (passed : Passed c Fails i) where
+    passed-free : (to : ℕ) → to ≤ c.blocks → NoneFree index words_by_number route.m route.n i to → (k : ℕ) → k < to → Fails k
+    passed-free to within clear k l = elim (dec_lt k i) [
+      | yes h ↦ passed.before k h
+      | no h ↦
+          let b : k < c.blocks = omega arith in
+          others k b (λ holds lacks. clear k (omega arith) l
+          (in-index route.m k asked.route-in.m-below b ∙ holds) (in-index route.n k asked.route-in.n-below b ∙ lacks))
+    ]
 
-pub passed-candidate : {c : Cluster} {words profiles index : List ℕ} {route : Route} {Fails : ℕ → Type 0} {i : ℕ}
-    → RouteAsked c words profiles index route → Passed c words route Fails i → i < c.blocks → CandidateAsked c words profiles index route i
-passed-candidate asked passed l = record { asked = asked; i-below = l; holds = passed.holds l; lacks = passed.lacks l }
+    pub passed-all : NoneFree index words_by_number route.m route.n i c.blocks → (k : ℕ) → k < c.blocks → Fails k
+    passed-all clear = passed-free c.blocks (omega arith) clear
+
+    module _ {r : ℕ} (next : NextAt index words_by_number route.m route.n i c r) where
+      pub passed-before : (k : ℕ) → k < r → Fails k
+      passed-before = passed-free r (omega (arith, next.below)) next.passed
+
+      pub passed-next : Fails r → Passed c Fails (r + 1)
+      passed-next here = record { within = omega (arith, next.below); before = below_more _ r passed-before here }
 
 -- a candidate's word and profile
 pub return-block : {c : Cluster} {words profiles : List ℕ} {route : Route} {j : ℕ}

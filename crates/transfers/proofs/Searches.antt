@@ -3,8 +3,13 @@
 use mathlib.Core.Path.{◌≡◌, refl, ap, ◌∙◌}
 use mathlib.Core.Bool.{Bool, true, false, cond}
 use Prim.Native.Nat.{ℕ, ◌<◌}
+use Rattle.std.proofs.Common.{Option, Some, None}
+use Rattle.std.specs.Option.{is_some}
 use Rattle.order.proofs.Searches.{first-none, first-at}
 use Rattle.model.specs.Steps.{Step, none, is_step, first}
+use Rattle.transfers.specs.declared.Hit.{Hit}
+use Rattle.transfers.specs.declared.Hit.TheVariants.{Move, Swap}
+use Rattle.transfers.specs.Route.{hit_of}
 
 -- a step at i, none before it
 pub step-found : (n i : ℕ) (f : ℕ → Step) (s : Step) → i < n → ((k : ℕ) → k < i → is_step (f k) ≡ false)
@@ -23,3 +28,10 @@ test-found n i test step l before here is =
 pub test-none : (n : ℕ) (test : ℕ → Bool) (step : ℕ → Step) → ((k : ℕ) → k < n → test k ≡ false)
     → first n (λ k. cond (test k) (step k) none) ≡ none
 test-none n test step each = none_found n (λ k. cond (test k) (step k) none) (λ k h. rw (each k h))
+
+-- what is found is a step
+pub hit-is_step : (across : Bool) (r : Option Hit) → is_step (hit_of across r) ≡ is_some r
+unfolding hit_of
+hit-is_step across None = refl
+hit-is_step across (Some (Move m n i)) = refl
+hit-is_step across (Some (Swap m n i j)) = refl

@@ -1,5 +1,5 @@
 -- What is found at one route of machines, in the model's terms.
-use Rattle.std.specs.Prelude.{◌≡◌, Bool, true, false, not, cond, List, ◌↔◌, ℕ, ◌+◌, ◌<◌, ◌≤◌, eqb, get_or}
+use Rattle.std.specs.Prelude.{◌≡◌, Bool, true, false, not, cond, List, ◌↔◌, ℕ, ◌+◌, ◌<◌, ◌≤◌, eqb, get_or, Option, Some, None}
 use Rattle.model.specs.Plan.{Plan, block_count}
 use Rattle.model.specs.Placement.{bit, word_of, held, domains_used, used}
 use Rattle.model.specs.Steps.{Step, none, relocate, exchange, shifted, can_move, can_swap, first}
@@ -11,13 +11,13 @@ use Rattle.cluster.specs.Blocks.{linked_to, share_in, spread_in, PlacementFits, 
 use Rattle.transfers.specs.declared.Route.{Route}
 use Rattle.index.specs.Index.{words_by_rank, spot, share_at, Indexed, AboveAsked}
 use Rattle.transfers.specs.declared.Hit.{Hit}
-use Rattle.transfers.specs.declared.Hit.TheVariants.{Nothing, Move, Swap}
+use Rattle.transfers.specs.declared.Hit.TheVariants.{Move, Swap}
 
 -- A find as a step; `across` says whether its machines lie in different racks.
-unfoldable pub hit_of : Bool → Hit → Step
-hit_of across Nothing = none
-hit_of across (Move m n i) = relocate across m n i
-hit_of across (Swap m n i j) = exchange across m n i j
+unfoldable pub hit_of : Bool → Option Hit → Step
+hit_of across None = none
+hit_of across (Some (Move m n i)) = relocate across m n i
+hit_of across (Some (Swap m n i j)) = exchange across m n i j
 
 -- The definition's first move or exchange between m and n.
 unfoldable pub route_step : Plan → List ℕ → Bool → Bool → ℕ → ℕ → Step
@@ -39,10 +39,10 @@ pub record Shift (c : Cluster) (words : List ℕ) (m n i : ℕ) : Type 0 where
   pub lacks : held words n i ≡ 0
 
 -- What a find names can be carried out.
-abbrev pub HitFound : Cluster → List ℕ → Hit → Type 0
-HitFound c words Nothing = Unit
-HitFound c words (Move m n i) = Shift c words m n i
-HitFound c words (Swap m n i j) = Shift c words m n i × Shift c words n m j
+abbrev pub StepFound : Cluster → List ℕ → Step → Type 0
+StepFound c words none = Unit
+StepFound c words (relocate across m n i) = Shift c words m n i
+StepFound c words (exchange across m n i j) = Shift c words m n i × Shift c words n m j
 
 -- Two machines of the cluster, and whether they lie in different failure domains.
 pub record RouteIn (c : Cluster) (route : Route) : Type 0 where
@@ -144,14 +144,23 @@ abbrev pub ReturnOf : Cluster → List ℕ → List ℕ → Route → ℕ → �
 ReturnOf c words profiles route given j r =
     (p : Plan) (count : ℕ → ℕ) → PlacementOf p count c words profiles → (r ≡ true) ↔ FreeReturn p words profiles route given j
 
--- The first such block, seen from the route the other way round; past the last where there is none.
-pub record ReturnFound (c : Cluster) (words profiles : List ℕ) (route : Route) (given r : ℕ) : Type 0 where
-  pub holds : r < c.blocks → held words route.m r ≡ 1
-  pub lacks : r < c.blocks → held words route.n r ≡ 0
-  pub passed : (k : ℕ) → k < r → k < c.blocks
-      → (p : Plan) (count : ℕ → ℕ) → PlacementOf p count c words profiles → FreeReturn p words profiles route given k → ⊥
-  pub found : r < c.blocks
-      → (p : Plan) (count : ℕ → ℕ) → PlacementOf p count c words profiles → FreeReturn p words profiles route given r
+-- No block before `to` does.
+abbrev pub NoneReturns : Cluster → List ℕ → List ℕ → Route → ℕ → ℕ → Type 0
+NoneReturns c words profiles route given to =
+    (k : ℕ) → k < to → (p : Plan) (count : ℕ → ℕ) → PlacementOf p count c words profiles → FreeReturn p words profiles route given k → ⊥
+
+-- r is the first that does, seen from the route the other way round.
+pub record ReturnAt (c : Cluster) (words profiles : List ℕ) (route : Route) (given r : ℕ) : Type 0 where
+  pub below : r < c.blocks
+  pub holds : held words route.m r ≡ 1
+  pub lacks : held words route.n r ≡ 0
+  pub passed : NoneReturns c words profiles route given r
+  pub found : (p : Plan) (count : ℕ → ℕ) → PlacementOf p count c words profiles → FreeReturn p words profiles route given r
+
+-- The first such block, or none.
+abbrev pub ReturnFound : Cluster → List ℕ → List ℕ → Route → ℕ → Option ℕ → Type 0
+ReturnFound c words profiles route given (Some r) = ReturnAt c words profiles route given r
+ReturnFound c words profiles route given None = NoneReturns c words profiles route given c.blocks
 
 -- A block i whose partner is on m.
 pub record OwnAsked (c : Cluster) (words profiles : List ℕ) (route : Route) (i : ℕ) : Type 0 where
@@ -160,14 +169,19 @@ pub record OwnAsked (c : Cluster) (words profiles : List ℕ) (route : Route) (i
   pub i-below : i < c.blocks
   pub holds : held words route.m (linked_to (get_or profiles i 0) i) ≡ 1
 
--- Its partner where that can come back, seen from the route the other way round; past the last where it cannot.
-pub record OwnFound (c : Cluster) (words profiles : List ℕ) (route : Route) (given i r : ℕ) : Type 0 where
-  pub is : r < c.blocks → r ≡ linked_to (get_or profiles i 0) i
-  pub lacks : r < c.blocks → held words route.n r ≡ 0
-  pub passed : c.blocks ≤ r → (p : Plan) (count : ℕ → ℕ) → PlacementOf p count c words profiles
-      → Return p words profiles route given (linked_to (get_or profiles i 0) i) → ⊥
-  pub found : r < c.blocks
-      → (p : Plan) (count : ℕ → ℕ) → PlacementOf p count c words profiles → Return p words profiles route given r
+-- r is its partner, which can come back, seen from the route the other way round.
+pub record OwnAt (c : Cluster) (words profiles : List ℕ) (route : Route) (given i r : ℕ) : Type 0 where
+  pub below : r < c.blocks
+  pub is : r ≡ linked_to (get_or profiles i 0) i
+  pub lacks : held words route.n r ≡ 0
+  pub found : (p : Plan) (count : ℕ → ℕ) → PlacementOf p count c words profiles → Return p words profiles route given r
+
+-- Its partner, or none where that cannot come back.
+abbrev pub OwnFound : Cluster → List ℕ → List ℕ → Route → ℕ → ℕ → Option ℕ → Type 0
+OwnFound c words profiles route given i (Some r) = OwnAt c words profiles route given i r
+OwnFound c words profiles route given i None =
+    (p : Plan) (count : ℕ → ℕ) → PlacementOf p count c words profiles
+    → Return p words profiles route given (linked_to (get_or profiles i 0) i) → ⊥
 
 -- A block that is on m and not on n.
 pub record CandidateAsked (c : Cluster) (words profiles index : List ℕ) (route : Route) (i : ℕ) : Type 0 where
@@ -176,21 +190,31 @@ pub record CandidateAsked (c : Cluster) (words profiles index : List ℕ) (route
   pub holds : held words route.m i ≡ 1
   pub lacks : held words route.n i ≡ 0
 
--- The first block that block i can be exchanged for; past the last where there is none.
-pub record ExchangeFound (c : Cluster) (words profiles : List ℕ) (route : Route) (i r : ℕ) : Type 0 where
-  pub holds : r < c.blocks → held words route.n r ≡ 1
-  pub lacks : r < c.blocks → held words route.m r ≡ 0
-  pub passed : (k : ℕ) → k < r → k < c.blocks → (p : Plan) (count : ℕ → ℕ) → RouteScene p count c words profiles route
-      → can_swap p words route.m route.n i k ≡ false
-  pub found : r < c.blocks → (p : Plan) (count : ℕ → ℕ) → RouteScene p count c words profiles route
-      → can_swap p words route.m route.n i r ≡ true
+-- Block i can be exchanged for no block before `to`.
+abbrev pub NoneExchanged : Cluster → List ℕ → List ℕ → Route → ℕ → ℕ → Type 0
+NoneExchanged c words profiles route i to =
+    (k : ℕ) → k < to → (p : Plan) (count : ℕ → ℕ) → RouteScene p count c words profiles route
+    → can_swap p words route.m route.n i k ≡ false
+
+-- r is the first block that it can be exchanged for.
+pub record ExchangeAt (c : Cluster) (words profiles : List ℕ) (route : Route) (i r : ℕ) : Type 0 where
+  pub below : r < c.blocks
+  pub holds : held words route.n r ≡ 1
+  pub lacks : held words route.m r ≡ 0
+  pub passed : NoneExchanged c words profiles route i r
+  pub found : (p : Plan) (count : ℕ → ℕ) → RouteScene p count c words profiles route → can_swap p words route.m route.n i r ≡ true
+
+-- The first such block, or none.
+abbrev pub ExchangeFound : Cluster → List ℕ → List ℕ → Route → ℕ → Option ℕ → Type 0
+ExchangeFound c words profiles route i (Some r) = ExchangeAt c words profiles route i r
+ExchangeFound c words profiles route i None = NoneExchanged c words profiles route i c.blocks
 
 -- Where the kind is a move, n has room.
 abbrev pub HasRoom : Plan → List ℕ → Bool → ℕ → Type 0
 HasRoom p words swapping n = swapping ≡ false → used p words n < p.capacity
 
 -- What is found is what the definition's search finds, whichever kinds the step is of.
-pub record HitOf (c : Cluster) (words profiles : List ℕ) (route : Route) (swapping : Bool) (wanted : Bool → Plan → Step) (r : Hit) : Type 0 where
-  pub sound : HitFound c words r
+pub record HitOf (c : Cluster) (words profiles : List ℕ) (route : Route) (swapping : Bool) (wanted : Bool → Plan → Step) (r : Option Hit) : Type 0 where
+  pub sound : (across : Bool) → StepFound c words (hit_of across r)
   pub is : (p : Plan) (count : ℕ → ℕ) → RouteScene p count c words profiles route → HasRoom p words swapping route.n
       → (across : Bool) → hit_of across r ≡ wanted across p

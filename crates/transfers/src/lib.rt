@@ -3,9 +3,8 @@
 #![tactic(auto)]
 
 ghost use Rattle.std.specs.Prelude.{◌≡◌, Bool};
-ghost use Rattle.model.specs.Steps.{is_step};
 ghost use Rattle.cluster.specs.Blocks.{share_in, spread_in};
-ghost use Rattle.transfers.specs.Route.{hit_of, route_step, block_step, BlockAsked, KeepsOf, PassableOf, FreeAsked, FreeOf, SharesAsked, NoReturn, ReturnAsked, ReturnOf, RouteAsked, ReturnFound, OwnAsked, OwnFound, CandidateAsked, ExchangeFound, HitOf};
+ghost use Rattle.transfers.specs.Route.{route_step, block_step, BlockAsked, KeepsOf, PassableOf, FreeAsked, FreeOf, SharesAsked, NoReturn, ReturnAsked, ReturnOf, RouteAsked, ReturnFound, OwnAsked, OwnFound, CandidateAsked, ExchangeFound, HitOf};
 
 use cluster::Cluster;
 use index::{BY_NUMBER, BY_RANK, KEYS_AT};
@@ -23,7 +22,6 @@ pub struct Route {
 // Block i from m to n, or that and block j from n to m.
 #[derive(Clone, Copy)]
 pub enum Hit {
-    Nothing,
     Move {
         m: usize,
         n: usize,
@@ -35,22 +33,6 @@ pub enum Hit {
         i: usize,
         j: usize,
     },
-}
-
-// Whether something was found.
-pub fn is_found(hit: Hit) -> bool
-    ensures { (across : Bool) → is_step (hit_of across hit) ≡ result }
-{
-    match hit {
-        Hit::Nothing => false,
-        Hit::Move { m: _, n: _, i: _ } => true,
-        Hit::Swap {
-            m: _,
-            n: _,
-            i: _,
-            j: _,
-        } => true,
-    }
 }
 
 // Whether a block still lies in as many failure domains as its spread once its copy on m is on n. They are counted only where a block
@@ -119,10 +101,9 @@ fn may_return(index: &[u64], cluster: Cluster, route: Route, given: u64) -> bool
         return true;
     }
     let from = index::first_above(index, given - route.margin, cluster);
-    let rank = index::next(index, BY_RANK, route.m, route.n, from, cluster);
-    if cluster.blocks <= rank {
+    let Some(rank) = index::next(index, BY_RANK, route.m, route.n, from, cluster) else {
         return false;
-    }
+    };
     ranking::key_share(index[KEYS_AT + rank]) < given
 }
 
@@ -144,7 +125,7 @@ fn can_return(
     is_free(words, profiles, cluster, j, route.n)
 }
 
-// The first block of m's that can go to n in return for one of the share `given`; past the last block where there is none.
+// The first block of m's that can go to n in return for one of the share `given`, if there is one.
 fn first_return(
     words: &[u64],
     profiles: &[u64],
@@ -152,24 +133,24 @@ fn first_return(
     cluster: Cluster,
     route: Route,
     given: u64,
-) -> usize
+) -> Option<usize>
     requires { RouteAsked cluster words.now profiles.now index.now route }
     ensures { ReturnFound cluster words.now profiles.now route given result }
 {
     if !may_return(index, cluster, route, given) {
-        return cluster.blocks;
+        return None;
     }
-    let mut j = index::next(index, BY_NUMBER, route.m, route.n, 0, cluster);
-    while j < cluster.blocks {
+    let mut next_j: usize = 0;
+    while let Some(j) = index::next(index, BY_NUMBER, route.m, route.n, next_j, cluster) {
         if can_return(words, profiles, cluster, route, given, j) {
-            return j;
+            return Some(j);
         }
-        j = index::next(index, BY_NUMBER, route.m, route.n, j + 1, cluster);
+        next_j = j + 1;
     }
-    j
+    None
 }
 
-// The partner of block i, which is on m, where it can go to n in return for i, of the share `given`; else past the last block.
+// The partner of block i, which is on m, where it can go to n in return for i, of the share `given`.
 fn own_return(
     words: &[u64],
     profiles: &[u64],
@@ -177,21 +158,18 @@ fn own_return(
     route: Route,
     given: u64,
     i: usize,
-) -> usize
+) -> Option<usize>
     requires { OwnAsked cluster words.now profiles.now route i }
     ensures { OwnFound cluster words.now profiles.now route given i result }
 {
     let k = cluster::linked_to(profiles[i], i);
     if bits::bit_at(words[k], route.n) == 1 {
-        return cluster.blocks;
+        return None;
     }
-    if returnable(words[k], profiles[k], cluster, route, given) {
-        return k;
-    }
-    cluster.blocks
+    returnable(words[k], profiles[k], cluster, route, given).then_some(k)
 }
 
-// The first block that block i can be exchanged for, which is its partner where that is on n; past the last block where there is none.
+// The first block that block i can be exchanged for, if there is one; it is i's partner where that is on n.
 fn first_exchange(
     words: &[u64],
     profiles: &[u64],
@@ -199,16 +177,16 @@ fn first_exchange(
     cluster: Cluster,
     route: Route,
     i: usize,
-) -> usize
+) -> Option<usize>
     requires { CandidateAsked cluster words.now profiles.now index.now route i }
     ensures { ExchangeFound cluster words.now profiles.now route i result }
 {
     let given = cluster::share_of(profiles[i]);
     if given == 0 {
-        return cluster.blocks;
+        return None;
     }
     if !keeps(words[i], profiles[i], cluster, route) {
-        return cluster.blocks;
+        return None;
     }
     let back = Route {
         parted: route.parted,
@@ -231,7 +209,7 @@ fn find_at(
     route: Route,
     swapping: bool,
     i: usize,
-) -> Hit
+) -> Option<Hit>
     requires { CandidateAsked cluster words.now profiles.now index.now route i }
     ensures { HitOf cluster words.now profiles.now route swapping
         (λ across p. block_step p words.now swapping across route.m route.n i) result }
@@ -239,19 +217,16 @@ fn find_at(
     let m = route.m;
     let n = route.n;
     if swapping {
-        let j = first_exchange(words, profiles, index, cluster, route, i);
-        if j < cluster.blocks {
-            return Hit::Swap { m, n, i, j };
-        }
-        return Hit::Nothing;
+        let j = first_exchange(words, profiles, index, cluster, route, i)?;
+        return Some(Hit::Swap { m, n, i, j });
     }
     if !movable(words[i], profiles[i], cluster, route) {
-        return Hit::Nothing;
+        return None;
     }
     if !is_free(words, profiles, cluster, i, n) {
-        return Hit::Nothing;
+        return None;
     }
-    Hit::Move { m, n, i }
+    Some(Hit::Move { m, n, i })
 }
 
 // The first move from m to n, which has room, or the first exchange between them.
@@ -262,18 +237,18 @@ pub fn find(
     cluster: Cluster,
     route: Route,
     swapping: bool,
-) -> Hit
+) -> Option<Hit>
     requires { RouteAsked cluster words.now profiles.now index.now route }
     ensures { HitOf cluster words.now profiles.now route swapping
         (λ across p. route_step p words.now swapping across route.m route.n) result }
 {
-    let mut i = index::next(index, BY_NUMBER, route.m, route.n, 0, cluster);
-    while i < cluster.blocks {
+    let mut next_i: usize = 0;
+    while let Some(i) = index::next(index, BY_NUMBER, route.m, route.n, next_i, cluster) {
         let hit = find_at(words, profiles, index, cluster, route, swapping, i);
-        if is_found(hit) {
+        if hit.is_some() {
             return hit;
         }
-        i = index::next(index, BY_NUMBER, route.m, route.n, i + 1, cluster);
+        next_i = i + 1;
     }
-    Hit::Nothing
+    None
 }

@@ -3,47 +3,29 @@
 // The digest of nothing.
 const BASIS: u64 = 14695981039346656037;
 
+// 2^40 + 435.
 const PRIME: u64 = 1099511628211;
 
-// The product with the prime, 2^40 + 435, modulo 2^64.
-fn times_prime(x: u64) -> u64 {
-    x.wrapping_mul(PRIME)
-}
-
-// The digest with one byte more.
-fn mix(digest: u64, byte: u64) -> u64 {
-    times_prime(digest ^ byte)
-}
-
-fn wide(x: u8) -> u64 {
-    x as u64
+// The digest with one byte more: products are taken modulo 2^64.
+fn mix(digest: u64, byte: u8) -> u64 {
+    (digest ^ u64::from(byte)).wrapping_mul(PRIME)
 }
 
 // The digest of some bytes.
 pub fn of_bytes(bytes: &[u8]) -> u64 {
-    let mut digest = BASIS;
-    for byte in bytes {
-        digest = mix(digest, wide(*byte));
-    }
-    digest
+    bytes.iter().fold(BASIS, |digest, byte| mix(digest, *byte))
 }
 
 // The digest with a word's 8 bytes more.
 fn mix_word(digest: u64, word: u64) -> u64 {
-    let mut mixed = digest;
-    let mut rest = word;
-    for _ in 0..8 {
-        mixed = mix(mixed, rest % 256);
-        rest /= 256;
-    }
-    mixed
+    word.to_le_bytes()
+        .iter()
+        .fold(digest, |digest, byte| mix(digest, *byte))
 }
 
 // The digest of some words.
 pub fn of_words(words: &[u64]) -> u64 {
-    let mut digest = BASIS;
-    for word in words {
-        digest = mix_word(digest, *word);
-    }
-    digest
+    words
+        .iter()
+        .fold(BASIS, |digest, word| mix_word(digest, *word))
 }

@@ -77,10 +77,7 @@ fn take_plan<R: Read>(
 
 // Reads the first n words; false where they are too many, or the input ends first.
 fn fill_words<R: Read>(reader: &mut R, words: &mut [u64], n: usize) -> io::Result<bool> {
-    if n > 1100 {
-        return Ok(false);
-    }
-    if n > words.len() {
+    if n > 1100 || n > words.len() {
         return Ok(false);
     }
     let mut raw = [0u8; 8800];
@@ -88,7 +85,7 @@ fn fill_words<R: Read>(reader: &mut R, words: &mut [u64], n: usize) -> io::Resul
     if !input::fill(reader, &mut raw[..size])? {
         return Ok(false);
     }
-    input::decode(&raw, n, words);
+    input::decode(&raw, &mut words[..n]);
     Ok(true)
 }
 
@@ -146,7 +143,7 @@ fn take_count(high: usize, low: u32, mut current: Current) -> Turn {
     if high > 65535 {
         return Turn::Bad;
     }
-    current.count = high as u64 * 4294967296 + low as u64;
+    current.count = high as u64 * 4294967296 + u64::from(low);
     Turn::On(current)
 }
 
@@ -158,7 +155,7 @@ fn take_block(block: u32, mut current: Current) -> Turn {
 
 // Judges the plan.
 fn try_plan<W: Write>(out: &mut W, plan: &[u8], current: Current) -> io::Result<Turn> {
-    let size = input::at_most(current.plan, plan.len());
+    let size = current.plan.min(plan.len());
     calls::plan_line(&plan[..size]).write(out)?;
     Ok(Turn::On(current))
 }
@@ -171,8 +168,8 @@ fn answer_counts<W: Write>(out: &mut W, plan: &[u8], lent: &mut [u8]) -> io::Res
 
 // Chooses the counts, in a buffer of n bytes.
 fn try_counts<W: Write>(out: &mut W, plan: &[u8], n: usize, current: Current) -> io::Result<Turn> {
-    let size = input::at_most(current.plan, plan.len());
-    let room = input::at_most(n, 65536);
+    let size = current.plan.min(plan.len());
+    let room = n.min(65536);
     let mut space = input::filled();
     answer_counts(out, &plan[..size], &mut space[..room])?;
     Ok(Turn::On(current))
@@ -186,8 +183,8 @@ fn answer_conversion<W: Write>(out: &mut W, plan: &[u8], lent: &mut [u8]) -> io:
 
 // Converts the plan, into a buffer of n bytes.
 fn try_convert<W: Write>(out: &mut W, plan: &[u8], n: usize, current: Current) -> io::Result<Turn> {
-    let size = input::at_most(current.plan, plan.len());
-    let room = input::at_most(n, 65536);
+    let size = current.plan.min(plan.len());
+    let room = n.min(65536);
     let mut space = input::filled();
     answer_conversion(out, &plan[..size], &mut space[..room])?;
     Ok(Turn::On(current))
@@ -202,8 +199,8 @@ fn try_words<W: Write>(
     op: u8,
     limit: u32,
 ) -> io::Result<Turn> {
-    let size = input::at_most(current.plan, plan.len());
-    let lent = input::at_most(current.lent, words.len());
+    let size = current.plan.min(plan.len());
+    let lent = current.lent.min(words.len());
     let line = calls::words_line(&plan[..size], &mut words[..lent], op, limit);
     line.hex(digest::of_words(words)).write(out)?;
     Ok(Turn::On(current))
@@ -217,18 +214,22 @@ fn try_read<W: Write>(
     mut current: Current,
     tick: u32,
 ) -> io::Result<Turn> {
-    let size = input::at_most(current.plan, plan.len());
-    let lent = input::at_most(current.entries, 4200);
-    let block = current.block;
-    let count = current.count;
-    let list = log::unpacked(log);
-    let answer = log::read_answer(&plan[..size], block, tick, list, lent, count);
-    let after = log::read_list(&plan[..size], block, tick, list, lent, count);
-    log::pack(after, log);
-    log::put_answer(Line::new(b"read"), answer)
+    let size = current.plan.min(plan.len());
+    let lent = current.entries.min(4200);
+    let mut list = log::unpacked(log);
+    let answer = reads::read(
+        &plan[..size],
+        current.block,
+        tick,
+        &mut list[..lent],
+        current.count,
+    );
+    log::pack(&list, log);
+    Line::new(b"read")
+        .answer(answer)
         .hex(digest::of_words(log))
         .write(out)?;
-    current.count = log::next_count(count, answer);
+    current.count = answer.unwrap_or(current.count);
     Ok(Turn::On(current))
 }
 
@@ -239,17 +240,18 @@ fn try_popularity<W: Write>(
     log: &[u64],
     current: Current,
 ) -> io::Result<Turn> {
-    let size = input::at_most(current.plan, plan.len());
-    let lent = input::at_most(current.entries, 4200);
+    let size = current.plan.min(plan.len());
+    let lent = current.entries.min(4200);
     let list = log::unpacked(log);
-    let answer = log::popularity_answer(&plan[..size], current.block, list, lent, current.count);
-    log::put_answer(Line::new(b"popularity"), answer)
+    let answer = reads::popularity(&plan[..size], current.block, &list[..lent], current.count);
+    Line::new(b"popularity")
+        .answer(answer)
         .hex(digest::of_words(log))
         .write(out)?;
     Ok(Turn::On(current))
 }
 
-// Does what a record says, from its op, its length n and its number.
+// Does what a record says.
 fn apply<R: Read, W: Write>(
     reader: &mut R,
     out: &mut W,
@@ -257,10 +259,9 @@ fn apply<R: Read, W: Write>(
     words: &mut [u64],
     log: &mut [u64],
     current: Current,
-    op: u8,
-    n: usize,
-    number: u32,
+    head: Head,
 ) -> io::Result<Turn> {
+    let Head { op, n, number } = head;
     match op {
         b'T' => take_title(reader, out, n, current),
         b'P' => take_plan(reader, plan, n, current),
@@ -290,12 +291,9 @@ fn take_record<R: Read, W: Write>(
     log: &mut [u64],
     current: Current,
 ) -> io::Result<Turn> {
-    let head = input::next_head(reader)?;
-    match head {
-        Head::Cut => Ok(Turn::Bad),
-        Head::Record { op, n, number } => {
-            apply(reader, out, plan, words, log, current, op, n, number)
-        }
+    match input::next_head(reader)? {
+        None => Ok(Turn::Bad),
+        Some(head) => apply(reader, out, plan, words, log, current, head),
     }
 }
 

@@ -1,15 +1,21 @@
 // A line of output, made of its pieces and written at once.
-ghost use Rattle.std.specs.Prelude.{◌<◌};
-
-use crate::input::at_most;
-use std::io;
-use std::io::Write;
+use refusal::Refusal;
+use std::fmt::Write;
+use std::{fmt, io};
 
 // The first `len` bytes are the line so far. The longest line has 110 bytes; what does not fit is dropped.
 #[derive(Clone, Copy)]
 pub struct Line {
     pub bytes: [u8; 128],
     pub len: usize,
+}
+
+// No write fails, since what does not fit is dropped.
+impl fmt::Write for Line {
+    fn write_str(&mut self, s: &str) -> fmt::Result {
+        *self = self.text(s.as_bytes());
+        Ok(())
+    }
 }
 
 impl Line {
@@ -42,54 +48,34 @@ impl Line {
     }
 
     // The line with a space and a decimal number more.
-    pub fn number(self, n: u64) -> Line {
-        let mut digits = [0u8; 20];
-        let mut first: usize = 20;
-        let mut rest = n;
-        while first > 0 {
-            first -= 1;
-            digits[first] = digit(rest % 10);
-            rest /= 10;
-            if rest == 0 {
-                break;
-            }
-        }
-        self.byte(b' ').text(&digits[first..])
+    pub fn number(mut self, n: u64) -> Line {
+        let _ = write!(self, " {n}");
+        self
     }
 
     // The line with a space and 16 hexadecimal digits more.
-    pub fn hex(self, n: u64) -> Line {
-        let mut digits = [0u8; 16];
-        let mut rest = n;
-        for k in 0..16 {
-            digits[15 - k] = digit(rest % 16);
-            rest /= 16;
-        }
-        self.byte(b' ').text(&digits)
+    pub fn hex(mut self, n: u64) -> Line {
+        let _ = write!(self, " {n:016x}");
+        self
     }
 
     // The line with a refusal's number more.
-    pub fn refused(self, code: u8) -> Line {
-        self.text(b" refused").number(code as u64)
+    pub fn refused(self, refusal: Refusal) -> Line {
+        self.text(b" refused").number(u64::from(u8::from(refusal)))
+    }
+
+    // The line with a number answered, or a refusal, more.
+    pub fn answer(self, answer: Result<u64, Refusal>) -> Line {
+        match answer {
+            Ok(n) => self.number(n),
+            Err(refusal) => self.refused(refusal),
+        }
     }
 
     // Writes the line and a line feed.
-    pub fn write<W: Write>(self, out: &mut W) -> io::Result<()> {
+    pub fn write<W: io::Write>(self, out: &mut W) -> io::Result<()> {
         let whole = self.byte(b'\n');
-        let bytes = whole.bytes;
-        write_first(out, &bytes, whole.len)
+        let len = whole.len.min(128);
+        out.write_all(&whole.bytes[..len])
     }
-}
-
-// A digit in a base of at most 16.
-fn digit(value: u64) -> u8
-    requires { value < 16 }
-{
-    b"0123456789abcdef"[value as usize]
-}
-
-// Writes the first n bytes.
-fn write_first<W: Write>(out: &mut W, bytes: &[u8; 128], n: usize) -> io::Result<()> {
-    let len = at_most(n, 128);
-    out.write_all(&bytes[..len])
 }

@@ -4,17 +4,24 @@ use mathlib.Core.Path.{◌≡◌, refl, ap, ap₂, sym, ◌∙◌}
 use mathlib.Core.Bool.{Bool, true, false}
 use mathlib.Core.List.{List}
 use mathlib.Core.Logic.{◌⊎◌, inl, inr}
-use Prim.Native.Nat.{ℕ, ◌+◌, ◌<◌, ◌≤◌, ◌^◌}
+use Prim.Native.Nat.{ℕ, zero, suc, ◌+◌, ◌<◌, ◌≤◌, ◌^◌}
 use native.Mathlib.Nat.{le_trans}
 use native.Mathlib.Decide.{dec_lt}
 use borrow.Author.Tests.{le-leb}
 use native.Mathlib.Omega.{arith}
 use lib.Dec.{leb, ltb, eqb}
-use lib.ListN.{get_or}
+use lib.ListN.{get_or, length, take}
+use Rattle.std.specs.Bool.{MatchBool}
+use Rattle.std.specs.List.{list_all, range_with_len, AllWithin, HoldsAt}
+use Rattle.std.proofs.lemmas.List.Folds.{list_all_more}
+use Rattle.std.proofs.lemmas.List.FromFn.{length-range_with_len, get_or-range_with_len}
+use native.Mathlib.Numerals.{add-one}
+use Rattle.std.proofs.Math.Bool.{and_comm}
+use Rattle.std.proofs.Common.{zero-add, subst}
 use Rattle.order.specs.Search.{allb}
 use Rattle.order.proofs.Sums.{sum-none, sum-index}
 use Rattle.order.proofs.Booleans.{bool_cases, not_so}
-use Rattle.order.proofs.Extremes.{allb-cong, allb-step}
+use Rattle.order.proofs.Extremes.{allb-cong}
 use Rattle.model.specs.Plan.{Plan, machines, block_count, is_paired, partner}
 use Rattle.model.specs.Replication.{need}
 use Rattle.model.specs.Placement.{bit, word_of, replicas, count_of, domains_used, all_within, all_spread, all_fit, all_apart}
@@ -30,13 +37,29 @@ use Rattle.needs.proofs.Laws.{need-of}
 use Rattle.loads.specs.declared.Loads.{Loads}
 use Rattle.validation.specs.Validation.{all_counted_at, HeldAt, CopiesOf, Apart}
 
--- a loop that tests: none yet, and one more that passes
-pub allb-none : (test : ℕ → Bool) → allb 0 test ≡ true
+-- what `all` answers for the first n items of a list
+pub allb-front : (test : ℕ → Bool) (xs : List ℕ) (n : ℕ) → n ≤ length xs → list_all test (take n xs) ≡ allb n (λ i. test (get_or xs i 0))
 unfolding allb
-allb-none test = refl
+allb-front test xs zero l = refl
+allb-front test xs (suc n) l =
+    rw (← add-one, list_all_more test xs n 0 (omega arith), allb-front test xs n (omega arith)) (and_comm (allb n (λ i. test (get_or xs i 0))) (test (get_or xs n 0)))
 
-pub allb-more : (n : ℕ) (test : ℕ → Bool) → allb n test ≡ true → test n ≡ true → allb (n + 1) test ≡ true
-allb-more n test before here = rw (allb-step n test, here) before
+-- what it answers for the numbers below n
+abbrev pub TestedBelow : ℕ → Bool → (ℕ → Type 0) → (ℕ → Type 0) → Type 0
+TestedBelow n r Yes No = let all = range_with_len 0 n in MatchBool r (AllWithin Yes all 0 (length all)) ((k : ℕ) × (k < length all) × HoldsAt No all k)
+
+pub tested_each : (n : ℕ) (Yes No : ℕ → Type 0) → TestedBelow n true Yes No → (i : ℕ) → i < n → Yes i
+tested_each n Yes No all i l = subst Yes (get_or-range_with_len 0 n i 0 l ∙ zero-add i) (all i 0 (omega arith) (rw (length-range_with_len 0 n) l))
+
+pub tested_one : (n : ℕ) (Yes No : ℕ → Type 0) → TestedBelow n false Yes No → (i : ℕ) × (i < n) × No i
+tested_one n Yes No some =
+    let l : some.0 < n = rw (length-range_with_len 0 n) at some.1 in
+    (some.0, l, subst No (get_or-range_with_len 0 n some.0 0 l ∙ zero-add some.0) (some.2 0))
+
+pub tested_below : (n : ℕ) (r so : Bool) (Yes No : ℕ → Type 0) → TestedBelow n r Yes No
+    → (((i : ℕ) → i < n → Yes i) → so ≡ true) → ((i : ℕ) → i < n → No i → so ≡ false) → r ≡ so
+tested_below n true so Yes No all passes fails = sym (passes (tested_each n Yes No all))
+tested_below n false so Yes No some passes fails = let one = tested_one n Yes No some in sym (fails one.0 one.1 one.2)
 
 -- row 13
 abbrev pub is_within : List ℕ → ℕ → ℕ → Bool

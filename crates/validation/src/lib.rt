@@ -6,12 +6,14 @@ ghost use Rattle.std.specs.Prelude.{◌≡◌, Bool, List, ◌↔◌, ℕ, ◌<�
 ghost use Rattle.model.specs.Plan.{Plan};
 ghost use Rattle.model.specs.Refusal.{max_machines};
 ghost use Rattle.model.specs.Placement.{replicas, domains_used, all_within, all_spread, all_fit, all_apart};
+ghost use Rattle.refusal.specs.Rows.{code_of};
 ghost use Rattle.cluster.specs.Cluster.{machines_in, InRange, ClusterOf};
 ghost use Rattle.cluster.specs.Blocks.{spread_in, PlacementFits};
 ghost use Rattle.validation.specs.Validation.{WordsAsked, CountsAsked, CountedAs, CountsJudged, HeldAt, CopiesOf, Apart, LayoutAsked, layout_refusal};
 
 use cluster::Cluster;
 use loads::Loads;
+use refusal::Refusal;
 
 // Row 13: whether every word names only machines below M.
 fn all_within(words: &[u64], cluster: Cluster) -> bool
@@ -19,14 +21,9 @@ fn all_within(words: &[u64], cluster: Cluster) -> bool
     ensures { (p : Plan) → ClusterOf p cluster → result ≡ all_within p words.now }
 {
     let machines = cluster.machines();
-    let mut i: usize = 0;
-    while i < cluster.blocks {
-        if !bits::is_below(words[i], machines) {
-            return false;
-        }
-        i += 1;
-    }
-    true
+    words[..cluster.blocks]
+        .iter()
+        .all(|&word| bits::is_below(word, machines))
 }
 
 // Row 14: whether every block has the copies that it needs within a figure. The words name only machines below M.
@@ -35,28 +32,27 @@ fn all_counted(words: &[u64], demands: &[u64], cluster: Cluster, figure: u64) ->
     ensures { CountedAs cluster words.now demands.now figure result }
 {
     let scale = needs::scale_of(figure);
-    let mut i: usize = 0;
-    while i < cluster.blocks {
-        if bits::count_set(words[i]) != needs::needed(demands[i], figure, scale) {
-            return false;
-        }
-        i += 1;
-    }
-    true
+    (0..cluster.blocks).all(|i| bits::count_set(words[i])
+        == needs::needed(demands[i], figure, scale))
 }
 
-// Rows 13 and 14 of a placement of enough words, before any share or load is made; 0 where both pass.
-pub fn counts_refusal(words: &[u64], demands: &[u64], cluster: Cluster, figure: u64) -> u8
+// Rows 13 and 14 of a placement of enough words, before any share or load is made.
+pub fn check_counts(
+    words: &[u64],
+    demands: &[u64],
+    cluster: Cluster,
+    figure: u64,
+) -> Result<(), Refusal>
     requires { CountsAsked cluster words.now demands.now figure }
-    ensures { CountsJudged cluster words.now demands.now figure result }
+    ensures { CountsJudged cluster words.now demands.now figure (code_of result) }
 {
     if !all_within(words, cluster) {
-        return 13;
+        return Err(Refusal::NoSuchMachine);
     }
     if !all_counted(words, demands, cluster, figure) {
-        return 14;
+        return Err(Refusal::CopyCount);
     }
-    0
+    Ok(())
 }
 
 // Whether a block that has a copy lies in as many failure domains as its spread says. They are counted for a spread above one alone.
@@ -77,14 +73,7 @@ fn all_spread(words: &[u64], profiles: &[u64], cluster: Cluster) -> bool
     ensures { (p : Plan) (count : ℕ → ℕ) → HeldAt p count cluster words.now profiles.now
         → result ≡ all_spread p words.now }
 {
-    let mut i: usize = 0;
-    while i < cluster.blocks {
-        if !is_spread(words[i], profiles[i], cluster) {
-            return false;
-        }
-        i += 1;
-    }
-    true
+    (0..cluster.blocks).all(|i| is_spread(words[i], profiles[i], cluster))
 }
 
 // Row 16: whether no machine holds more than C copies.
@@ -92,16 +81,10 @@ fn all_fit(loads: Loads, cluster: Cluster) -> bool
     requires { machines_in cluster ≤ max_machines }
     ensures { (p : Plan) (words : List ℕ) → CopiesOf p words cluster loads → result ≡ all_fit p words }
 {
-    let copies = loads.copies;
     let machines = cluster.racks * cluster.rack_size;
-    let mut m: usize = 0;
-    while m < machines {
-        if cluster.capacity < copies[m] {
-            return false;
-        }
-        m += 1;
-    }
-    true
+    loads.copies[..machines]
+        .iter()
+        .all(|&copies| copies <= cluster.capacity)
 }
 
 // Whether block i shares no machine with the block that its profile links it to, where that is another: its partner.
@@ -122,30 +105,28 @@ fn all_apart(words: &[u64], profiles: &[u64], cluster: Cluster) -> bool
     ensures { (p : Plan) (count : ℕ → ℕ) → HeldAt p count cluster words.now profiles.now
         → all_within p words.now ≡ Bool.true → result ≡ all_apart p words.now }
 {
-    let mut i: usize = 0;
-    while i < cluster.blocks {
-        if !is_apart(words, profiles, cluster, i) {
-            return false;
-        }
-        i += 1;
-    }
-    true
+    (0..cluster.blocks).all(|i| is_apart(words, profiles, cluster, i))
 }
 
-// Rows 15, 16 and 18 of a placement whose words have passed 13 and 14, with its loads, at whatever counts it holds; 0 where all pass.
-pub fn layout_refusal(words: &[u64], profiles: &[u64], loads: Loads, cluster: Cluster) -> u8
+// Rows 15, 16 and 18 of a placement whose words have passed 13 and 14, with its loads, at whatever counts it holds.
+pub fn check_layout(
+    words: &[u64],
+    profiles: &[u64],
+    loads: Loads,
+    cluster: Cluster,
+) -> Result<(), Refusal>
     requires { LayoutAsked cluster words.now profiles.now loads }
     ensures { (p : Plan) (count : ℕ → ℕ) → HeldAt p count cluster words.now profiles.now
-        → all_within p words.now ≡ Bool.true → result ≡ layout_refusal p words.now }
+        → all_within p words.now ≡ Bool.true → code_of result ≡ layout_refusal p words.now }
 {
     if !all_spread(words, profiles, cluster) {
-        return 15;
+        return Err(Refusal::TooFewDomains);
     }
     if !all_fit(loads, cluster) {
-        return 16;
+        return Err(Refusal::OverCapacity);
     }
     if !all_apart(words, profiles, cluster) {
-        return 18;
+        return Err(Refusal::PairTogether);
     }
-    0
+    Ok(())
 }

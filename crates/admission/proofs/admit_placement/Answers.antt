@@ -1,21 +1,69 @@
--- `admission::admit_placement` meets its contract: a refused plan's code is the call's, and an accepted plan goes on to the words.
+-- `admission::admit_placement` meets its contract: the plan and row 12, then 13 and 14 at the needs within the figure, which are the chosen
+-- counts, then the others at the counts held.
 -- Assumes nothing.
-use mathlib.Core.Path.{sym, ◌∙◌}
-use native.Mathlib.Omega.{arith}
-use Rattle.theory.proofs.Calls.{call_refusal-refused}
-use Rattle.theory.proofs.Refusal.{judge-some}
-use Rattle.plan.specs.Reading.{verdict_of}
+use mathlib.Core.Path.{refl, sym, ◌∙◌}
+use native.Mathlib.Nat.{le_trans}
+use Rattle.std.proofs.lemmas.Result.{err_from_is_err_and}
+use Rattle.model.specs.Calls.{placement_refusal}
+use Rattle.theory.proofs.Calls.{call_refusal-short, call_refusal-accepted}
+use Rattle.theory.proofs.Replication.{reachable-upper}
+use Rattle.refusal.proofs.Laws.{number_of-pos}
+use Rattle.cluster.proofs.Laws.{cluster-range, cluster-blocks}
+use Rattle.plan.proofs.Laws.{accepted-header}
+use Rattle.replication.proofs.Laws.{most-within}
+use Rattle.admission.proofs.Laws.{rows-counts, rows-layout, admitted-of}
 use Rattle.admission.proofs.admit_placement.Goals as goal
 
-pub admit_words-requires : goal.admit_words-requires
-unfolding verdict_of
-admit_words-requires c = (sym (rw c.in-Accepted.is at c.read-reading.ensures), c.requires)
+pub returns-in_err-h : goal.returns-in_err-h
+unfolding placement_refusal
+returns-in_err-h c =
+    let p = err_from_is_err_and c.from_residual.result c.from_residual.ensures.1 in
+    rw (p.1, p.2) (sym (call_refusal-short _ _ _ _ (sym c.in_err-h.ensures) (number_of-pos _)))
 
-pub returns-in-Refused : goal.returns-in-Refused
-unfolding verdict_of
-returns-in-Refused c =
-    let refuses = sym (rw c.in-Refused.is at c.read-reading.ensures) in
+pub demand_all-allowed-requires : goal.demand_all-allowed-requires
+demand_all-allowed-requires c =
+    let accepts = c.in_ok-h.ensures.accepts in
+    record { accepts = accepts; room = le_trans (cluster-range _ _ (accepted-header _ _ accepts).cluster-of).blocks-max c.requires }
+
+pub best_figure-figure-requires : goal.best_figure-figure-requires
+best_figure-figure-requires c =
+    let made = c.demand_all-allowed.ensures in
+    record { fit = made.fit; plan = _; limited = made.limited }
+
+pub check_counts-requires : goal.check_counts-requires
+check_counts-requires c =
+    let demands = c.demand_all-allowed.ensures in
+    let of = demands.limited.demands-of in
+    let figure-of = c.best_figure-figure.ensures.0 _ demands.limited in
     record {
-      code_is = c.refused_placement.ensures ∙ sym (call_refusal-refused _ _ _ refuses);
-      ready = λ e. absurd (omega (arith, c.refused_placement.ensures, judge-some _ _ refuses));
+      figure-asked =
+          record {
+            fit = demands.fit;
+            wanted-narrow = c.best_figure-figure.ensures.1;
+            most-within = most-within _ _ _ of _ (reachable-upper _ of.cluster.valid _ figure-of.reached);
+          };
+      word_room = rw (← cluster-blocks _ _ of.cluster) at c.in_ok-h.ensures.enough;
     }
+
+pub returns-in_err-check_counts : goal.returns-in_err-check_counts
+returns-in_err-check_counts c =
+    let entered = c.in_ok-h.ensures in
+    let limited = c.demand_all-allowed.ensures.limited in
+    let figure-of = c.best_figure-figure.ensures.0 _ limited in
+    let code = c.in_err-check_counts.ensures.code_is _ limited.demands-of in
+    let p = err_from_is_err_and c.from_residual-in_err-check_counts.result c.from_residual-in_err-check_counts.ensures.1 in
+    rw (p.1, p.2) (sym (call_refusal-accepted _ _ _ entered.accepts ∙ rows-counts _ _ _ figure-of entered.enough _ code (number_of-pos _)))
+
+pub admit_counted-requires : goal.admit_counted-requires
+admit_counted-requires c =
+    let of = c.demand_all-allowed.ensures.limited.demands-of in
+    record { fit = c.in_ok-check_counts.ensures.fit refl _ of; plan = _; demands-of = of }
+
+pub returns : goal.returns
+returns c =
+    let entered = c.in_ok-h.ensures in
+    let limited = c.demand_all-allowed.ensures.limited in
+    let of = limited.demands-of in
+    let figure-of = c.best_figure-figure.ensures.0 _ limited in
+    let rows = rows-layout _ _ _ figure-of entered.enough (sym (c.in_ok-check_counts.ensures.code_is _ of)) in
+    admitted-of _ _ entered.accepts _ rows _ _ _ entered.enough (c.admit_counted.ensures _ of)

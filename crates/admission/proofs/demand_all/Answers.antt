@@ -14,7 +14,7 @@ overflow_mul-places c =
 
 pub returns : goal.returns
 returns c =
-    let allowed = rw c.machines.ensures.0 at c.smaller.ensures in
+    let allowed = rw c.machines.ensures.0 at c.min.ensures in
     record {
       fit = c.decode.ensures.fit;
       limited = limited-of _ _ (accepted-header _ _ c.requires.accepts) _ _ c.decode.ensures _ allowed;

@@ -4,8 +4,5 @@
 use Rattle.arrival.proofs.Laws.{Parting}
 use Rattle.arrival.proofs.by_domain.Given as goal
 
-abbrev pub invariant-loop-rest : goal.invariant-loop-rest
-invariant-loop-rest l = Parting l.word l.rest l.cluster l.parts
-
-abbrev pub decreases-loop-rest : goal.decreases-loop-rest
-decreases-loop-rest l = l.rest
+abbrev pub invariant-loop-m : goal.invariant-loop-m
+invariant-loop-m l = Parting l.word l.m-iterator.rest l.cluster l.parts

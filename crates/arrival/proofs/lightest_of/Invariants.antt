@@ -3,8 +3,5 @@
 use Rattle.arrival.proofs.Laws.{BestOf}
 use Rattle.arrival.proofs.lightest_of.Given as goal
 
-abbrev pub invariant-loop-rest : goal.invariant-loop-rest
-invariant-loop-rest l = BestOf l.set l.rest l.weights l.best
-
-abbrev pub decreases-loop-rest : goal.decreases-loop-rest
-decreases-loop-rest l = l.rest
+abbrev pub invariant-loop-k : goal.invariant-loop-k
+invariant-loop-k l = BestOf l.set l.k-iterator.rest l.weights l.best

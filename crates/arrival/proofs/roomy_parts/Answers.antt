@@ -1,6 +1,6 @@
 -- `arrival::roomy_parts` meets its contract. The loop's invariant: `roomy` has the parts passed that have a machine.
 -- Assumes nothing.
-use mathlib.Core.Path.{◌≡◌, ap, sym, ◌∙◌}
+use mathlib.Core.Path.{ap, sym, ◌∙◌}
 use mathlib.Core.Bool.{Bool}
 use mathlib.Core.List.{List}
 use Prim.Native.Nat.{ℕ, ◌+◌, ◌^◌}
@@ -9,7 +9,6 @@ use borrow.Author.Tests.{lt-ltb, le-ltb}
 use lib.Dec.{ltb}
 use lib.ListN.{get_or}
 use Rattle.theory.proofs.Placement.{bit-above}
-use Rattle.arrival.specs.Arrival.{roomy_in}
 use Rattle.arrival.proofs.Laws.{set_of-zero, set_of-with, set_of-without, set_of-below}
 use Rattle.arrival.proofs.roomy_parts.Goals as goal
 
@@ -18,38 +17,22 @@ abbrev has-machine : List ℕ → ℕ → Bool
 has-machine parts d = ltb 0 (get_or parts d 0)
 
 pub loop-d-init : goal.loop-d-init
-loop-d-init c = (omega arith, sym (set_of-zero (has-machine c.args.parts.now)))
-
-pub offset_bounds-parts-d : goal.offset_bounds-parts-d
-offset_bounds-parts-d c = omega (arith, c.requires.0)
-
-pub bounds-parts-d : goal.bounds-parts-d
-bounds-parts-d c = omega (arith, c.requires.0, c.requires.1)
+loop-d-init c = sym (set_of-zero (has-machine c.args.parts.now))
 
 pub with_bit-roomy-requires : goal.with_bit-roomy-requires
 with_bit-roomy-requires c =
     let parts = c.args.parts.now in
     let d = c.loop-d.d in
-    (omega (arith, c.requires.0), (rw c.loop-d.invariant.1 (bit-above _ d (set_of-below (has-machine parts) d))))
-
-pub overflow_add-d : goal.overflow_add-d
-overflow_add-d c = omega (arith, c.requires.0)
+    (omega (arith, c.requires.0), (rw c.loop-d.invariant (bit-above _ d (set_of-below (has-machine parts) d))))
 
 pub loop-d-preserved : goal.loop-d-preserved
 loop-d-preserved c =
     let parts = c.args.parts.now in
-    let d = c.loop-d.d in (
-      omega arith,
-      elim c.if-parts-d-gt0.branch [
-        | goal.then-parts-d-gt0 w ↦
-            w.roomy-is ∙ w.with_bit-roomy.ensures ∙ ap (λ (x : ℕ). x + 2 ^ d) c.loop-d.invariant.1
-            ∙ sym (set_of-with (has-machine parts) d (lt-ltb 0 (get_or parts d 0) w.if-parts-d-gt0.true))
-        | goal.else-parts-d-gt0 w ↦
-            w.roomy-is ∙ c.loop-d.invariant.1 ∙ sym (set_of-without (has-machine parts) d (le-ltb 0 (get_or parts d 0) w.if-parts-d-gt0.false))
-      ],
-    )
-
-pub returns : goal.returns
-returns c =
-    let done : c.loop-d.d ≡ c.args.count = omega arith in
-    c.loop-d.invariant.1 ∙ ap (roomy_in c.args.parts.now) done
+    let d = c.loop-d.d in
+    elim c.if-parts-d-gt0.branch [
+      | goal.then-parts-d-gt0 w ↦
+          w.roomy-is ∙ w.with_bit-roomy.ensures ∙ ap (λ (x : ℕ). x + 2 ^ d) c.loop-d.invariant
+          ∙ sym (set_of-with (has-machine parts) d (lt-ltb 0 (get_or parts d 0) w.if-parts-d-gt0.true))
+      | goal.else-parts-d-gt0 w ↦
+          w.roomy-is ∙ c.loop-d.invariant ∙ sym (set_of-without (has-machine parts) d (le-ltb 0 (get_or parts d 0) w.if-parts-d-gt0.false))
+    ]

@@ -3,14 +3,20 @@
 use borrow.Author.Rules.{rules}
 use mathlib.Core.Path.{ap, ◌∙◌}
 use Rattle.model.specs.Steps.{after}
+use Rattle.search.specs.Scene.{step_of}
 use Rattle.index.proofs.Laws.{blank-cleared}
 use Rattle.balance.proofs.step.Goals as goal
 
 pub start-requires : goal.start-requires
 start-requires c = search (rules, blank-cleared)
 
+pub returns-in_err-step : goal.returns-in_err-step
+unfolding step_of after
+returns-in_err-step c p count at =
+    let next = c.in_err-step.ensures.0.is p count at in
+    rw c.from_residual.ensures (record { step_is = next; words_are = ap (after c.args.words.now) next })
+
 pub returns : goal.returns
 returns c p count at =
-    let next = c.look-found.ensures.0.is p count at in
-    let followed = c.follow.ensures in
-    record { step_is = c.as_step.ensures ∙ next; words_are = followed.words_are _ ∙ ap (after _) next }
+    let next = c.in_ok-step.ensures.0.is p count at in
+    record { step_is = next; words_are = c.follow.ensures.words_are ∙ ap (after _) next }

@@ -1,6 +1,5 @@
 -- `bits::bit_at` meets its contract: the body is the definition.
 -- Assumes nothing.
-use borrow.Author.Rules.{rules}
 use mathlib.Core.Path.{refl}
 use Rattle.model.specs.Placement.{bit}
 use Rattle.bits.proofs.bit_at.Goals as goal

@@ -2,7 +2,6 @@
 -- Assumes nothing.
 use mathlib.Core.Path.{◌∙◌}
 use native.Mathlib.Omega.{arith}
-use borrow.Author.Rules.{rules}
 use Rattle.cluster.proofs.Laws.{range-turn, range-turn-pos}
 use Rattle.bits.proofs.Laws.{folded-used}
 use Rattle.bits.proofs.domains_used.Goals as goal

@@ -1,10 +1,10 @@
 -- `bits::fold` meets its contract. The loop's invariant: the pieces before `at` are laid over one another.
 -- Assumes nothing.
 use mathlib.Core.Path.{◌≡◌, ap, sym, ◌∙◌}
-use Prim.Native.Nat.{ℕ, ◌+◌, ◌*◌, ◌-◌, ◌<◌, ◌≤◌, min, max}
+use Prim.Native.Nat.{ℕ, ◌+◌, ◌*◌, ◌<◌, ◌≤◌, ◌/◌, ◌^◌, min, max}
 use native.Mathlib.Nat.{lt_of_mul-lt-mul_right, le_of_mul-le-mul_right, add-mul, zero-mul, one-mul}
+use lib.Bits.{bit_or}
 use native.Mathlib.Omega.{arith}
-use Rattle.order.specs.Sum.{sum}
 use Rattle.order.proofs.Sums.{sum-zero, sum-suc, sum_step}
 use Rattle.model.specs.Placement.{bit}
 use Rattle.theory.proofs.Placement.{bit_le}
@@ -28,6 +28,12 @@ loop-at-init c =
     let a = c.args in
     (1, omega (arith, one-mul a.size), omega arith, first_piece a.word a.size)
 
+one-more : (word size at k folded x : ℕ) → at ≡ k * size → bit folded x ≡ min 1 (laid word size k x)
+    → bit (bit_or folded (word / 2 ^ at)) x ≡ min 1 (laid word size (k + 1) x)
+one-more word size at k folded x start before =
+    bit-or folded _ x
+    ∙ next-piece word size k x _ _ before (sym (bit-from word at x) ∙ ap (λ (n : ℕ). bit word (n + x)) start)
+
 pub loop-at-preserved : goal.loop-at-preserved
 loop-at-preserved c =
     let at = c.loop-at in
@@ -37,19 +43,27 @@ loop-at-preserved c =
       k + 1,
       omega (arith, at.invariant.1, one-mul a.size),
       omega arith,
-      λ x.
-          bit-or at.folded _ x
-          ∙ next-piece a.word a.size k x _ _ (at.invariant.3 x)
-          (sym (bit-from a.word at.at x) ∙ ap (λ (n : ℕ). bit a.word (n + x)) at.invariant.1),
+      λ x. one-more a.word a.size at.at k at.folded x at.invariant.1 (at.invariant.3 x),
     )
 
--- the pieces laid are all pieces
+-- where the pieces laid reach the total, they are all pieces
+all-laid : (word size total k pieces x v : ℕ) → total ≡ pieces * size → total ≤ k * size → k * size < total + size
+    → v ≡ min 1 (laid word size k x) → v ≡ min 1 (laid word size pieces x)
+all-laid word size total k pieces x v whole long short is =
+    let most : k * size < (pieces + 1) * size = omega (arith, add-mul pieces 1 size, one-mul size) in
+    let least : pieces * size ≤ k * size = omega arith in
+    let all : k ≡ pieces = omega (arith, le_of_mul-le-mul_right least (omega arith), lt_of_mul-lt-mul_right size most) in
+    is ∙ ap (λ (n : ℕ). min 1 (laid word size n x)) all
+
+-- the one piece is the whole
 pub returns : goal.returns
 returns c pieces x whole l =
     let at = c.loop-at in
-    let a = c.args in
-    let k = at.invariant.0 in
-    let long : pieces * a.size ≤ k * a.size = omega (arith, at.invariant.1) in
-    let short : k * a.size < (pieces + 1) * a.size = omega (arith, at.invariant.1, at.invariant.2, add-mul pieces 1 a.size, one-mul a.size) in
-    let all : k ≡ pieces = omega (arith, le_of_mul-le-mul_right long (omega arith), lt_of_mul-lt-mul_right a.size short) in
-    at.invariant.3 x ∙ ap (λ (n : ℕ). min 1 (laid a.word a.size n x)) all
+    all-laid _ _ _ at.invariant.0 pieces x _ whole (omega (arith, at.invariant.1)) (omega (arith, at.invariant.1, at.invariant.2)) (at.invariant.3 x)
+
+pub returns-2 : goal.returns-2
+returns-2 c pieces x whole l =
+    let at = c.loop-at in
+    let next = add-mul at.invariant.0 1 c.args.size in
+    let k : (at.invariant.0 + 1) * c.args.size ≡ at.at + c.args.size = omega (arith, at.invariant.1, one-mul c.args.size) in
+    all-laid _ _ _ (at.invariant.0 + 1) pieces x _ whole (omega arith) (omega arith) (one-more c.args.word c.args.size at.at at.invariant.0 at.folded x at.invariant.1 (at.invariant.3 x))

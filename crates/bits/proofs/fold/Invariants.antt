@@ -1,14 +1,9 @@
 -- `bits::fold` meets its contract. The loop's invariant: the pieces before `at` are laid over one another.
 -- Assumes nothing.
-use mathlib.Core.Path.{◌≡◌, ap, sym, ◌∙◌}
-use Prim.Native.Nat.{ℕ, ◌+◌, ◌*◌, ◌-◌, ◌<◌, ◌≤◌, min, max}
-use native.Mathlib.Nat.{lt_of_mul-lt-mul_right, le_of_mul-le-mul_right, add-mul, zero-mul, one-mul}
-use native.Mathlib.Omega.{arith}
+use mathlib.Core.Path.{◌≡◌}
+use Prim.Native.Nat.{ℕ, ◌+◌, ◌*◌, ◌-◌, ◌<◌, min}
 use Rattle.order.specs.Sum.{sum}
-use Rattle.order.proofs.Sums.{sum-zero, sum-suc, sum_step}
 use Rattle.model.specs.Placement.{bit}
-use Rattle.theory.proofs.Placement.{bit_le}
-use Rattle.bits.proofs.Laws.{bit-from, bit-or}
 use Rattle.bits.proofs.fold.Given as goal
 
 -- bit x of the first k pieces

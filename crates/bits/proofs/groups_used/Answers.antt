@@ -1,12 +1,11 @@
 -- `bits::groups_used` meets its contract. The loop's invariant: `used` counts the ranges passed that have a bit set.
 -- Assumes nothing.
 use mathlib.Core.Path.{◌≡◌, ap, ap₂, sym, ◌∙◌}
-use Prim.Native.Nat.{ℕ, ◌+◌, ◌*◌, ◌-◌, ◌≤◌, min}
+use Prim.Native.Nat.{ℕ, ◌+◌, ◌*◌, ◌≤◌}
 use native.Mathlib.Nat.{mul-le-mul_right}
 use native.Mathlib.Omega.{arith}
 use Rattle.order.specs.Sum.{sum}
 use Rattle.order.proofs.Sums.{sum-zero, sum_step}
-use Rattle.model.specs.Placement.{bit}
 use Rattle.bits.proofs.groups_used.Invariants.{hit}
 use Rattle.bits.proofs.groups_used.Goals as goal
 

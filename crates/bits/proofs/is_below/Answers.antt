@@ -1,6 +1,5 @@
 -- `bits::is_below` meets its contract: at 64 every word is below, and under 64 the test is the shift's.
 -- Assumes nothing.
-use borrow.Author.Rules.{rules}
 use borrow.Author.Tests.{lt-ltb}
 use mathlib.Core.Path.{sym}
 use native.Mathlib.Omega.{arith}

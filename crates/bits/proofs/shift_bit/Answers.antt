@@ -1,6 +1,5 @@
 -- `bits::shift_bit` meets its contract: n can be added within 64 bits, and the word is at least bit m.
 -- Assumes nothing.
-use borrow.Author.Rules.{rules}
 use native.Mathlib.Omega.{arith}
 use Rattle.model.specs.Steps.{shifted}
 use Rattle.theory.proofs.Placement.{bit-add-below, bit-take}

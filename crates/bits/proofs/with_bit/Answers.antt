@@ -1,6 +1,5 @@
 -- `bits::with_bit` meets its contract: a bit that is clear can be added within 64 bits.
 -- Assumes nothing.
-use borrow.Author.Rules.{rules}
 use native.Mathlib.Omega.{arith}
 use Rattle.theory.proofs.Placement.{bit-add-below}
 use Rattle.bits.proofs.Laws.{one_shl}

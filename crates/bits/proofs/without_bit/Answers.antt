@@ -1,6 +1,5 @@
 -- `bits::without_bit` meets its contract: a word is at least each of its bits.
 -- Assumes nothing.
-use borrow.Author.Rules.{rules}
 use native.Mathlib.Omega.{arith}
 use Rattle.theory.proofs.Placement.{bit-take}
 use Rattle.bits.proofs.Laws.{one_shl}

@@ -1,10 +1,18 @@
 -- `capi::bpl_convert` meets its contract: a short out first, then the entry's outcome, as a code, the buffer and the result's length over out.
 -- Assumes nothing.
+use mathlib.Core.Path.{◌≡◌, refl}
 use native.Mathlib.Omega.{arith}
 use Rattle.conversion.specs.Entries.{convert_outcome}
 use Rattle.interface.specs.Interface.{one_number}
-use Rattle.codes.proofs.Laws.{effect-told}
+use Rattle.std.proofs.Common.{rules, tests}
+use Rattle.capi.proofs.Numbers.{same_number}
+use Rattle.codes.proofs.Laws.{effect-told, told-number}
 use Rattle.capi.proofs.bpl_convert.Goals as goal
 
 pub returns : goal.returns
-returns c = effect-told 1 one_number _ _ _ (convert_outcome _) _ _ _ (omega arith) c.convert-answer.ensures c.tell_convert.ensures
+unfolding convert_outcome
+returns c =
+    let same : c.map.result ≡ c.convert-answer.result =
+    same_number _ _ _ c.map.ensures.cases (λ n told. search (rules, tests)) in
+    effect-told 1 one_number _ _ _ (convert_outcome _) _ _ _ (omega arith) c.convert-answer.ensures
+    (told-number convert_outcome (λ refusal items. refl) (λ n items. refl) _ _ _ _ (rw same at c.tell_number.ensures))

@@ -2,7 +2,8 @@
 -- Assumes nothing.
 use mathlib.Core.Path.{ap, ◌∙◌}
 use Rattle.model.specs.Refusal.{verdict_code}
+use Rattle.codes.proofs.Laws.{verdict-told}
 use Rattle.capi.proofs.bpl_plan.Goals as goal
 
 pub returns : goal.returns
-returns c = c.tell_plan.ensures.code_is _ ∙ ap verdict_code c.read-reading.ensures
+returns c = c.tell.ensures ∙ verdict-told _ _ ∙ ap verdict_code c.read-reading.ensures

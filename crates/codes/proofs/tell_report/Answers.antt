@@ -6,11 +6,11 @@ use Rattle.interface.specs.Interface.{report_numbers}
 use Rattle.codes.proofs.Laws.{told-refused, told-answered}
 use Rattle.codes.proofs.tell_report.Goals as goal
 
-pub returns-in-Refused : goal.returns-in-Refused
+pub returns-in-Err : goal.returns-in-Err
 unfolding report_outcome
-returns-in-Refused c = told-refused report_numbers report_outcome c.in-Refused.is (λ items. refl) c.code_of.ensures
+returns-in-Err c = told-refused report_numbers report_outcome c.in-Err.is (λ items. refl) c.code_of.ensures
 
-pub returns-in-Reported : goal.returns-in-Reported
+pub returns-in-Ok : goal.returns-in-Ok
 unfolding report_outcome report_numbers
-returns-in-Reported c =
-    told-answered report_numbers report_outcome c.in-Reported.is (λ items. refl) c.write_numbers.ensures
+returns-in-Ok c =
+    told-answered report_numbers report_outcome c.in-Ok.is (λ items. refl) c.write_numbers.ensures

@@ -6,16 +6,11 @@ use Rattle.interface.specs.Interface.{run_numbers}
 use Rattle.codes.proofs.Laws.{told-refused, told-answered}
 use Rattle.codes.proofs.tell_run.Goals as goal
 
-pub returns-in-Refused : goal.returns-in-Refused
+pub returns-in-Err : goal.returns-in-Err
 unfolding run_outcome
-returns-in-Refused c = told-refused run_numbers run_outcome c.in-Refused.is (λ items. refl) c.code_of.ensures
+returns-in-Err c = told-refused run_numbers run_outcome c.in-Err.is (λ items. refl) c.code_of.ensures
 
-pub returns-in-Rested : goal.returns-in-Rested
-unfolding run_outcome run_numbers
-returns-in-Rested c =
-    told-answered run_numbers run_outcome c.in-Rested.is (λ items. refl) c.write_numbers.ensures
-
-pub returns-in-Spent : goal.returns-in-Spent
-unfolding run_outcome run_numbers
-returns-in-Spent c =
-    told-answered run_numbers run_outcome c.in-Spent.is (λ items. refl) c.write_numbers-in-Spent.ensures
+pub returns-in-Ok : goal.returns-in-Ok
+unfolding run_outcome
+returns-in-Ok c =
+    told-answered run_numbers run_outcome c.in-Ok.is (λ items. refl) (rw c.run_numbers-numbers.ensures at c.write_numbers.ensures)

@@ -1,24 +1,30 @@
 -- `conversion::convert` meets its contract: rows 1 to 3 with the converter's last version first, then the plan's own verdict.
 -- Assumes nothing.
-use mathlib.Core.Path.{sym, ◌∙◌}
+use Rattle.std.proofs.Common.{refl, sym, ◌∙◌}
+use Rattle.std.proofs.lemmas.Result.{err_from_is_err_and}
 use Rattle.theory.proofs.Conversion.{convert_verdict-marked, convert_verdict-judged, convert_call-refused}
+use Rattle.refusal.proofs.Laws.{number_of-some}
 use Rattle.plan.specs.Reading.{verdict_of}
 use Rattle.conversion.specs.Entries.{convert_outcome}
 use Rattle.conversion.proofs.convert.Goals as goal
 
-pub returns-then-marked-ne0 : goal.returns-then-marked-ne0
+pub returns-in_err-check_mark : goal.returns-in_err-check_mark
 unfolding convert_outcome
-returns-then-marked-ne0 c =
-    sym (convert_call-refused _ _ _ (convert_verdict-marked _ _ c.mark_refusal-marked.ensures.code c.if-marked-ne0.true))
+returns-in_err-check_mark c =
+    let p = err_from_is_err_and c.from_residual.result c.from_residual.ensures.1 in
+    rw (p.1, p.2)
+    (sym (convert_call-refused _ _ _ (convert_verdict-marked _ _ c.in_err-check_mark.ensures.code (number_of-some c.in_err-check_mark.field-0.0))))
+
+pub returns-in_err-h : goal.returns-in_err-h
+unfolding convert_outcome verdict_of
+returns-in_err-h c =
+    let p = err_from_is_err_and c.from_residual-in_err-h.result c.from_residual-in_err-h.ensures.1 in
+    rw (p.1, p.2)
+    (sym (convert_call-refused _ _ _ (convert_verdict-judged _ _ c.in_ok-check_mark.ensures.code refl ∙ sym c.in_err-h.ensures)))
 
 pub convert_accepted-requires : goal.convert_accepted-requires
 unfolding verdict_of
 convert_accepted-requires c =
-    let accepts = sym c.in-Accepted.ensures in
+    let accepts = sym c.in_ok-h.ensures in
     -- past rows 1 to 3, the converter judges as the reader does
-    record { accepts = accepts; takes = convert_verdict-judged _ _ c.mark_refusal-marked.ensures.code c.if-marked-ne0.false ∙ accepts }
-
-pub returns-in-Refused : goal.returns-in-Refused
-unfolding convert_outcome verdict_of
-returns-in-Refused c =
-    sym (convert_call-refused _ _ _ (convert_verdict-judged _ _ c.mark_refusal-marked.ensures.code c.if-marked-ne0.false ∙ sym c.in-Refused.ensures))
+    record { accepts = accepts; takes = convert_verdict-judged _ _ c.in_ok-check_mark.ensures.code refl ∙ accepts }

@@ -1,6 +1,6 @@
 -- `conversion::put_records` meets its contract. The loop's invariant: the new records of the blocks passed stand in the buffer.
 -- Assumes nothing.
-use mathlib.Core.Path.{◌≡◌, refl, ◌∙◌}
+use mathlib.Core.Path.{◌≡◌}
 use mathlib.Core.List.{List}
 use Prim.Native.Nat.{ℕ}
 use native.Mathlib.Omega.{arith}
@@ -25,7 +25,7 @@ pub format_in-old-requires : goal.format_in-old-requires
 format_in-old-requires c = common-in _ _ (accepted-of _ _ c.requires.accepts)
 
 pub loop-i-init : goal.loop-i-init
-loop-i-init c = (omega arith, refl, rw (joined-zero _) (put-none _ _))
+loop-i-init c = rw (joined-zero _) (put-none _ _)
 
 pub put_record-next-requires : goal.put_record-next-requires
 put_record-next-requires c =
@@ -33,20 +33,14 @@ put_record-next-requires c =
     let l = c.loop-i-test.true in
     record {
       inside = (block_at _ _ (accepted-of _ _ c.requires.accepts) _ format.0 format.1 _ l).inside;
-      room = joined-room _ _ _ _ _ (all_room _ _ _ _ _ _ c.requires c.format_in-old.ensures.0) l c.loop-i.invariant.2;
+      room = joined-room _ _ _ _ _ (all_room _ _ _ _ _ _ c.requires c.format_in-old.ensures.0) l c.loop-i.invariant;
     }
 
 pub loop-i-preserved : goal.loop-i-preserved
-loop-i-preserved c = (
-  omega arith,
-  c.put_record-next.auto.buffer ∙ c.loop-i.invariant.1,
-  joined-put _ _ _ _ _ (all_room _ _ _ _ _ _ c.requires c.format_in-old.ensures.0) c.loop-i-test.true c.loop-i.invariant.2 c.put_record-next.ensures,
-)
-
-pub shape_of-buffer : goal.shape_of-buffer
-shape_of-buffer c = c.loop-i.invariant.1
+loop-i-preserved c =
+    joined-put _ _ _ _ _ (all_room _ _ _ _ _ _ c.requires c.format_in-old.ensures.0) c.loop-i-test.true c.loop-i.invariant c.put_record-next.ensures
 
 pub returns : goal.returns
 returns c =
     let all : c.loop-i.i ≡ c.args.h.cluster.blocks = omega arith in
-    rw (new_records-read _ _ _ _ c.requires.accepts c.format_in-old.ensures.0) (rw all at c.loop-i.invariant.2)
+    rw (new_records-read _ _ _ _ c.requires.accepts c.format_in-old.ensures.0) (rw all at c.loop-i.invariant)

@@ -1,9 +1,7 @@
 -- `conversion::put_records` meets its contract. The loop's invariant: the new records of the blocks passed stand in the buffer.
 -- Assumes nothing.
-use mathlib.Core.Path.{◌≡◌}
 use mathlib.Core.List.{List}
-use Prim.Native.Nat.{ℕ, ◌-◌, ◌≤◌}
-use lib.ListN.{length}
+use Prim.Native.Nat.{ℕ}
 use Rattle.order.specs.Table.{joined}
 use Rattle.model.specs.Plan.{Format, block_in}
 use Rattle.model.specs.Writing.{record_bytes}
@@ -17,9 +15,4 @@ renewed new old bytes i = record_bytes new (block_in old bytes i)
 
 abbrev pub invariant-loop-i : goal.invariant-loop-i
 invariant-loop-i l =
-    (l.i ≤ l.cluster.blocks)
-    × (length l.buffer ≡ length l.initial.buffer)
-    × Put l.at (joined l.i (renewed (as_format l.new) (as_format l.old) l.bytes)) l.initial.buffer l.buffer l.next
-
-abbrev pub decreases-loop-i : goal.decreases-loop-i
-decreases-loop-i l = l.cluster.blocks - l.i
+    Put l.at (joined l.i (renewed (as_format l.new) (as_format l.old) l.bytes)) l.initial.buffer l.buffer l.next

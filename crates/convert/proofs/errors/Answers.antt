@@ -15,7 +15,7 @@ returns-in_default c = sym (ap answer_errors c.in_default.is)
 pub put_line-size-requires : goal.put_line-size-requires
 unfolding refused_line
 put_line-size-requires c =
-    let short = refused_line-length c.in-Refused.code (omega arith) in
+    let short = refused_line-length c.from.result (omega arith) in
     let long = c.requires in
     record { room = record { fits = omega arith }; numbers-max = omega arith }
 
@@ -26,4 +26,6 @@ slice_bounds-result-end-2 c =
 
 pub returns : goal.returns
 unfolding refused_line answer_errors
-returns c = wrote-part _ _ _ _ (put-wrote _ _ _ _ c.put_line-size.ensures) ∙ sym (ap answer_errors c.in-Refused.is)
+returns c =
+    let code = c.from.ensures ∙ c.from-code.ensures in
+    wrote-part _ _ _ _ (put-wrote _ _ _ _ c.put_line-size.ensures) ∙ ap refused_line code ∙ sym (ap answer_errors c.in-Err.is)

@@ -24,4 +24,4 @@ returns-then-width-eq0 c = rw c.if-width-eq0.true (omega arith, omega arith)
 
 pub returns : goal.returns
 returns c =
-    one_byte _ _ _ _ c.requires.1 c.if-width-eq0.false c.wide.ensures.0 c.wide.ensures.1
+    one_byte _ _ _ _ c.requires.1 c.if-width-eq0.false c.from.ensures (omega (arith, c.type_inv.bytes c.args.at))

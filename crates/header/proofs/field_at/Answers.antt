@@ -11,28 +11,27 @@ use Rattle.header.proofs.field_at.Goals as goal
 
 pub loop-k-init : goal.loop-k-init
 unfolding field
-loop-k-init c = (omega arith, refl, omega arith)
+loop-k-init c = (refl, omega arith)
 
 pub overflow_mul-value : goal.overflow_mul-value
 overflow_mul-value c =
-    let few = field-narrow _ _ 3 c.loop-k.invariant.2 (omega arith) in
+    let few = field-narrow _ _ 3 c.loop-k.invariant.1 (omega arith) in
     omega arith
 
 pub overflow_add-value : goal.overflow_add-value
 overflow_add-value c =
-    let few = field-narrow _ _ 3 c.loop-k.invariant.2 (omega arith) in
+    let few = field-narrow _ _ 3 c.loop-k.invariant.1 (omega arith) in
     omega arith
 
 pub loop-k-preserved : goal.loop-k-preserved
 unfolding field
 loop-k-preserved c =
     rw (add-one c.loop-k.k) (
-      omega arith,
-      ap₂ (λ (x y : ℕ). x * 256 + y) c.loop-k.invariant.1 c.wide.ensures.0,
+      ap₂ (λ (x y : ℕ). x * 256 + y) c.loop-k.invariant.0 c.from.ensures,
       (rw pow-suc (omega arith)),
     )
 
 pub returns : goal.returns
 returns c =
     let e : c.loop-k.k ≡ c.args.width = omega arith in
-    (rw e at c.loop-k.invariant.1, rw e at c.loop-k.invariant.2)
+    (rw e at c.loop-k.invariant.0, rw e at c.loop-k.invariant.1)

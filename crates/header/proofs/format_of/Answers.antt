@@ -1,5 +1,7 @@
 -- `header::format_of` meets its contract.
 -- Assumes nothing.
+use native.Mathlib.Omega.{arith}
+use Rattle.std.proofs.lemmas.Bool.Decides.{nat_tests}
 use Rattle.model.specs.Plan.{format_of}
 use Rattle.header.proofs.Laws.{format_of-fits}
 use Rattle.header.proofs.format_of.Goals as goal
@@ -7,7 +9,4 @@ use Rattle.header.proofs.format_of.Goals as goal
 pub returns : goal.returns
 unfolding format_of
 returns c =
-    let fed = c.feeds_width.ensures in
-    let wide = c.popularity_width.ensures in
-    let paired = c.pair_byte_width.ensures in
-    (rw (fed, wide, paired), rw (fed, wide, paired) (format_of-fits c.args.version))
+    grind (arith, nat_tests, format_of-fits)

@@ -1,25 +1,19 @@
 -- `header::read` meets its contract: what each callee says of its rows goes into the chain of all rows.
 -- Assumes nothing.
-use mathlib.Core.Path.{◌≡◌, ap, ap₂, sym, ◌∙◌}
+use mathlib.Core.Path.{◌≡◌, refl, ap, ap₂, sym, ◌∙◌}
 use mathlib.Core.List.{List}
 use Prim.Native.Nat.{ℕ}
 use native.Mathlib.Omega.{arith}
 use lib.ListN.{length}
-use Rattle.model.specs.Plan.{mark_in, version_in, racks_in, rack_size_in, feeds_in, capacity_in, block_count_in, latest_version, Format, format_in, record_at}
-use Rattle.model.specs.Refusal.{or_else, check1, check2, check3, check4, check22, check5, check6, check7, refusal}
+use Rattle.model.specs.Plan.{racks_in, rack_size_in, feeds_in, capacity_in, block_count_in, Format, format_in, record_at, plan_in}
+use Rattle.model.specs.Refusal.{or_else, check4, check22, check5, check6, check7, plan_refusal, refusal}
 use Rattle.theory.proofs.Refusal.{or_else-some, check4-zero, check22-zero, check5-zero, check6-rest, check6-zero, check7-zero}
-use Rattle.header.specs.Header.{header_counted, counted_blocks, HallRows, SizeRows, MarkChecked}
+use Rattle.std.proofs.lemmas.Result.{err_from_is_err_and}
+use Rattle.refusal.proofs.Laws.{number_of-pos, number_of-some}
+use Rattle.header.specs.Header.{header_counted, counted_blocks, HallRows, SizeRows}
 use Rattle.header.specs.declared.Header.{Header}
 use Rattle.header.proofs.Laws.{counted_blocks-long, counted_blocks-counted, counted_blocks-rows}
 use Rattle.header.proofs.read.Goals as goal
-
-or_else-none : (code later : ℕ) → code ≡ 0 → or_else code later ≡ later
-or_else-none code later e = ap (λ (n : ℕ). or_else n later) e
-
--- where checks 1 to 3 passed, the later rows decide
-past-mark : (bytes : List ℕ) (marked later : ℕ) → MarkChecked latest_version bytes marked → marked ≡ 0
-    → check1 (length bytes) (check2 (mark_in bytes) (check3 latest_version (version_in bytes) later)) ≡ later
-past-mark bytes marked later checked none = checked.code later ∙ or_else-none marked later none
 
 -- the rows of the header that was read, with its own count of blocks
 module _ (bytes : List ℕ) (h : Header) (is : h ≡ header_counted (counted_blocks bytes) bytes) where
@@ -32,10 +26,6 @@ module _ (bytes : List ℕ) (h : Header) (is : h ≡ header_counted (counted_blo
       ap (λ (h : Header). check4 h.cluster.racks h.cluster.rack_size (check22 h.cluster.racks h.cluster.feeds (check5 h.cluster.capacity later)))
       (sym is)
       ∙ rows later
-
-  past-hall : (hall : ℕ) → HallRows h.cluster.racks h.cluster.rack_size h.cluster.feeds h.cluster.capacity hall → hall ≡ 0 → (later : ℕ)
-      → check4 (racks_in bytes) (rack_size_in bytes) (check22 (racks_in bytes) (feeds_in bytes) (check5 (capacity_in bytes) later)) ≡ later
-  past-hall hall rows none later = hall-code hall rows later ∙ or_else-none hall later none
 
   -- the blocks
   blocks-are : h.cluster.blocks ≡ counted_blocks bytes
@@ -51,52 +41,64 @@ module _ (bytes : List ℕ) (h : Header) (is : h ≡ header_counted (counted_blo
       ∙ ap₂ (λ (f : Format) (n : ℕ). check6 f (length bytes) n (check7 f (length bytes) n later)) (sym same) (sym blocks-are)
       ∙ rows later
 
-pub returns-then-marked-ne0 : goal.returns-then-marked-ne0
+pub returns-in_err-check_mark : goal.returns-in_err-check_mark
 unfolding refusal
-returns-then-marked-ne0 c =
+returns-in_err-check_mark c =
+    let p = err_from_is_err_and c.from_residual.result c.from_residual.ensures.1 in
+    rw (p.1, p.2) (
     record {
-      is = c.mark_refusal-marked.ensures.code _ ∙ or_else-some _ _ c.if-marked-ne0.true;
-      some = omega arith;
+      is = c.in_err-check_mark.ensures.code _ ∙ or_else-some _ _ (number_of-some _);
+      some = number_of-pos _;
     }
+    )
 
 pub format_in-format-requires : goal.format_in-format-requires
-format_in-format-requires c = c.mark_refusal-marked.ensures.long c.if-marked-ne0.false
+format_in-format-requires c = c.in_ok-check_mark.ensures.long refl
 
 pub fields-h-requires : goal.fields-h-requires
 fields-h-requires c =
     record {
-      long = c.mark_refusal-marked.ensures.long c.if-marked-ne0.false;
+      long = c.in_ok-check_mark.ensures.long refl;
       format-is = c.format_in-format.ensures.0;
       fits = c.format_in-format.ensures.1;
     }
 
-pub returns-then-hall-ne0 : goal.returns-then-hall-ne0
+pub returns-in_err-check_hall : goal.returns-in_err-check_hall
 unfolding refusal
-returns-then-hall-ne0 c =
+returns-in_err-check_hall c =
+    let p = err_from_is_err_and c.from_residual-in_err-check_hall.result c.from_residual-in_err-check_hall.ensures.1 in
+    rw (p.1, p.2) (
     record {
-      is = past-mark _ _ _ c.mark_refusal-marked.ensures c.if-marked-ne0.false ∙ hall-code _ _ c.fields-h.ensures.0 _ c.hall_refusal-hall.ensures _ ∙ or_else-some _ _ c.if-hall-ne0.true;
-      some = omega arith;
+      is =
+          c.in_ok-check_mark.ensures.code _
+          ∙ hall-code _ _ c.fields-h.ensures.0 _ c.in_err-check_hall.ensures _
+          ∙ or_else-some _ _ (number_of-some _);
+      some = number_of-pos _;
     }
+    )
 
-pub size_refusal-sized-requires : goal.size_refusal-sized-requires
-size_refusal-sized-requires c =
+pub check_size-requires : goal.check_size-requires
+check_size-requires c =
     let bytes = c.args.bytes.now in
     record {
       fits = c.format_in-format.ensures.1;
       counted = counted_blocks-counted bytes _ _ c.format_in-format.ensures.0 (blocks-are _ _ c.fields-h.ensures.0);
     }
 
-pub returns-then-sized-ne0 : goal.returns-then-sized-ne0
+pub returns-in_err-check_size : goal.returns-in_err-check_size
 unfolding refusal
-returns-then-sized-ne0 c =
+returns-in_err-check_size c =
+    let p = err_from_is_err_and c.from_residual-in_err-check_size.result c.from_residual-in_err-check_size.ensures.1 in
+    rw (p.1, p.2) (
     record {
       is =
-          past-mark _ _ _ c.mark_refusal-marked.ensures c.if-marked-ne0.false
-          ∙ past-hall _ _ c.fields-h.ensures.0 _ c.hall_refusal-hall.ensures c.if-hall-ne0.false _
-          ∙ size-code _ _ c.fields-h.ensures.0 _ _ c.format_in-format.ensures.0 c.size_refusal-sized.ensures _
-          ∙ or_else-some _ _ c.if-sized-ne0.true;
-      some = omega arith;
+          c.in_ok-check_mark.ensures.code _
+          ∙ hall-code _ _ c.fields-h.ensures.0 0 c.in_ok-check_hall.ensures _
+          ∙ size-code _ _ c.fields-h.ensures.0 _ _ c.format_in-format.ensures.0 c.in_err-check_size.ensures (plan_refusal (plan_in c.args.bytes.now))
+          ∙ or_else-some _ _ (number_of-some _);
+      some = number_of-pos _;
     }
+    )
 
 pub returns : goal.returns
 unfolding refusal
@@ -104,19 +106,18 @@ returns c =
     let bytes = c.args.bytes.now in
     let blocks = c.fields-h.result.cluster.blocks in
     let f = format_in bytes in
-    let z4 = check4-zero _ _ _ (c.hall_refusal-hall.ensures 0 ∙ or_else-none _ 0 c.if-hall-ne0.false) in
+    let z4 = check4-zero _ _ _ (c.in_ok-check_hall.ensures 0) in
     let z22 = check22-zero _ _ _ z4.3 in
     let z5 = check5-zero _ _ z22.2 in
-    let rows = rw c.format_in-format.ensures.0 at (c.size_refusal-sized.ensures 0 ∙ or_else-none _ 0 c.if-sized-ne0.false) in
+    let rows = rw c.format_in-format.ensures.0 at (c.in_ok-check_size.ensures 0) in
     let size : length bytes ≡ record_at f blocks = sizes f (length bytes) blocks rows in
     let same : counted_blocks bytes ≡ block_count_in bytes = counted_blocks-long bytes (omega (arith, size)) in
     record {
       fields = rw same at c.fields-h.ensures.0;
       left =
-          past-mark _ _ _ c.mark_refusal-marked.ensures c.if-marked-ne0.false
-          ∙ past-hall _ _ c.fields-h.ensures.0 _ c.hall_refusal-hall.ensures c.if-hall-ne0.false _
-          ∙ size-code _ _ c.fields-h.ensures.0 _ _ c.format_in-format.ensures.0 c.size_refusal-sized.ensures _
-          ∙ or_else-none _ _ c.if-sized-ne0.false;
+          c.in_ok-check_mark.ensures.code _
+          ∙ hall-code _ _ c.fields-h.ensures.0 0 c.in_ok-check_hall.ensures _
+          ∙ size-code _ _ c.fields-h.ensures.0 _ 0 c.format_in-format.ensures.0 c.in_ok-check_size.ensures (plan_refusal (plan_in bytes));
       in-range =
           record {
             racks-pos = z4.0;

@@ -1,18 +1,16 @@
--- `index::enter` meets its contract. The loop's invariant: the block is entered at the machines that have left `rest`, by number and by
--- rank, and nothing else has changed. The measure is the word that is left.
+-- `index::enter` meets its contract. The loop's invariant: the block is entered at the machines that have left the bits to come, by
+-- number and by rank, and nothing else has changed.
 -- Assumes nothing.
-use mathlib.Core.Path.{◌≡◌, refl, sym, ◌∙◌}
+use mathlib.Core.Path.{◌≡◌, ◌∙◌}
 use mathlib.Core.List.{List}
 use Prim.Native.Nat.{ℕ, ◌-◌, ◌^◌, ◌<◌}
 use native.Mathlib.Omega.{arith}
 use lib.ListN.{length, length-set}
-use lib.Pow.{pow_pos}
 use lib.Seq.{get_or-set_other}
 use Rattle.model.specs.Refusal.{max_blocks}
-use Rattle.theory.proofs.Placement.{bit-take}
 use Rattle.bits.specs.Words.{Lowest}
 use Rattle.index.specs.Index.{index_length, words_by_number, words_by_rank, spot}
-use Rattle.index.proofs.Laws.{mark, spot-mark-other, Marking, marking-none, marking-same, marking-clear, marking_step, marking-done}
+use Rattle.index.proofs.Laws.{mark, spot-mark-other, Marking, marking-same, marking-clear, marking_step, marking-done}
 use Rattle.index.proofs.enter.Invariants.{Entering}
 use Rattle.index.proofs.enter.Goals as goal
 
@@ -47,54 +45,27 @@ module _ {entry index : List ℕ} {word rest i r a : ℕ} (low : Lowest rest a) 
             ∙ past.kept k l;
       }
 
-pub loop-rest-init : goal.loop-rest-init
-loop-rest-init c =
-    let asked = c.requires in
-    record {
-      sized = asked.sized;
-      number = marking-none _ _ _ _ asked.clear-number;
-      rank = marking-none _ _ _ _ asked.clear-rank;
-      kept = λ k l. refl;
-    }
-
 pub with_bit-requires : goal.with_bit-requires
 unfolding spot
 with_bit-requires c =
-    (omega arith, marking-clear c.lowest-m.ensures c.loop-rest.invariant.number)
+    (omega arith, marking-clear c.in-Some.ensures.steps.0 c.loop-m.invariant.number)
 
-pub bounds-index-rank : goal.bounds-index-rank
-bounds-index-rank c = simp length-set (omega arith)
-
-pub with_bit-requires-in-loop-rest : goal.with_bit-requires-in-loop-rest
+pub with_bit-requires-in-loop-m : goal.with_bit-requires-in-loop-m
 unfolding spot
-with_bit-requires-in-loop-rest c =
+with_bit-requires-in-loop-m c =
     let asked = c.requires in
-    (omega arith, rw c.with_bit.ensures (clear-rank c.lowest-m.ensures asked.below asked.rank_below c.loop-rest.invariant))
+    (omega arith, rw c.with_bit.ensures (clear-rank c.in-Some.ensures.steps.0 asked.below asked.rank_below c.loop-m.invariant))
 
-pub bounds-index-rank-in-loop-rest : goal.bounds-index-rank-in-loop-rest
-bounds-index-rank-in-loop-rest c = simp length-set (omega arith)
-
-pub without_bit-rest-requires : goal.without_bit-rest-requires
-without_bit-rest-requires c = (omega arith, c.lowest-m.ensures.on)
-
-pub loop-rest-smaller : goal.loop-rest-smaller
-loop-rest-smaller c =
-    let m = c.lowest-m in
-    omega (arith, c.without_bit-rest.ensures, (bit-take c.loop-rest.rest m.result m.ensures.on).0, pow_pos m.result)
-
-pub loop-rest-preserved : goal.loop-rest-preserved
-loop-rest-preserved c =
+pub loop-m-preserved : goal.loop-m-preserved
+loop-m-preserved c =
     let asked = c.requires in
-    rw (c.without_bit-rest.ensures, c.with_bit-in-loop-rest.ensures, c.with_bit.ensures)
-    (entering-step c.lowest-m.ensures asked.below asked.rank_below c.loop-rest.invariant)
-
-pub shape_of-index : goal.shape_of-index
-shape_of-index c = c.loop-rest.invariant.sized ∙ sym c.requires.sized
+    rw (c.in-Some.ensures.steps.1, c.with_bit-in-loop-m.ensures, c.with_bit.ensures)
+    (entering-step c.in-Some.ensures.steps.0 asked.below asked.rank_below c.loop-m.invariant)
 
 pub returns : goal.returns
 returns c =
-    let inv = c.loop-rest.invariant in
-    let done = c.loop-rest-test.false in
+    let inv = c.loop-m.invariant in
+    let done = c.in-None.ensures.steps.0 in
     record {
       sized = inv.sized;
       numbered = marking-done done inv.number;

@@ -1,5 +1,5 @@
--- `index::enter` meets its contract. The loop's invariant: the block is entered at the machines that have left `rest`, by number and by
--- rank, and nothing else has changed. The measure is the word that is left.
+-- `index::enter` meets its contract. The loop's invariant: the block is entered at the machines that have left the bits to come, by
+-- number and by rank, and nothing else has changed.
 -- Assumes nothing.
 use mathlib.Core.Path.{◌≡◌}
 use mathlib.Core.List.{List}
@@ -16,8 +16,5 @@ pub record Entering (entry index : List ℕ) (word rest i r : ℕ) : Type 0 wher
   pub rank : Marking entry index words_by_rank word rest r
   pub kept : (k : ℕ) → keys_at ≤ k → get_or index k 0 ≡ get_or entry k 0
 
-abbrev pub invariant-loop-rest : goal.invariant-loop-rest
-invariant-loop-rest l = Entering l.initial.index l.index l.word l.rest l.i l.r
-
-abbrev pub decreases-loop-rest : goal.decreases-loop-rest
-decreases-loop-rest l = l.rest
+abbrev pub invariant-loop-m : goal.invariant-loop-m
+invariant-loop-m l = Entering l.initial.index l.index l.word l.m-iterator.rest l.i l.r

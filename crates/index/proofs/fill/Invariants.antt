@@ -2,7 +2,7 @@
 -- Assumes nothing.
 use mathlib.Core.Path.{◌≡◌}
 use mathlib.Core.List.{List}
-use Prim.Native.Nat.{ℕ, ◌-◌, ◌≤◌}
+use Prim.Native.Nat.{ℕ, ◌≤◌}
 use lib.ListN.{length, get_or}
 use Rattle.index.specs.Index.{index_length, words_by_number, words_by_rank, keys_at, rank_at}
 use Rattle.index.proofs.Laws.{Filed}
@@ -16,7 +16,4 @@ pub record Filling (entry words index : List ℕ) (i : ℕ) : Type 0 where
   pub kept : (k : ℕ) → keys_at ≤ k → get_or index k 0 ≡ get_or entry k 0
 
 abbrev pub invariant-loop-i : goal.invariant-loop-i
-invariant-loop-i l = Filling l.initial.index l.words l.index l.i × (l.i ≤ l.cluster.blocks)
-
-abbrev pub decreases-loop-i : goal.decreases-loop-i
-decreases-loop-i l = l.cluster.blocks - l.i
+invariant-loop-i l = Filling l.initial.index l.words l.index l.i

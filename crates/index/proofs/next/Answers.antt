@@ -2,41 +2,58 @@
 -- one word of the index.
 -- Assumes nothing.
 use mathlib.Core.Path.{◌≡◌, ap, ◌∙◌}
-use Prim.Native.Nat.{ℕ, ◌+◌, ◌-◌, ◌%◌}
+use mathlib.Core.List.{List}
+use Prim.Native.Nat.{ℕ, ◌+◌, ◌-◌, ◌*◌, ◌/◌, ◌%◌, ◌^◌, ◌<◌}
 use native.Mathlib.Decide.{dec_lt}
 use native.Mathlib.Omega.{arith}
+use lib.ListN.{get_or}
 use Rattle.model.specs.Placement.{bit}
 use Rattle.theory.proofs.Placement.{bit-zero}
-use Rattle.index.proofs.Laws.{next-passed, next-found, next-within}
+use Rattle.bits.specs.Words.{Lowest}
+use Rattle.index.specs.Index.{spot, NoneFree}
+use Rattle.index.proofs.Laws.{cell, next-passed, next-found, next-within}
 use Rattle.index.proofs.next.Goals as goal
 
-pub loop-k-init : goal.loop-k-init
-loop-k-init c = (omega arith, λ j l h. absurd (omega arith))
+-- the free place that the word gives, and the places passed before it
+module _ (index : List ℕ) (part m n from k d t : ℕ)
+    (is : (y : ℕ) → bit d y ≡ bit (get_or index (cell part m k) 0) y * (1 - bit (get_or index (cell part n k) 0) y))
+    (narrow : d < 2 ^ 64) (low : Lowest (d / 2 ^ (k % 64)) t) (past : NoneFree index part m n from k) where
+  within : k % 64 + t < 64
+  within = next-within d (k % 64) t narrow low.on
 
-pub overflow_add-result : goal.overflow_add-result
-overflow_add-result c = omega (arith, c.lowest.ensures.below)
+  passed-word : NoneFree index part m n from (k + t)
+  passed-word j h l =
+      elim (dec_lt j k) [
+        | yes before ↦ past j h before
+        | no after ↦ next-passed index part m n k d is j (omega arith) (omega (arith, within)) (low.first (j - k) (omega arith))
+      ]
 
-pub returns-then-free-ne0 : goal.returns-then-free-ne0
-returns-then-free-ne0 c =
-    let found = c.and_not in
+  found-there : (spot index part m (k + t) ≡ 1) × (spot index part n (k + t) ≡ 0)
+  found-there =
+      let back : k + t - k ≡ t = omega arith in
+      next-found index part m n k d is (k + t) (omega arith) (omega (arith, within)) (rw back low.on)
+
+pub returns-then-at-cluster : goal.returns-then-at-cluster
+returns-then-at-cluster c =
+    let d = c.and_not in
     let a = c.args in
-    let k = c.loop-k.k in
-    let index = a.index.now in
+    let past = c.loop-k.invariant in
     let low = c.lowest.ensures in
-    let t = c.lowest.result in
-    let d = found.result in
-    let within = next-within d (k % 64) t found.type_inv low.on in
-    let back : k + t - k ≡ t = omega arith in
-    let free = next-found index a.part a.m a.n k d found.ensures (k + t) (omega arith) (omega arith) (rw back low.on) in
+    let there = found-there a.index.now a.part a.m a.n a.from c.loop-k.k d.result _ d.ensures d.type_inv low past.1 in
     record {
       at_least = omega arith;
-      passed = λ j h l b. elim (dec_lt j k) [
-        | yes before ↦ c.loop-k.invariant.1 j h before
-        | no after ↦ next-passed index a.part a.m a.n k d found.ensures j (omega arith) (omega arith) (low.first (j - k) (omega arith))
-      ];
-      holds = λ l. free.0;
-      lacks = λ l. free.1;
+      below = omega arith;
+      passed = passed-word a.index.now a.part a.m a.n a.from c.loop-k.k d.result _ d.ensures d.type_inv low past.1;
+      holds = there.0;
+      lacks = there.1;
     }
+
+pub returns-else-at-cluster : goal.returns-else-at-cluster
+returns-else-at-cluster c j h l =
+    let d = c.and_not in
+    let a = c.args in
+    passed-word a.index.now a.part a.m a.n a.from c.loop-k.k d.result _ d.ensures d.type_inv c.lowest.ensures c.loop-k.invariant.1 j h
+    (omega arith)
 
 pub loop-k-preserved : goal.loop-k-preserved
 loop-k-preserved c =
@@ -53,12 +70,3 @@ loop-k-preserved c =
             (ap (λ (w : ℕ). bit w (j - k)) c.if-free-ne0.false ∙ bit-zero (j - k))
       ],
     )
-
-pub returns : goal.returns
-returns c =
-    record {
-      at_least = omega arith;
-      passed = λ j h l b. c.loop-k.invariant.1 j h l;
-      holds = λ l. absurd (omega arith);
-      lacks = λ l. absurd (omega arith);
-    }

@@ -7,4 +7,4 @@ use Rattle.input.proofs.read_on.Goals as goal
 
 pub returns-then-size-eq-INPUT_ROOM-clause-ended : goal.returns-then-size-eq-INPUT_ROOM-clause-ended
 unfolding input_room format_of
-returns-then-size-eq-INPUT_ROOM-clause-ended g c = full-answer _ _ c.if-size-eq-INPUT_ROOM.true
+returns-then-size-eq-INPUT_ROOM-clause-ended g c = full-answer _ _ _ c.if-size-eq-INPUT_ROOM.true

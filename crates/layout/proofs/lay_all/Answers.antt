@@ -5,14 +5,14 @@ use Prim.Native.Nat.{ℕ, ◌<◌}
 use native.Mathlib.Omega.{arith}
 use lib.ListN.{length-set}
 use Rattle.order.proofs.Tables.{filled_none, filled_more}
-use Rattle.model.specs.Plan.{Plan, block_count}
+use Rattle.model.specs.Plan.{Plan}
 use Rattle.model.specs.Replication.{chosen}
 use Rattle.theory.proofs.Replication.{chosen-counts}
 use mathlib.Core.List.{List}
 use lib.ListN.{get_or}
 use Rattle.cluster.specs.declared.Cluster.{Cluster}
 use Rattle.cluster.specs.Blocks.{count_in, ProfilesOf}
-use Rattle.cluster.proofs.Laws.{cluster-blocks, profiles-count}
+use Rattle.cluster.proofs.Laws.{profiles-count}
 use Rattle.layout.proofs.Laws.{cursor_for-first, block-asked, block-laid}
 use Rattle.layout.proofs.lay_all.Goals as goal
 
@@ -23,41 +23,22 @@ chosen-here p cluster profiles i count of l is =
     is ∙ profiles-count p (chosen p) _ _ of (chosen-counts p of.cluster.valid).feasible.at_most _ (omega arith)
 
 pub loop-i-init : goal.loop-i-init
-loop-i-init c = (omega arith, refl, λ p of. (filled_none _ _, c.start-cursor.ensures ∙ cursor_for-first p _))
-
-pub bounds-profiles-i : goal.bounds-profiles-i
-bounds-profiles-i c =
-    let asked = c.requires in
-    omega (arith, asked.fits.profiles-fit.room)
+loop-i-init c = (refl, λ p of. (filled_none _ _, c.start-cursor.ensures ∙ cursor_for-first p _))
 
 pub lay-laid-requires : goal.lay-laid-requires
 lay-laid-requires c =
     let asked = c.requires in
     let p = asked.plan in
     let of = asked.profiles-of in
-    rw (chosen-here p _ _ c.loop-i.i _ of (omega arith) c.count_of.ensures) (block-asked p _ of.cluster c.loop-i.i _ (c.loop-i.invariant.2 p of).1 (omega arith))
-
-pub bounds-words-i : goal.bounds-words-i
-bounds-words-i c =
-    let asked = c.requires in
-    omega (arith, asked.fits.word_room)
+    rw (chosen-here p _ _ c.loop-i.i _ of (omega arith) c.count_of.ensures) (block-asked p _ of.cluster c.loop-i.i _ (c.loop-i.invariant.1 p of).1 (omega arith))
 
 pub loop-i-preserved : goal.loop-i-preserved
 loop-i-preserved c =
     let i = c.loop-i.i in
     let inv = c.loop-i.invariant in (
-      omega arith,
-      simp length-set inv.1,
+      simp length-set inv.0,
       λ p of.
-          let before = inv.2 p of in
+          let before = inv.1 p of in
           let laid = block-laid p _ of.cluster i _ before.1 _ (rw (chosen-here p _ _ c.loop-i.i _ of (omega arith) c.count_of.ensures) at c.lay-laid.ensures) in
           (filled_more i _ _ _ _ before.0 (omega (arith, c.requires.fits.word_room)) laid.0, laid.1),
     )
-
-pub shape_of-words : goal.shape_of-words
-shape_of-words c = c.loop-i.invariant.1
-
-pub returns : goal.returns
-returns c p of =
-    let all : c.loop-i.i ≡ block_count p = omega (arith, cluster-blocks p _ of.cluster) in
-    rw all at (c.loop-i.invariant.2 p of).0

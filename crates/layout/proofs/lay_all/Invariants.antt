@@ -1,7 +1,6 @@
 -- `layout::lay_all` meets its contract. The loop's invariant: the words of the blocks passed are laid, and the cursor stands past them.
 -- Assumes nothing.
 use mathlib.Core.Path.{◌≡◌}
-use Prim.Native.Nat.{◌-◌, ◌≤◌}
 use lib.ListN.{length}
 use Rattle.order.specs.Table.{filled}
 use Rattle.model.specs.Plan.{Plan}
@@ -13,10 +12,6 @@ use Rattle.layout.proofs.lay_all.Given as goal
 
 abbrev pub invariant-loop-i : goal.invariant-loop-i
 invariant-loop-i l =
-    (l.i ≤ l.cluster.blocks)
-    × (length l.words ≡ length l.initial.words)
-    × ((p : Plan) → ProfilesOf p (chosen p) l.cluster l.profiles
-    → (l.words ≡ filled l.i (first_word p) l.initial.words) × (l.cursor ≡ cursor_for p l.cluster l.i))
-
-abbrev pub decreases-loop-i : goal.decreases-loop-i
-decreases-loop-i l = l.cluster.blocks - l.i
+    (length l.words ≡ length l.initial.words)
+    × ((p : Plan) → ProfilesOf p (chosen p) l.fn.cluster l.profiles
+    → (l.words ≡ filled l.i (first_word p) l.initial.words) × (l.cursor ≡ cursor_for p l.fn.cluster l.i))

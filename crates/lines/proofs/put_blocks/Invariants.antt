@@ -1,8 +1,5 @@
 -- `lines::put_blocks` meets its contract. The loop's invariant: the lines of the blocks passed stand in the text.
 -- Assumes nothing.
-use mathlib.Core.Path.{◌≡◌}
-use Prim.Native.Nat.{◌-◌, ◌≤◌}
-use lib.ListN.{length}
 use Rattle.order.specs.Table.{joined}
 use Rattle.text.specs.Pasted.{Put}
 use Rattle.lines.specs.Rows.{row_at}
@@ -10,7 +7,4 @@ use Rattle.lines.proofs.put_blocks.Given as goal
 
 abbrev pub invariant-loop-i : goal.invariant-loop-i
 invariant-loop-i l =
-    (l.i ≤ l.cluster.blocks) × (length l.text ≡ length l.initial.text) × Put l.at (joined l.i (row_at l.profiles l.words)) l.initial.text l.text l.next
-
-abbrev pub decreases-loop-i : goal.decreases-loop-i
-decreases-loop-i l = l.cluster.blocks - l.i
+    Put l.at (joined l.i (row_at l.profiles l.words)) l.initial.text l.text l.next

@@ -3,16 +3,12 @@
 use mathlib.Core.Path.{◌≡◌}
 use mathlib.Core.List.{List, ◌++◌}
 use Prim.Native.Nat.{ℕ}
-use lib.ListN.{length}
 use Rattle.model.specs.Refusal.{max_machines}
 use Rattle.model.specs.Listing.{fields, holders}
 use Rattle.text.specs.Pasted.{Put}
 use Rattle.lines.proofs.put_holders.Given as goal
 
-abbrev pub invariant-loop-rest : goal.invariant-loop-rest
-invariant-loop-rest l =
-    (length l.text ≡ length l.initial.text)
-    × ((done : List ℕ) × (done ++ fields (holders l.rest max_machines) ≡ fields (holders l.word max_machines)) × Put l.at done l.initial.text l.text l.next)
-
-abbrev pub decreases-loop-rest : goal.decreases-loop-rest
-decreases-loop-rest l = l.rest
+abbrev pub invariant-loop-m : goal.invariant-loop-m
+invariant-loop-m l =
+    let rest = l.m-iterator.rest in
+    (done : List ℕ) × (done ++ fields (holders rest max_machines) ≡ fields (holders l.word max_machines)) × Put l.at done l.initial.text l.text l.next

@@ -1,17 +1,20 @@
--- `lines::put_last` meets its contract: one line, by how the run ended.
+-- `lines::put_last` meets its contract, arm by arm.
 -- Assumes nothing.
-use native.Mathlib.Omega.{arith}
-use Rattle.lines.proofs.Laws.{end-room, end-put}
+use Rattle.lines.specs.Rows.{ended_row}
 use Rattle.lines.proofs.put_last.Goals as goal
 
-pub put_line-requires : goal.put_line-requires
-put_line-requires c = record { room = end-room _ _ _ c.if-ran.true c.requires; numbers-max = omega arith }
+pub put_end-requires : goal.put_end-requires
+unfolding ended_row
+put_end-requires c = rw c.in-Rested.is at c.requires
 
-pub returns-then-ran : goal.returns-then-ran
-returns-then-ran c = end-put _ _ _ c.if-ran.true c.put_line.ensures
+pub put_end-requires-in-Spent : goal.put_end-requires-in-Spent
+unfolding ended_row
+put_end-requires-in-Spent c = rw c.in-Spent.is at c.requires
 
-pub put_line-requires-2 : goal.put_line-requires-2
-put_line-requires-2 c = record { room = end-room _ _ _ c.if-ran.false c.requires; numbers-max = omega arith }
+pub returns-in-Rested : goal.returns-in-Rested
+unfolding ended_row
+returns-in-Rested c = rw c.in-Rested.is c.put_end.ensures
 
-pub returns : goal.returns
-returns c = end-put _ _ _ c.if-ran.false c.put_line-2.ensures
+pub returns-in-Spent : goal.returns-in-Spent
+unfolding ended_row
+returns-in-Spent c = rw c.in-Spent.is c.put_end-in-Spent.ensures

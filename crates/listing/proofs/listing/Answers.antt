@@ -1,29 +1,32 @@
 -- `listing::listing` meets its contract: a short text first, then a refused plan, and an accepted one is listed.
 -- Assumes nothing.
-use mathlib.Core.Path.{sym, ◌∙◌}
+use Rattle.std.proofs.Common.{sym, ◌∙◌}
+use Rattle.std.proofs.lemmas.Result.{err_from_is_err_and}
 use Rattle.theory.proofs.Listing.{listing_call-short, listing_call-refused, listing_call-made}
 use Rattle.plan.specs.Reading.{verdict_of}
 use Rattle.listing.specs.Entries.{listing_outcome}
 use Rattle.text.proofs.Laws.{put-wrote}
 use Rattle.listing.proofs.listing.Goals as goal
 
-pub returns-then-text-lt-LISTING_ROOM : goal.returns-then-text-lt-LISTING_ROOM
+pub returns-in_err-check_room : goal.returns-in_err-check_room
 unfolding listing_outcome
-returns-then-text-lt-LISTING_ROOM c = sym (listing_call-short _ _ _ c.if-text-lt-LISTING_ROOM.true)
+returns-in_err-check_room c =
+    let p = err_from_is_err_and c.from_residual.result c.from_residual.ensures.1 in
+    let short = c.in_err-check_room.ensures in
+    rw (p.1, p.2, short.1) (sym (listing_call-short _ _ _ short.0))
 
 pub list_accepted-requires : goal.list_accepted-requires
 unfolding verdict_of
-list_accepted-requires c =
-    record { accepts = sym (rw c.in-Accepted.is at c.read-reading.ensures); room = c.if-text-lt-LISTING_ROOM.false }
+list_accepted-requires c = record { accepts = sym c.in_ok-h.ensures; room = c.in_ok-check_room.ensures }
 
-pub returns-in-Refused : goal.returns-in-Refused
+pub returns-in_err-h : goal.returns-in_err-h
 unfolding listing_outcome verdict_of
-returns-in-Refused c =
-    let refuses = rw c.in-Refused.is at c.read-reading.ensures in
-    sym (listing_call-refused _ _ _ _ c.if-text-lt-LISTING_ROOM.false (sym refuses))
+returns-in_err-h c =
+    let p = err_from_is_err_and c.from_residual-in_err-h.result c.from_residual-in_err-h.ensures.1 in
+    rw (p.1, p.2) (sym (listing_call-refused _ _ _ _ c.in_ok-check_room.ensures (sym c.in_err-h.ensures)))
 
-pub returns-in-Accepted : goal.returns-in-Accepted
+pub returns : goal.returns
 unfolding verdict_of listing_outcome
-returns-in-Accepted c =
-    let accepts = sym (rw c.in-Accepted.is at c.read-reading.ensures) in
-    put-wrote _ _ _ _ c.list_accepted.ensures ∙ sym (listing_call-made _ _ _ _ c.if-text-lt-LISTING_ROOM.false accepts)
+returns c =
+    put-wrote _ _ _ _ c.list_accepted.ensures
+    ∙ sym (listing_call-made _ _ _ _ c.in_ok-check_room.ensures (sym c.in_ok-h.ensures))

@@ -1,48 +1,43 @@
 -- `listing::print` meets its contract: a short text first, then the line of a refused plan, or the listing of an accepted one.
 -- Assumes nothing.
-use mathlib.Core.Path.{◌≡◌, ap, sym, ◌∙◌}
-use mathlib.Core.List.{List}
-use Prim.Native.Nat.{ℕ}
-use native.Mathlib.Omega.{arith}
+use Rattle.std.proofs.Common.{ℕ, List, ap, sym, ◌∙◌, arith}
+use Rattle.std.proofs.lemmas.Result.{err_from_is_err_and}
 use Rattle.model.specs.Listing.{refused_line, wrote}
 use Rattle.theory.proofs.Listing.{refused_line-length, printed-refused, printed-accepted, print_call-short, print_call-made}
 use Rattle.plan.specs.Reading.{verdict_of}
-use Rattle.listing.specs.FirstRun.{reading_code}
 use Rattle.listing.specs.Entries.{listing_outcome}
 use Rattle.text.proofs.Laws.{put-wrote}
 use Rattle.listing.proofs.print.Goals as goal
 
-pub returns-then-text-lt-LISTING_ROOM : goal.returns-then-text-lt-LISTING_ROOM
+pub returns-in_err-check_room : goal.returns-in_err-check_room
 unfolding listing_outcome
-returns-then-text-lt-LISTING_ROOM c = sym (print_call-short _ _ _ c.if-text-lt-LISTING_ROOM.true)
+returns-in_err-check_room c =
+    let p = err_from_is_err_and c.from_residual.result c.from_residual.ensures.1 in
+    let short = c.in_err-check_room.ensures in
+    rw (p.1, p.2, short.1) (sym (print_call-short _ _ _ short.0))
 
 pub put_line-requires : goal.put_line-requires
 unfolding refused_line
 put_line-requires c =
-    let short = refused_line-length c.refusal_code.result (omega (arith, c.refusal_code.type_inv)) in
-    let long = c.if-text-lt-LISTING_ROOM.false in
+    let short = refused_line-length c.from.result (omega arith) in
+    let long = c.in_ok-check_room.ensures in
     record { room = record { fits = omega arith }; numbers-max = omega arith }
 
-pub returns-in_default : goal.returns-in_default
-unfolding refused_line verdict_of reading_code listing_outcome
-returns-in_default c =
-    let told = c.in_default.is in
-    let refuses = sym (rw told at c.read-reading.ensures) in
-    let same : c.refusal_code.result ≡ reading_code c.read-reading.result = c.refusal_code.ensures in
+pub returns-in-Err : goal.returns-in-Err
+unfolding refused_line verdict_of listing_outcome
+returns-in-Err c =
     put-wrote _ _ _ _ c.put_line.ensures
-    ∙ ap (λ (n : ℕ). wrote (refused_line n) c.args.text.now) (same ∙ ap reading_code told)
-    ∙ ap (λ (out : List ℕ). wrote out c.args.text.now) (sym (printed-refused _ _ _ refuses))
-    ∙ sym (print_call-made _ _ _ c.if-text-lt-LISTING_ROOM.false)
+    ∙ ap (λ (n : ℕ). wrote (refused_line n) c.args.text.now) (c.from.ensures ∙ c.from-code.ensures)
+    ∙ ap (λ (out : List ℕ). wrote out c.args.text.now) (sym (printed-refused _ _ _ (sym c.in-Err.ensures)))
+    ∙ sym (print_call-made _ _ _ c.in_ok-check_room.ensures)
 
 pub list_accepted-requires : goal.list_accepted-requires
 unfolding verdict_of
-list_accepted-requires c =
-    record { accepts = sym (rw c.in-Accepted.is at c.read-reading.ensures); room = c.if-text-lt-LISTING_ROOM.false }
+list_accepted-requires c = record { accepts = sym c.in-Ok.ensures; room = c.in_ok-check_room.ensures }
 
-pub returns : goal.returns
+pub returns-in-Ok : goal.returns-in-Ok
 unfolding verdict_of listing_outcome
-returns c =
-    let accepts = sym (rw c.in-Accepted.is at c.read-reading.ensures) in
+returns-in-Ok c =
     put-wrote _ _ _ _ c.list_accepted.ensures
-    ∙ ap (λ (out : List ℕ). wrote out c.args.text.now) (sym (printed-accepted _ _ _ accepts))
-    ∙ sym (print_call-made _ _ _ c.if-text-lt-LISTING_ROOM.false)
+    ∙ ap (λ (out : List ℕ). wrote out c.args.text.now) (sym (printed-accepted _ _ _ (sym c.in-Ok.ensures)))
+    ∙ sym (print_call-made _ _ _ c.in_ok-check_room.ensures)

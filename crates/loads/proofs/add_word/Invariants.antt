@@ -3,8 +3,7 @@
 use Rattle.loads.proofs.Adding.{Owing}
 use Rattle.loads.proofs.add_word.Given as goal
 
-abbrev pub invariant-loop-rest : goal.invariant-loop-rest
-invariant-loop-rest l = Owing l.initial.loads l.loads l.word l.rest l.share × Owing l.initial.copies l.copies l.word l.rest 1
-
-abbrev pub decreases-loop-rest : goal.decreases-loop-rest
-decreases-loop-rest l = l.rest
+abbrev pub invariant-loop-m : goal.invariant-loop-m
+invariant-loop-m l =
+    let rest = l.m-iterator.rest in
+    Owing l.initial.loads l.loads l.word rest l.share × Owing l.initial.copies l.copies l.word rest 1

@@ -2,7 +2,7 @@
 -- Assumes nothing.
 use mathlib.Core.Path.{◌≡◌}
 use mathlib.Core.List.{List}
-use Prim.Native.Nat.{ℕ, ◌*◌, ◌-◌, ◌≤◌}
+use Prim.Native.Nat.{ℕ, ◌*◌, ◌≤◌}
 use lib.ListN.{get_or}
 use Rattle.order.specs.Sum.{sum}
 use Rattle.order.specs.Search.{largest, smallest}
@@ -17,8 +17,4 @@ pub record Upto (load : List ℕ) (m max-load min-load total-load : ℕ) : Type 
   pub total-max : total-load ≤ load_bound * m
 
 abbrev pub invariant-loop-m : goal.invariant-loop-m
-invariant-loop-m l =
-    (l.m ≤ l.machines) × Upto l.load l.m l.max_load l.min_load l.total_load
-
-abbrev pub decreases-loop-m : goal.decreases-loop-m
-decreases-loop-m l = l.machines - l.m
+invariant-loop-m l = Upto l.loads.load l.m l.max_load l.min_load l.total_load

@@ -30,20 +30,6 @@ module _ (list : List ℕ) (m n x : ℕ) (ml : m < length list) (has : x ≤ get
       let after = set-balance old n 0 x (get_or old n 0 + x) (omega (arith, length-set list m (get_or list m 0 - x))) (omega arith) k in
       omega (arith, taken_is k)
 
-pub overflow_add-load : goal.overflow_add-load
-overflow_add-load c =
-    let a = c.args in
-    let asked = c.requires in
-    let here = taken_is a.loads.load a.m a.n a.share (omega (arith, asked.m-below)) asked.has-share a.n in
-    omega (arith, asked.load-room a.n asked.n-below, asked.load-room a.m asked.m-below, asked.has-share)
-
-pub overflow_add-copies : goal.overflow_add-copies
-overflow_add-copies c =
-    let a = c.args in
-    let asked = c.requires in
-    let here = taken_is a.loads.copies a.m a.n 1 (omega (arith, asked.m-below)) asked.has-copy a.n in
-    omega (arith, asked.copies-room a.n asked.n-below)
-
 pub returns : goal.returns
 returns c =
     let a = c.args in

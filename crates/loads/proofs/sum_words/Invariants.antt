@@ -1,13 +1,8 @@
 -- `loads::sum_words` meets its contract. The loop's invariant: the arrays are the loads and copies of the words passed.
 -- Assumes nothing.
-use Prim.Native.Nat.{◌-◌, ◌≤◌}
 use Rattle.loads.specs.Loads.{LoadsOf}
 use Rattle.loads.proofs.Adding.{up_to}
 use Rattle.loads.proofs.sum_words.Given as goal
 
 abbrev pub invariant-loop-i : goal.invariant-loop-i
-invariant-loop-i l =
-    (l.i ≤ l.cluster.blocks) × LoadsOf (up_to l.cluster l.i) l.words l.profiles l.load l.copies
-
-abbrev pub decreases-loop-i : goal.decreases-loop-i
-decreases-loop-i l = l.cluster.blocks - l.i
+invariant-loop-i l = LoadsOf (up_to l.fn.cluster l.i) l.words l.profiles l.load l.copies

@@ -1,6 +1,6 @@
 -- `needs::extent_of` meets its contract. The loop's invariant: the largest shares and the sums of the blocks passed.
 -- Assumes nothing.
-use mathlib.Core.Path.{◌≡◌, ap₂, sym, ◌∙◌}
+use mathlib.Core.Path.{◌≡◌, ap, ap₂, sym, ◌∙◌}
 use Prim.Native.Nat.{ℕ, ◌+◌, ◌<◌, max}
 use native.Mathlib.Nat.{le_of_eq}
 use native.Mathlib.Omega.{arith}
@@ -13,7 +13,8 @@ use Rattle.theory.proofs.Replication.{share-bound}
 use Rattle.cluster.specs.Blocks.{popularity_in, least_in, most_in, DemandInRange}
 use Rattle.cluster.proofs.Laws.{cluster-blocks, demands-popularity, demands-least, demands-most}
 use Rattle.needs.specs.Needs.{FractionFits}
-use Rattle.needs.proofs.Laws.{fraction-of}
+use Rattle.std.proofs.lemmas.List.{length-take-le}
+use Rattle.needs.proofs.Laws.{fraction-of, block-here}
 use Rattle.needs.proofs.extent_of.Invariants.{most_share, least_share}
 use Rattle.needs.proofs.extent_of.Goals as goal
 
@@ -29,40 +30,45 @@ module _ (demand popularity count : ℕ) (d : DemandInRange demand) (popular : p
   least-here : count ≡ least_in demand → FractionFits record { popularity = popularity; count = count }
   least-here e = fraction-of demand popularity count d popular (omega (arith, d.least-pos)) (omega (arith, d.least-most))
 
-pub loop-i-init : goal.loop-i-init
-loop-i-init c =
-    (omega arith, omega arith, omega arith, omega arith, omega arith, λ p of. (sym (largest-zero _), sym (largest-zero _), sym (sum-zero _)))
+pub loop-demand-init : goal.loop-demand-init
+loop-demand-init c =
+    (omega arith, omega arith, omega arith, omega arith, λ p of. (sym (largest-zero _), sym (largest-zero _), sym (sum-zero _)))
 
 pub raised-low-requires : goal.raised-low-requires
 raised-low-requires c =
-    let d = c.requires.each c.loop-i.i (omega arith) in
-    (c.loop-i.invariant.1, most-here _ _ _ d c.popularity_of-popularity.ensures c.most_of-count.ensures)
+    let here = block-here c.args.cluster c.args.demands.now c.requires c.loop-demand.demand-index (omega arith) in
+    let d = here.2 in
+    (c.loop-demand.invariant.0, most-here _ _ _ d c.popularity_of-popularity.ensures c.most_of-count.ensures)
 
 pub raised-high-requires : goal.raised-high-requires
 raised-high-requires c =
-    let d = c.requires.each c.loop-i.i (omega arith) in
+    let here = block-here c.args.cluster c.args.demands.now c.requires c.loop-demand.demand-index (omega arith) in
+    let d = here.2 in
     let popular = c.popularity_of-popularity.ensures in
-    let inv = c.loop-i.invariant in
+    let inv = c.loop-demand.invariant in
     let low_narrow = share-bound _ c.most_of-count.result (popularity-here _ _ 0 d popular) in
-    (omega (arith, inv.1, inv.2, c.raised-low.ensures, low_narrow), least-here _ _ _ d popular c.least_of-count.ensures)
+    (omega (arith, inv.0, inv.1, c.raised-low.ensures, low_narrow), least-here _ _ _ d popular c.least_of-count.ensures)
 
 pub overflow_add-total : goal.overflow_add-total
 overflow_add-total c =
-    let d = c.requires.each c.loop-i.i (omega arith) in
+    let here = block-here c.args.cluster c.args.demands.now c.requires c.loop-demand.demand-index (omega arith) in
+    let d = here.2 in
     omega (arith, popularity-here _ _ 0 d c.popularity_of-popularity.ensures, c.requires.in-range.blocks-max)
 
 pub overflow_add-copies : goal.overflow_add-copies
 overflow_add-copies c =
-    let d = c.requires.each c.loop-i.i (omega arith) in
+    let here = block-here c.args.cluster c.args.demands.now c.requires c.loop-demand.demand-index (omega arith) in
+    let d = here.2 in
     let least = least-here _ _ _ d c.popularity_of-popularity.ensures c.least_of-count.ensures in
     omega (arith, least.count-max, c.requires.in-range.blocks-max)
 
-pub loop-i-preserved : goal.loop-i-preserved
-loop-i-preserved c =
-    let i = c.loop-i.i in
-    let inv = c.loop-i.invariant in
-    let l : i < c.args.cluster.blocks = omega arith in
-    let d = c.requires.each i l in
+pub loop-demand-preserved : goal.loop-demand-preserved
+loop-demand-preserved c =
+    let i = c.loop-demand.demand-index in
+    let inv = c.loop-demand.invariant in
+    let here = block-here c.args.cluster c.args.demands.now c.requires i (omega arith) in
+    let l = here.0 in
+    let d = here.2 in
     let popular = c.popularity_of-popularity.ensures in
     let popularity-max = popularity-here _ _ 0 d popular in
     let count-max = (least-here _ _ _ d popular c.least_of-count.ensures).count-max in
@@ -70,16 +76,15 @@ loop-i-preserved c =
     let least = c.least_of-count in
     let low-is = c.raised-low.ensures in
     let high_is = c.raised-high.ensures in (
-      omega arith,
       omega (arith, low-is, share-bound _ most.result popularity-max),
       omega (arith, high_is, share-bound _ least.result popularity-max),
       omega arith,
       omega arith,
       λ p of.
-          let popularity-is = popular ∙ demands-popularity p _ _ of i l in
-          let least-is = least.ensures ∙ demands-least p _ _ of i l in
-          let most-is = most.ensures ∙ demands-most p _ _ of i l in
-          let before = inv.5 p of in (
+          let popularity-is = popular ∙ ap popularity_in here.1 ∙ demands-popularity p _ _ of i l in
+          let least-is = least.ensures ∙ ap least_in here.1 ∙ demands-least p _ _ of i l in
+          let most-is = most.ensures ∙ ap most_in here.1 ∙ demands-most p _ _ of i l in
+          let before = inv.4 p of in (
             low-is ∙ ap₂ max before.0 (ap₂ share popularity-is most-is) ∙ sym (largest_step i (most_share p)),
             high_is ∙ ap₂ max before.1 (ap₂ share popularity-is least-is) ∙ sym (largest_step i (least_share p)),
             ap₂ ◌+◌ before.2 least-is ∙ sym (sum_step i (λ k. (block_of p k).min_replicas)),
@@ -89,14 +94,15 @@ loop-i-preserved c =
 pub returns : goal.returns
 unfolding largest_share min_total
 returns c =
-    let inv = c.loop-i.invariant in (
+    let inv = c.loop-demand.invariant in
+    let blocks = length-take-le c.args.cluster.blocks c.args.demands.now c.requires.room in (
       record {
-        low_narrow = inv.1;
-        high-narrow = inv.2;
-        popularity-max = omega arith;
+        low_narrow = inv.0;
+        high-narrow = inv.1;
+        popularity-max = omega (arith);
       },
       λ p of.
-          let all : c.loop-i.i ≡ block_count p = omega (arith, cluster-blocks p _ of.cluster) in
-          let passed = rw all at (inv.5 p of) in
+          let all : c.loop-demand.demand-index ≡ block_count p = omega (arith, cluster-blocks p _ of.cluster) in
+          let passed = rw all at (inv.4 p of) in
           record { low-is = passed.0; high_is = passed.1; copies-is = passed.2 },
     )

@@ -1,7 +1,7 @@
 -- `needs::extent_of` meets its contract. The loop's invariant: the largest shares and the sums of the blocks passed.
 -- Assumes nothing.
 use mathlib.Core.Path.{◌≡◌}
-use Prim.Native.Nat.{ℕ, ◌-◌, ◌*◌, ◌<◌, ◌≤◌}
+use Prim.Native.Nat.{ℕ, ◌*◌, ◌<◌, ◌≤◌}
 use Rattle.order.specs.Search.{largest}
 use Rattle.order.specs.Sum.{sum}
 use Rattle.model.specs.Plan.{Plan, block_of, upper}
@@ -17,15 +17,11 @@ most_share p i = share (block_of p i).popularity (upper p i)
 abbrev pub least_share : Plan → ℕ → ℕ
 least_share p i = share (block_of p i).popularity (block_of p i).min_replicas
 
-abbrev pub invariant-loop-i : goal.invariant-loop-i
-invariant-loop-i l =
-    (l.i ≤ l.cluster.blocks)
-    × (l.low < share_bound)
+abbrev pub invariant-loop-demand : goal.invariant-loop-demand
+invariant-loop-demand l =
+    (l.low < share_bound)
     × (l.high < share_bound)
-    × (l.total ≤ popularity_bound * l.i)
-    × (l.copies ≤ most_replicas * l.i)
-    × ((p : Plan) → DemandsOf p l.cluster l.demands
-    → (l.low ≡ largest l.i (most_share p)) × (l.high ≡ largest l.i (least_share p)) × (l.copies ≡ sum l.i (λ k. (block_of p k).min_replicas)))
-
-abbrev pub decreases-loop-i : goal.decreases-loop-i
-decreases-loop-i l = l.cluster.blocks - l.i
+    × (l.total ≤ popularity_bound * l.demand-index)
+    × (l.copies ≤ most_replicas * l.demand-index)
+    × ((p : Plan) → DemandsOf p l.fn.cluster l.demands
+    → (l.low ≡ largest l.demand-index (most_share p)) × (l.high ≡ largest l.demand-index (least_share p)) × (l.copies ≡ sum l.demand-index (λ k. (block_of p k).min_replicas)))

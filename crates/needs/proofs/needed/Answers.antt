@@ -101,7 +101,7 @@ module _ (demand figure scale : ℕ) (asked : NeedAsked demand figure scale) whe
       ]
 
   -- the count to begin with
-  module _ (k : ℕ) (is : k ≡ max (least_in demand) estimate) where
+  module _ (k : ℕ) (is : k ≡ max estimate (least_in demand)) where
     count-low : least_in demand ≤ k
     count-low = omega arith
 
@@ -110,9 +110,9 @@ module _ (demand figure scale : ℕ) (asked : NeedAsked demand figure scale) whe
 
 -- from the numbers that were read
 count-is : (demand figure scale popularity least k : ℕ) (asked : NeedAsked demand figure scale) → popularity ≡ popularity_in demand → least ≡ least_in demand
-    → k ≡ max least ((popularity * scale + (parts - 1)) / parts) → k ≡ max (least_in demand) (estimate demand figure scale asked)
+    → k ≡ max ((popularity * scale + (parts - 1)) / parts) least → k ≡ max (estimate demand figure scale asked) (least_in demand)
 count-is demand figure scale popularity least k asked popular low is =
-    is ∙ ap₂ max low (ap (λ (x : ℕ). (x * scale + (parts - 1)) / parts) popular)
+    is ∙ ap₂ max (ap (λ (x : ℕ). (x * scale + (parts - 1)) / parts) popular) low
 
 pub overflow_mul-estimate : goal.overflow_mul-estimate
 overflow_mul-estimate c = rw c.popularity_of-popularity.ensures (omega (arith, product-max _ _ _ c.requires))
@@ -123,22 +123,22 @@ overflow_add-estimate c = rw c.popularity_of-popularity.ensures (omega (arith, p
 pub overflow_mul-figure : goal.overflow_mul-figure
 overflow_mul-figure c =
     let asked = c.requires in
-    let is = count-is _ _ _ _ _ _ asked c.popularity_of-popularity.ensures c.least_of.ensures c.larger-k.ensures in
+    let is = count-is _ _ _ _ _ _ asked c.popularity_of-popularity.ensures c.least_of.ensures c.max-k.ensures in
     let product = mul-le-mul asked.wanted-narrow (count-max _ _ _ asked _ is) in
     omega (arith, asked.in-range.most-max)
 
 pub overflow_add-result : goal.overflow_add-result
 overflow_add-result c =
     let asked = c.requires in
-    let is = count-is _ _ _ _ _ _ asked c.popularity_of-popularity.ensures c.least_of.ensures c.larger-k.ensures in
+    let is = count-is _ _ _ _ _ _ asked c.popularity_of-popularity.ensures c.least_of.ensures c.max-k.ensures in
     omega (arith, count-max _ _ _ asked _ is, asked.in-range.most-max)
 
 pub returns-then-figure-k : goal.returns-then-figure-k
 returns-then-figure-k c =
     let asked = c.requires in
     let P-is = c.popularity_of-popularity.ensures in
-    let k = c.larger-k.result in
-    let is = count-is _ _ _ _ _ _ asked P-is c.least_of.ensures c.larger-k.ensures in
+    let k = c.max-k.result in
+    let is = count-is _ _ _ _ _ _ asked P-is c.least_of.ensures c.max-k.ensures in
     let low = count-low _ _ _ asked k is in
     let high = count-max _ _ _ asked k is in
     let back : k + 1 - 1 ≡ k = omega arith in
@@ -156,8 +156,8 @@ pub returns : goal.returns
 returns c =
     let asked = c.requires in
     let P-is = c.popularity_of-popularity.ensures in
-    let k = c.larger-k.result in
-    let is = count-is _ _ _ _ _ _ asked P-is c.least_of.ensures c.larger-k.ensures in
+    let k = c.max-k.result in
+    let is = count-is _ _ _ _ _ _ asked P-is c.least_of.ensures c.max-k.ensures in
     let low = count-low _ _ _ asked k is in
     let high = count-max _ _ _ asked k is in
     record {

@@ -4,7 +4,9 @@
 use mathlib.Core.Path.{◌≡◌, ap, ap₂, sym, subst, ◌∙◌}
 use mathlib.Core.Logic.{inl, inr}
 use Prim.Native.Nat.{ℕ, suc, ◌+◌, ◌-◌, ◌<◌, ◌≤◌}
-use native.Mathlib.Nat.{le_refl, eq-or-lt_of_le}
+use native.Mathlib.Nat.{le_refl, eq-or-lt_of_le, lt_of_not-le}
+use native.Mathlib.Decide.{dec_lt}
+use Rattle.std.proofs.Common.{Option, Some, None}
 use native.Mathlib.Omega.{arith}
 use borrow.Author.Count.{below_none, below_more}
 use borrow.Author.Tests.{ltb-true, ltb-false}
@@ -13,20 +15,21 @@ use Rattle.order.specs.Sum.{sum}
 use Rattle.order.proofs.Sums.{sum-zero, sum_step, sum-cong}
 use Rattle.model.specs.Plan.{Plan, block_count, block_of, upper}
 use Rattle.model.specs.Replication.{share, need}
-use Rattle.theory.specs.Widths.{popularity_bound}
+use Rattle.theory.specs.Widths.{share_bound}
 use Rattle.theory.specs.Refusal.{ValidBlock}
-use Rattle.theory.proofs.Replication.{share-one, need-same, need-less, need-less-above}
+use Rattle.theory.proofs.Replication.{share-bound, need-same, need-less, need-less-above}
 use mathlib.Core.List.{List}
 use Rattle.cluster.specs.declared.Cluster.{Cluster}
 use Rattle.cluster.specs.Blocks.{popularity_in, least_in, DemandInRange, DemandsFit, DemandsOf}
 use Rattle.needs.specs.declared.Fraction.{Fraction}
 use Rattle.cluster.proofs.Laws.{cluster-blocks, cluster-block, demands-popularity, demands-least}
 use Rattle.needs.specs.declared.NextShare.{NextShare}
-use Rattle.needs.specs.Needs.{FractionFits, fraction_share, NextAs, NeedOf}
-use Rattle.needs.proofs.Laws.{fraction-of, need-of}
+use Rattle.needs.specs.Needs.{FractionFits, fraction_share, next_share, next_blocks, NextFits, Joined, NextAs, NeedOf, TallyOf}
+use Rattle.std.proofs.lemmas.List.{length-take-le}
+use Rattle.needs.proofs.Laws.{fraction-of, need-of, block-here}
 use Rattle.needs.proofs.tally_of.Invariants.{Stays, Passed}
 use Rattle.needs.proofs.tally_of.Goals as goal
-use Rattle.needs.proofs.tally_of.Goals.{then-count-least_of+then-not-is_less, then-count-least_of+else-not-is_less, else-count-least_of}
+use Rattle.needs.proofs.tally_of.Goals.{then-count-least_of+in_default, else-count-least_of, in_default-via-in-None-1, in_default-via-in-Some+else-is_less}
 
 module _ (p : Plan) (wanted i next blocks total : ℕ) (block : ValidBlock p i) (passed : Passed p wanted next blocks total i) where
   abbrev count : ℕ
@@ -87,18 +90,42 @@ module _ (p : Plan) (wanted i next blocks total : ℕ) (block : ValidBlock p i) 
           passed-step next blocks (le_refl _) (in-upper, λ f from end. same-below f from (omega arith))
           (omega (arith, same-below next (omega arith) l, passed.fewer-is))
 
-      -- one of the two, where it is not above the next share
-      passed-more : (next' blocks' : ℕ) → less ≤ next → next' ≡ less → (less ≡ next → blocks' ≡ suc blocks) → (less < next → blocks' ≡ 1)
-          → Passed p wanted next' blocks' (total + count) (i + 1)
-      passed-more next' blocks' at_most is tied replaced =
-          elim (eq-or-lt_of_le at_most) [
-            | inl e ↦ rw (is ∙ e, tied e) (passed-tied (sym e))
-            | inr l ↦ rw (is, replaced l) (passed-replaced l)
+      -- the next share with this one
+      passed-more : (next' blocks' : ℕ) → Joined next blocks less next' blocks' → Passed p wanted next' blocks' (total + count) (i + 1)
+      passed-more next' blocks' joined =
+          elim (dec_lt next less) [
+            | yes l ↦ let so = joined.kept l in rw (so.0, so.1) (passed-kept l)
+            | no h ↦ let m : less ≤ next = omega (arith, lt_of_not-le h) in elim (eq-or-lt_of_le m) [
+              | inl e ↦ let so = joined.tied e in rw (so.0, so.1) (passed-tied (sym e))
+              | inr l ↦ let so = joined.replaced l in rw (so.0, so.1) (passed-replaced l)
+            ]
           ]
 
--- before the first block stands a share that no block has
-none-fits : FractionFits record { popularity = popularity_bound; count = 1 }
-none-fits = record { popularity-max = le_refl _; count-pos = omega arith; count-max = omega arith }
+-- it is above the figure where both are
+joined-bounds : (next blocks share next' blocks' wanted : ℕ) → Joined next blocks share next' blocks' → wanted < next → wanted < share
+    → (blocks' ≤ suc blocks) × (wanted < next')
+joined-bounds next blocks share next' blocks' wanted joined above above' =
+    elim (dec_lt next share) [
+      | yes l ↦ let so = joined.kept l in (omega arith, omega arith)
+      | no h ↦ let m : share ≤ next = omega (arith, lt_of_not-le h) in elim (eq-or-lt_of_le m) [
+        | inl e ↦ let so = joined.tied e in (omega arith, omega arith)
+        | inr l ↦ let so = joined.replaced l in (omega arith, omega arith)
+      ]
+    ]
+
+-- where no block has a next share, all needs stay the same at any larger figure
+tally-least : (p : Plan) (wanted total : ℕ) → Passed p wanted share_bound 0 total (block_count p) → wanted < share_bound
+    → TallyOf p wanted record { total = total; next = wanted + 1; fewer = total }
+tally-least p wanted total passed narrow =
+    record {
+      total-is = passed.total-is;
+      in-upper = λ i l. (passed.stays i l).0;
+      same = λ f from below i l. (passed.stays i l).1 f from (omega arith);
+      fewer-is = elim (dec_lt (wanted + 1) share_bound) [
+        | yes below ↦ passed.total-is ∙ sym (sum-cong (block_count p) _ _ (λ i l. (passed.stays i l).1 (wanted + 1) (omega arith) below))
+        | no h ↦ let e : wanted + 1 ≡ share_bound = omega (arith, lt_of_not-le h) in rw e (omega (arith, passed.fewer-is))
+      ];
+    }
 
 -- one copy less is a count, too
 less-fits : (demand wanted count popularity least : ℕ) → DemandInRange demand → NeedOf demand wanted count → popularity ≡ popularity_in demand
@@ -107,17 +134,17 @@ less-fits demand wanted count popularity least d found popular low more =
     fraction-of demand popularity (count - 1) d popular (omega (arith, d.least-pos)) (omega (arith, found.high))
 
 -- what a turn makes of the next share
-module _ (c : Cluster) (demands : List ℕ) (wanted : ℕ) (fit : DemandsFit c demands) (i total : ℕ) (next : NextShare) (l : i < c.blocks)
+module _ (c : Cluster) (demands : List ℕ) (wanted : ℕ) (fit : DemandsFit c demands) (i total : ℕ) (next : Option NextShare) (l : i < c.blocks)
     (count least : ℕ) (found : NeedOf (get_or demands i 0) wanted count) (low : least ≡ least_in (get_or demands i 0))
-    (fits : FractionFits next.share) (above : wanted < fraction_share next.share)
-    (passed : (p : Plan) → DemandsOf p c demands → Passed p wanted (fraction_share next.share) next.blocks total i)
+    (fits : NextFits next) (above : wanted < next_share next)
+    (passed : (p : Plan) → DemandsOf p c demands → Passed p wanted (next_share next) (next_blocks next) total i)
   where
-    abbrev IsNext : NextShare → Type 0
+    abbrev IsNext : Option NextShare → Type 0
     IsNext new =
-        (new.blocks ≤ suc next.blocks)
-        × FractionFits new.share
-        × (wanted < fraction_share new.share)
-        × ((p : Plan) → DemandsOf p c demands → Passed p wanted (fraction_share new.share) new.blocks (total + count) (i + 1))
+        (next_blocks new ≤ suc (next_blocks next))
+        × NextFits new
+        × (wanted < next_share new)
+        × ((p : Plan) → DemandsOf p c demands → Passed p wanted (next_share new) (next_blocks new) (total + count) (i + 1))
 
     -- the count found is the block's need
     module _ (p : Plan) (of : DemandsOf p c demands) where
@@ -140,7 +167,7 @@ module _ (c : Cluster) (demands : List ℕ) (wanted : ℕ) (fit : DemandsFit c d
       fits,
       above,
       λ p of.
-          subst (λ (k : ℕ). Passed p wanted (fraction_share next.share) next.blocks (total + k) (i + 1))
+          subst (λ (k : ℕ). Passed p wanted (next_share next) (next_blocks next) (total + k) (i + 1))
           (sym (need-here p of))
           (passed-least p wanted i _ _ total (block p of) (passed p of) (in-upper p of) above
           (omega (arith, least-here p of, need-here p of))),
@@ -153,130 +180,164 @@ module _ (c : Cluster) (demands : List ℕ) (wanted : ℕ) (fit : DemandsFit c d
       same : (p : Plan) → DemandsOf p c demands → fraction_share fewer ≡ share (block_of p i).popularity (need p wanted i - 1)
       same p of = ap₂ (λ (P k : ℕ). share P (k - 1)) (popular ∙ demands-popularity p c demands of i l) (need-here p of)
 
-      turn-kept : fraction_share next.share < fraction_share fewer → IsNext next
+      -- one share more: above the next one
+      turn-kept : next_share next < fraction_share fewer → IsNext next
       turn-kept kept = (
         omega arith,
         fits,
         above,
         λ p of.
-            subst (λ (k : ℕ). Passed p wanted (fraction_share next.share) next.blocks (total + k) (i + 1))
+            subst (λ (k : ℕ). Passed p wanted (next_share next) (next_blocks next) (total + k) (i + 1))
             (sym (need-here p of))
             (passed-kept p wanted i _ _ total (block p of) (passed p of) (in-upper p of) above
             (omega (arith, least-here p of, need-here p of))
             (omega (arith, kept, same p of))),
       )
 
-      -- one share more, which is not above the next one
-      turn-more : (new : NextShare) → fraction_share fewer ≤ fraction_share next.share → NextAs next fewer new → IsNext new
-      turn-more new at_most joined =
+      -- and not above it
+      turn-more : (new : NextShare) → NextAs next fewer new → IsNext (Some new)
+      turn-more new is =
           let less-above = found.less-above (omega arith) in
-          let less-is = ap (λ (P : ℕ). share P (count - 1)) popular in (
-            elim (eq-or-lt_of_le at_most) [ inl e ↦ omega (arith, joined.tied e) | inr s ↦ omega (arith, joined.replaced s) ],
-            rw joined.share-is (less-fits _ wanted _ _ least (fit.each i l) found popular low more),
-            rw joined.share-is (omega (arith, less-above, less-is)),
+          let less-is = ap (λ (P : ℕ). share P (count - 1)) popular in
+          let bounds = joined-bounds _ _ _ _ _ wanted is.joined above (omega (arith, less-above, less-is)) in (
+            bounds.0,
+            is.fits,
+            bounds.1,
             λ p of.
                 subst (λ (k : ℕ). Passed p wanted (fraction_share new.share) new.blocks (total + k) (i + 1))
                 (sym (need-here p of))
                 (passed-more p wanted i _ _ total (block p of) (passed p of) (in-upper p of) above
                 (omega (arith, least-here p of, need-here p of)) _ _
-                (omega (arith, at_most, same p of))
-                (ap fraction_share joined.share-is ∙ same p of)
-                (λ e. joined.tied (same p of ∙ e))
-                (λ s. joined.replaced (omega (arith, same p of)))),
+                (rw (← same p of) is.joined)),
           )
 
 pub scale_of-scale-requires : goal.scale_of-scale-requires
 scale_of-scale-requires c = c.requires.wanted-narrow
 
-pub loop-i-init : goal.loop-i-init
-loop-i-init c = (
+pub loop-demand-init : goal.loop-demand-init
+loop-demand-init c = (
   omega arith,
   omega arith,
   omega arith,
-  omega arith,
-  none-fits,
-  omega (arith, share-one popularity_bound, c.requires.wanted-narrow),
-  λ p of. record { total-is = sym (sum-zero _); stays = below_none _; fewer-is = omega (arith, sum-zero (need p (share popularity_bound 1))) },
+  tt,
+  c.requires.wanted-narrow,
+  λ p of. record { total-is = sym (sum-zero _); stays = below_none _; fewer-is = omega (arith, sum-zero (need p share_bound)) },
 )
-
-pub bounds-demands-i : goal.bounds-demands-i
-bounds-demands-i c = omega (arith, c.requires.fit.room)
 
 pub needed-count-requires : goal.needed-count-requires
 needed-count-requires c =
     let asked = c.requires in
+    let here = block-here c.args.cluster c.args.demands.now c.requires.fit c.loop-demand.demand-index (omega arith) in
+    let d = here.2 in
     record {
-      in-range = asked.fit.each _ (omega arith);
+      in-range = d;
       wanted-narrow = asked.wanted-narrow;
       scale_of = c.scale_of-scale.ensures;
-      most-within = asked.most-within c.loop-i.i (omega arith);
+      most-within = rw here.1 (asked.most-within c.loop-demand.demand-index here.0);
     }
 
 pub overflow_add-total : goal.overflow_add-total
 overflow_add-total c =
-    let d = c.requires.fit.each c.loop-i.i (omega arith) in
+    let here = block-here c.args.cluster c.args.demands.now c.requires.fit c.loop-demand.demand-index (omega arith) in
+    let d = here.2 in
     omega (arith, c.needed-count.ensures.high, d.most-max, c.requires.fit.in-range.blocks-max)
 
-pub is_less-requires : goal.is_less-requires
-is_less-requires c =
-    let d = c.requires.fit.each c.loop-i.i (omega arith) in (
-      c.loop-i.invariant.4,
-      less-fits _ c.args.wanted _ _ _ d c.needed-count.ensures c.popularity_of-popularity.ensures c.least_of.ensures c.if-count-least_of.true,
-    )
-
-pub next_with-next-requires : goal.next_with-next-requires
-next_with-next-requires c =
-    let inv = c.loop-i.invariant in
-    let d = c.requires.fit.each c.loop-i.i (omega arith) in
+pub next_with-requires : goal.next_with-requires
+next_with-requires c =
+    let inv = c.loop-demand.invariant in
+    let here = block-here c.args.cluster c.args.demands.now c.requires.fit c.loop-demand.demand-index (omega arith) in
+    let d = here.2 in
+    let popular = c.popularity_of-popularity.ensures in
+    let narrow : share c.popularity_of-popularity.result (c.needed-count.result - 1) < share_bound =
+    share-bound _ (c.needed-count.result - 1) (rw popular d.popularity-narrow) in
+    let kept : c.in_default.next ≡ c.loop-demand.next =
+    elim c.in_default.branch [ in_default-via-in-None-1 w ↦ w.next-is | in_default-via-in-Some+else-is_less w ↦ w.next-is ∙ sym w.in-Some.is ] in
     record {
-      next_fits = inv.4;
-      share-fits = less-fits _ c.args.wanted _ _ _ d c.needed-count.ensures c.popularity_of-popularity.ensures c.least_of.ensures c.if-count-least_of.true;
-      share-max = ltb-false _ _ (sym c.is_less.ensures ∙ c.if-not-is_less.true);
-      blocks-room = omega (arith, inv.2, c.requires.fit.in-range.blocks-max);
+      next_fits = rw kept inv.3;
+      share-fits = less-fits _ c.args.wanted _ _ _ d c.needed-count.ensures popular c.least_of.ensures c.if-count-least_of.true;
+      share-narrow = narrow;
+      share-max = elim c.in_default.branch [
+        | in_default-via-in-None-1 w ↦ let none : c.loop-demand.next ≡ None = cc in rw (w.next-is, none) (omega arith)
+        | in_default-via-in-Some+else-is_less w ↦ rw w.next-is (ltb-false _ _ (sym w.is_less.ensures ∙ w.if-is_less.false))
+      ];
+      blocks-room = rw kept (omega (arith, inv.1, c.requires.fit.in-range.blocks-max));
     }
 
-pub loop-i-preserved : goal.loop-i-preserved
-loop-i-preserved c =
-    let inv = c.loop-i.invariant in
-    let found = c.needed-count.ensures in
-    let l : c.loop-i.i < c.args.cluster.blocks = omega arith in
+-- a block whose share is above the next one
+pub loop-demand-preserved-then-count-least_of : goal.loop-demand-preserved-then-count-least_of
+loop-demand-preserved-then-count-least_of c =
+    let inv = c.loop-demand.invariant in
     let fit = c.requires.fit in
-    let d = fit.each c.loop-i.i l in
-    let next : IsNext c.args.cluster c.args.demands.now c.args.wanted fit c.loop-i.i c.loop-i.total c.loop-i.next l c.needed-count.result _ found c.least_of.ensures inv.4 inv.5 inv.6 c.if-count-least_of.next =
-    elim c.if-count-least_of.branch [
-      | then-count-least_of+then-not-is_less w ↦ rw w.next-is
-          (turn-more _ _ _ fit _ _ _ l _ _ found c.least_of.ensures inv.4 inv.5 inv.6 _ w.popularity_of-popularity.ensures w.if-count-least_of.true
-          _ (ltb-false _ _ (sym w.is_less.ensures ∙ w.if-not-is_less.true)) w.next_with-next.ensures)
-      | then-count-least_of+else-not-is_less w ↦ rw w.next-is
-          (turn-kept _ _ _ fit _ _ _ l _ _ found c.least_of.ensures inv.4 inv.5 inv.6 _ w.popularity_of-popularity.ensures w.if-count-least_of.true
-          (ltb-true _ _ (sym w.is_less.ensures ∙ w.if-not-is_less.false)))
-      | else-count-least_of w ↦ rw w.next-is
-          (turn-least _ _ _ fit _ _ _ l _ _ found c.least_of.ensures inv.4 inv.5 inv.6 w.if-count-least_of.false)
-    ]
-    in (
-      omega arith,
+    let here = block-here c.args.cluster c.args.demands.now c.requires.fit c.loop-demand.demand-index (omega arith) in
+    let d = here.2 in
+    let found = rw here.1 at c.needed-count.ensures in
+    let low = rw here.1 at c.least_of.ensures in
+    let l = here.0 in
+    let is = c.in-Some.is in
+    let next = rw is at
+    (turn-kept _ _ _ fit _ _ _ l _ _ found low inv.3 inv.4 inv.5 _ (rw here.1 at c.popularity_of-popularity.ensures) c.if-count-least_of.true
+    (rw is (ltb-true _ _ (sym c.is_less.ensures ∙ c.if-is_less.true)))) in
+    let before = rw is at inv.1 in
+    let before' = rw is at inv.2 in (
       omega (arith, found.high, d.most-max),
-      omega (arith, next.0, inv.2),
-      omega (arith, next.0, inv.3, found.low, d.least-pos),
+      omega (arith, before),
+      omega (arith, before', found.low, d.least-pos),
       next.1,
       next.2,
       next.3,
     )
 
-pub overflow_sub-fewer : goal.overflow_sub-fewer
-overflow_sub-fewer c = c.loop-i.invariant.3
+pub loop-demand-preserved : goal.loop-demand-preserved
+loop-demand-preserved c =
+    let inv = c.loop-demand.invariant in
+    let fit = c.requires.fit in
+    let here = block-here c.args.cluster c.args.demands.now c.requires.fit c.loop-demand.demand-index (omega arith) in
+    let d = here.2 in
+    let found = rw here.1 at c.needed-count.ensures in
+    let low = rw here.1 at c.least_of.ensures in
+    let l = here.0 in
+    let next : IsNext c.args.cluster c.args.demands.now c.args.wanted fit c.loop-demand.demand-index c.loop-demand.total c.loop-demand.next l c.needed-count.result _ found low inv.3 inv.4 inv.5 c.if-count-least_of.next =
+    elim c.if-count-least_of.branch [
+      | then-count-least_of+in_default w ↦
+          let kept : w.in_default.next ≡ c.loop-demand.next =
+          elim w.in_default.branch [ in_default-via-in-None-1 v ↦ v.next-is | in_default-via-in-Some+else-is_less v ↦ v.next-is ∙ sym v.in-Some.is ] in
+          rw w.next-is
+          (turn-more _ _ _ fit _ _ _ l _ _ found low inv.3 inv.4 inv.5 _ (rw here.1 at w.popularity_of-popularity.ensures) w.if-count-least_of.true
+          _ (rw kept at w.next_with.ensures))
+      | else-count-least_of w ↦ rw w.next-is
+          (turn-least _ _ _ fit _ _ _ l _ _ found low inv.3 inv.4 inv.5 w.if-count-least_of.false)
+    ]
+    in (
+      omega (arith, found.high, d.most-max),
+      omega (arith, next.0, inv.1),
+      omega (arith, next.0, inv.2, found.low, d.least-pos),
+      next.1,
+      next.2,
+      next.3,
+    )
 
-pub share_at-requires : goal.share_at-requires
-share_at-requires c = c.loop-i.invariant.4
+pub returns-in_default : goal.returns-in_default
+returns-in_default c =
+    let inv = c.loop-demand.invariant in
+    let blocks = length-take-le c.args.cluster.blocks c.args.demands.now c.requires.fit.room in
+    let is = c.in_default.is in (
+      record { total-max = omega arith; fewer-max = omega arith; next-above = omega arith },
+      λ p of.
+          let all : c.loop-demand.demand-index ≡ block_count p = omega (arith, cluster-blocks p _ of.cluster) in
+          tally-least p c.args.wanted c.loop-demand.total (rw (is, all) at (inv.5 p of)) c.requires.wanted-narrow,
+    )
 
 pub returns : goal.returns
 returns c =
-    let inv = c.loop-i.invariant in
-    let next-is = c.share_at.ensures in (
-      record { total-max = omega arith; fewer-max = omega arith; next-above = rw next-is inv.5 },
+    let inv = c.loop-demand.invariant in
+    let blocks = length-take-le c.args.cluster.blocks c.args.demands.now c.requires.fit.room in
+    let is = c.in-Some-next.is in
+    let next-is = c.share_at.ensures in
+    let above : c.args.wanted < fraction_share c.in-Some-next.next.share = rw is at inv.4 in (
+      record { total-max = omega arith; fewer-max = omega arith; next-above = rw next-is above },
       λ p of.
-          let all : c.loop-i.i ≡ block_count p = omega (arith, cluster-blocks p _ of.cluster) in
-          let passed = rw all at (inv.6 p of) in
+          let all : c.loop-demand.demand-index ≡ block_count p = omega (arith, cluster-blocks p _ of.cluster) in
+          let passed = rw (is, all) at (inv.5 p of) in
           record {
             total-is = passed.total-is;
             in-upper = λ i l. (passed.stays i l).0;

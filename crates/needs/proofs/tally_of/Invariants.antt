@@ -2,13 +2,13 @@
 -- they stay as they are, and there each block that has it needs one copy less.
 -- Assumes nothing.
 use mathlib.Core.Path.{◌≡◌}
-use Prim.Native.Nat.{ℕ, ◌+◌, ◌-◌, ◌*◌, ◌<◌, ◌≤◌}
+use Prim.Native.Nat.{ℕ, ◌+◌, ◌*◌, ◌<◌, ◌≤◌}
 use Rattle.order.specs.Sum.{sum}
 use Rattle.model.specs.Plan.{Plan, upper}
 use Rattle.model.specs.Replication.{need}
 use Rattle.theory.specs.Widths.{most_replicas}
 use Rattle.cluster.specs.Blocks.{DemandsOf}
-use Rattle.needs.specs.Needs.{FractionFits, fraction_share}
+use Rattle.needs.specs.Needs.{NextFits, next_share, next_blocks}
 use Rattle.needs.proofs.tally_of.Given as goal
 
 -- block i's need is lawful, and the same for a figure from `wanted` on and below `next`
@@ -21,15 +21,11 @@ pub record Passed (p : Plan) (wanted next blocks total i : ℕ) : Type 0 where
   pub stays : (k : ℕ) → k < i → Stays p wanted next k
   pub fewer-is : sum i (need p next) + blocks ≡ total
 
-abbrev pub invariant-loop-i : goal.invariant-loop-i
-invariant-loop-i l =
-    (l.i ≤ l.cluster.blocks)
-    × (l.total ≤ most_replicas * l.i)
-    × (l.next.blocks ≤ l.i)
-    × (l.next.blocks ≤ l.total)
-    × FractionFits l.next.share
-    × (l.wanted < fraction_share l.next.share)
-    × ((p : Plan) → DemandsOf p l.cluster l.demands → Passed p l.wanted (fraction_share l.next.share) l.next.blocks l.total l.i)
-
-abbrev pub decreases-loop-i : goal.decreases-loop-i
-decreases-loop-i l = l.cluster.blocks - l.i
+abbrev pub invariant-loop-demand : goal.invariant-loop-demand
+invariant-loop-demand l =
+    (l.total ≤ most_replicas * l.demand-index)
+    × (next_blocks l.next ≤ l.demand-index)
+    × (next_blocks l.next ≤ l.total)
+    × NextFits l.next
+    × (l.wanted < next_share l.next)
+    × ((p : Plan) → DemandsOf p l.fn.cluster l.demands → Passed p l.wanted (next_share l.next) (next_blocks l.next) l.total l.demand-index)

@@ -1,13 +1,14 @@
--- `newcomer::popularity_bound` meets its contract.
+-- `newcomer::popularity_bound` meets its contract: the format's width is at most four bytes.
 -- Assumes nothing.
-use borrow.Author.Tests.{lt-ltb, le-ltb}
-use Rattle.model.specs.Plan.{format_of}
+use mathlib.Core.Path.{ap, ◌∙◌}
+use native.Mathlib.Omega.{arith}
+use Prim.Native.Nat.{◌^◌}
+use Rattle.std.proofs.Math.Nat.{pow-le-pow_right}
+use Rattle.model.specs.Plan.{Format}
 use Rattle.newcomer.proofs.popularity_bound.Goals as goal
 
-pub returns-then-version-lt3 : goal.returns-then-version-lt3
-unfolding format_of
-returns-then-version-lt3 c = rw (lt-ltb _ _ c.if-version-lt3.true)
+pub pow-requires : goal.pow-requires
+pow-requires c = omega (arith, pow-le-pow_right {n = 256} (omega arith) c.format_of.ensures.1.popularity-max)
 
 pub returns : goal.returns
-unfolding format_of
-returns c = rw (le-ltb _ _ c.if-version-lt3.false)
+returns c = c.pow.ensures ∙ ap (λ (f : Format). 256 ^ f.popularity_width) c.format_of.ensures.0

@@ -9,7 +9,7 @@ returns-in_default c = absurd (print_call-never _ _ _ c.requires _ c.in_default.
 
 pub slice_bounds-result-end-2 : goal.slice_bounds-result-end-2
 slice_bounds-result-end-2 c =
-    print_call-size _ _ _ c.requires _ c.in-Listed.ensures ∙ sym (ap length (print_call-part _ _ _ c.requires _ c.in-Listed.ensures))
+    print_call-size _ _ _ c.requires _ c.in-Ok.ensures ∙ sym (ap length (print_call-part _ _ _ c.requires _ c.in-Ok.ensures))
 
 pub returns : goal.returns
-returns c = print_call-part _ _ _ c.requires _ c.in-Listed.ensures
+returns c = print_call-part _ _ _ c.requires _ c.in-Ok.ensures

@@ -75,7 +75,7 @@ pub format_in-format-requires : goal.format_in-format-requires
 format_in-format-requires c = common-in _ _ (accepted-of _ _ c.requires.accepts)
 
 pub loop-i-init : goal.loop-i-init
-loop-i-init c = (omega arith, filled_none _ _, below_none _, refl)
+loop-i-init c = (filled_none _ _, below_none _, refl)
 
 pub link-linked-requires : goal.link-linked-requires
 link-linked-requires c = (here _ _ c.requires.accepts _ c.format_in-format.ensures.0 c.format_in-format.ensures.1 _ c.loop-i-test.true).inside
@@ -98,30 +98,24 @@ offset_bounds-demands-i c =
     let block = (here _ _ c.requires.accepts _ c.format_in-format.ensures.0 c.format_in-format.ensures.1 _ c.loop-i-test.true).inside in
     omega arith
 
-pub overflow_add-i : goal.overflow_add-i
-overflow_add-i c =
-    let block = (here _ _ c.requires.accepts _ c.format_in-format.ensures.0 c.format_in-format.ensures.1 _ c.loop-i-test.true).inside in
-    omega arith
-
 pub loop-i-preserved : goal.loop-i-preserved
 loop-i-preserved c =
     let block = here _ _ c.requires.accepts _ c.format_in-format.ensures.0 c.format_in-format.ensures.1 _ c.loop-i-test.true in
     let demand = demand-is _ _ c.requires.accepts _ c.format_in-format.ensures.0 c.format_in-format.ensures.1 _ c.loop-i-test.true _ _ _ _ _ _
     c.popularity.ensures.0 c.min_replicas.ensures.0 c.min_domains.ensures.0
     c.link-linked.ensures.0 c.upper_count.ensures.0 c.demand.ensures in (
-      omega arith,
-      filled_more c.loop-i.i _ _ _ _ c.loop-i.invariant.1 (omega arith) demand,
-      below_more _ c.loop-i.i c.loop-i.invariant.2 (rw (c.popularity.ensures.0, ← block.is) at c.popularity.ensures.1),
-      simp length-set c.loop-i.invariant.3,
+      filled_more c.loop-i.i _ _ _ _ c.loop-i.invariant.0 (omega arith) demand,
+      below_more _ c.loop-i.i c.loop-i.invariant.1 (rw (c.popularity.ensures.0, ← block.is) at c.popularity.ensures.1),
+      simp length-set c.loop-i.invariant.2,
     )
 
 pub shape_of-demands : goal.shape_of-demands
-shape_of-demands c = c.loop-i.invariant.3
+shape_of-demands c = c.loop-i.invariant.2
 
 pub returns : goal.returns
 returns c =
     let laws = accepted-header _ _ c.requires.accepts in
     let all : c.loop-i.i ≡ c.args.h.cluster.blocks = omega arith in
     let inv = rw (all, ← laws.held) at c.loop-i.invariant in
-    let of = demands-of _ _ _ _ laws.cluster-of inv.1 in
-    record { are = inv.1; fit = demands-fit _ _ _ of (omega arith) inv.2 }
+    let of = demands-of _ _ _ _ laws.cluster-of inv.0 in
+    record { are = inv.0; fit = demands-fit _ _ _ of (omega arith) inv.1 }

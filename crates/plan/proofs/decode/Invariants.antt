@@ -2,7 +2,7 @@
 -- popularities fit.
 -- Assumes nothing.
 use mathlib.Core.Path.{◌≡◌}
-use Prim.Native.Nat.{ℕ, ◌-◌, ◌<◌, ◌≤◌}
+use Prim.Native.Nat.{ℕ, ◌<◌}
 use lib.ListN.{length}
 use Rattle.order.specs.Table.{filled}
 use Rattle.model.specs.Plan.{block_of, plan_in}
@@ -12,10 +12,6 @@ use Rattle.plan.proofs.decode.Given as goal
 
 abbrev pub invariant-loop-i : goal.invariant-loop-i
 invariant-loop-i l =
-    (l.i ≤ l.cluster.blocks)
-    × (l.demands ≡ filled l.i (demand_of (plan_in l.bytes)) l.initial.demands)
+    (l.demands ≡ filled l.i (demand_of (plan_in l.bytes)) l.initial.demands)
     × ((k : ℕ) → k < l.i → (block_of (plan_in l.bytes) k).popularity < popularity_bound)
     × (length l.demands ≡ length l.initial.demands)
-
-abbrev pub decreases-loop-i : goal.decreases-loop-i
-decreases-loop-i l = l.cluster.blocks - l.i

@@ -1,15 +1,74 @@
--- `plan::read` meets its contract: what the header's reader and the records' judge say is the verdict.
+-- `plan::read` meets its contract: each part refuses with the model's row, or leaves the verdict to the next one.
 -- Assumes nothing.
-use mathlib.Core.Path.{sym}
-use Rattle.plan.specs.Reading.{verdict_of}
-use Rattle.theory.proofs.Refusal.{judge-refused}
+use mathlib.Core.Path.{◌≡◌, ap, sym, ◌∙◌}
+use mathlib.Core.List.{List}
+use Prim.Native.Nat.{ℕ, ◌*◌}
+use native.Mathlib.Nat.{mul-le-mul}
+use native.Mathlib.Omega.{arith}
+use Rattle.std.proofs.lemmas.Result.{err_from_is_err_and}
+use Rattle.model.specs.Plan.{plan_in}
+use Rattle.model.specs.Refusal.{check23, check10, check11, pairs_refusal, max_machines, max_capacity, refusal, accepted}
+use Rattle.theory.proofs.Refusal.{judge-refused, judge-accepted}
+use Rattle.refusal.proofs.Laws.{number_of-pos}
+use Rattle.cluster.specs.Cluster.{machines_in}
+use Rattle.header.specs.declared.Header.{Header}
+use Rattle.header.specs.Header.{PassedAs}
+use Rattle.plan.specs.Reading.{verdict_of, TotalAs}
+use Rattle.plan.proofs.Laws.{plan_of-in, refusal-fault, refusal-pairs, refusal-sums}
 use Rattle.plan.proofs.read.Goals as goal
 
-pub judge_records-requires : goal.judge_records-requires
-judge_records-requires c = c.in-Passed.ensures
+-- where check 17 passes, the tests of the sum decide
+left-sums : (bytes : List ℕ) (h : Header) (total machines code : ℕ) → PassedAs bytes h → TotalAs bytes total
+    → 0 ≡ pairs_refusal (plan_in bytes)
+    → machines ≡ machines_in h.cluster
+    → code ≡ check23 h.version (machines * h.cluster.capacity) h.budget (check10 h.budget total (check11 (machines * h.cluster.capacity) total 0))
+    → refusal bytes ≡ code
+left-sums bytes h total machines code passed summed paired is-machines is-code =
+    refusal-sums bytes h passed total summed.none (sym paired) summed.is ∙ (rw (is-code, is-machines))
 
-pub returns-in-Refused : goal.returns-in-Refused
+pub returns-in_err-h : goal.returns-in_err-h
 unfolding verdict_of
-returns-in-Refused c =
-    let refused = c.in-Refused.ensures in
-    sym (judge-refused _ _ refused.is refused.some)
+returns-in_err-h c =
+    let p = err_from_is_err_and c.from_residual.result c.from_residual.ensures.1 in
+    let refused = c.in_err-h.ensures in
+    rw (p.1, p.2) (sym (judge-refused _ _ refused.is refused.some))
+
+pub scan_records-requires : goal.scan_records-requires
+scan_records-requires c = c.in_ok-h.ensures
+
+pub returns-in_err-total : goal.returns-in_err-total
+unfolding verdict_of
+returns-in_err-total c =
+    let p = err_from_is_err_and c.from_residual-in_err-total.result c.from_residual-in_err-total.ensures.1 in
+    let fault = c.in_err-total.ensures in
+    rw (p.1, p.2) (sym (judge-refused _ _ (refusal-fault _ _ c.in_ok-h.ensures _ fault.is fault.some) fault.some))
+
+pub scan_pairs-requires : goal.scan_pairs-requires
+scan_pairs-requires c = c.in_ok-h.ensures
+
+pub returns-in_err-scan_pairs : goal.returns-in_err-scan_pairs
+unfolding verdict_of
+returns-in_err-scan_pairs c =
+    let p = err_from_is_err_and c.from_residual-in_err-scan_pairs.result c.from_residual-in_err-scan_pairs.ensures.1 in
+    let some = number_of-pos c.in_err-scan_pairs.field-0.0 in
+    rw (p.1, p.2)
+    (sym (judge-refused _ _ (refusal-pairs _ _ c.in_ok-h.ensures _ c.in_ok-total.ensures.none (sym c.in_err-scan_pairs.ensures) some) some))
+
+pub overflow_mul-places : goal.overflow_mul-places
+overflow_mul-places c =
+    omega (arith, mul-le-mul {n₂ = max_machines} {m₂ = max_capacity} c.machines.ensures.1 c.in_ok-h.ensures.in-range.capacity-max)
+
+pub returns-in_err-check_total : goal.returns-in_err-check_total
+unfolding verdict_of
+returns-in_err-check_total c =
+    let p = err_from_is_err_and c.from_residual-in_err-check_total.result c.from_residual-in_err-check_total.ensures.1 in
+    let left = left-sums _ _ _ _ _ c.in_ok-h.ensures c.in_ok-total.ensures c.in_ok-scan_pairs.ensures
+    c.machines.ensures.0 c.in_err-check_total.ensures in
+    rw (p.1, p.2) (sym (judge-refused _ _ left (number_of-pos _)))
+
+pub returns : goal.returns
+unfolding verdict_of
+returns c =
+    let left = left-sums _ _ _ _ _ c.in_ok-h.ensures c.in_ok-total.ensures c.in_ok-scan_pairs.ensures
+    c.machines.ensures.0 c.in_ok-check_total.ensures in
+    ap accepted (plan_of-in _ _ c.in_ok-h.ensures.fields) ∙ sym (judge-accepted _ left)

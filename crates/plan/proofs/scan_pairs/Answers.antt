@@ -7,6 +7,8 @@ use native.Mathlib.Omega.{arith}
 use borrow.Author.Tests.{lt-ltb}
 use borrow.Author.Count.{below_none, below_more}
 use Rattle.order.proofs.Searches.{first-none, first-at}
+use Rattle.std.proofs.lemmas.Result.{err_from_is_err_and}
+use Rattle.refusal.proofs.Laws.{number_of-pos}
 use Rattle.model.specs.Plan.{Plan, block_count, Format, format_of, plan_in}
 use Rattle.model.specs.Refusal.{is_refusal, pair_refusal, pairs_refusal}
 use Rattle.header.specs.declared.Header.{Header}
@@ -29,34 +31,35 @@ returns-then-format-eq0 c =
     sym (unpaired-refusal _ _ _ (plan_in-records _ _ (c.format_of-format.ensures.0 ∙ passed-format _ _ c.requires)) c.if-format-eq0.true)
 
 pub loop-i-init : goal.loop-i-init
-loop-i-init c = (omega arith, below_none _)
+loop-i-init c = below_none _
 
-pub pair_refusal-code-requires : goal.pair_refusal-code-requires
-pair_refusal-code-requires c =
+pub check_pair-requires : goal.check_pair-requires
+check_pair-requires c =
     let pre = c.requires in
     let format = c.format_of-format.ensures in
     (records-in _ _ (passed-of _ _ pre) _ (format.0 ∙ passed-format _ _ pre) format.1, c.loop-i-test.true)
 
-pub returns-then-code-ne0 : goal.returns-then-code-ne0
+pub returns-in_err-check_pair : goal.returns-in_err-check_pair
 unfolding pairs_refusal
-returns-then-code-ne0 c =
+returns-in_err-check_pair c =
+    let out = err_from_is_err_and c.from_residual.result c.from_residual.ensures.1 in
     let p = plan_in c.args.bytes.now in
-    let code = code_is _ _ c.requires _ _ _ c.format_of-format.ensures.0 c.pair_refusal-code.ensures in
-    let refuses : 0 < c.pair_refusal-code.result = omega arith in
+    let code = code_is _ _ c.requires _ _ _ c.format_of-format.ensures.0 c.in_err-check_pair.ensures in
     let within : c.loop-i.i < block_count p = rw (plan_in-blocks _ _ (passed-of _ _ c.requires)) at c.loop-i-test.true in
-    sym
-    (first-at is_refusal 0 refl (pair_refusal p) (block_count p) c.loop-i.i within c.loop-i.invariant.1
-    (rw code (lt-ltb 0 c.pair_refusal-code.result refuses))
-    ∙ code)
+    rw (out.1, out.2)
+    (sym
+    (first-at is_refusal 0 refl (pair_refusal p) (block_count p) c.loop-i.i within c.loop-i.invariant
+    (rw code (lt-ltb 0 _ (number_of-pos c.in_err-check_pair.field-0.0)))
+    ∙ code))
 
 pub loop-i-preserved : goal.loop-i-preserved
 loop-i-preserved c =
-    let code = code_is _ _ c.requires _ _ _ c.format_of-format.ensures.0 c.pair_refusal-code.ensures in
-    (omega arith, below_more _ c.loop-i.i c.loop-i.invariant.1 (ap is_refusal (code ∙ c.if-code-ne0.false)))
+    let code = code_is _ _ c.requires _ _ _ c.format_of-format.ensures.0 c.in_ok-check_pair.ensures in
+    below_more _ c.loop-i.i c.loop-i.invariant (ap is_refusal code)
 
 pub returns : goal.returns
 unfolding pairs_refusal
 returns c =
     let p = plan_in c.args.bytes.now in
     let passed : c.loop-i.i ≡ block_count p = rw (← (plan_in-blocks _ _ (passed-of _ _ c.requires))) (omega arith) in
-    sym (first-none is_refusal 0 refl (pair_refusal p) (block_count p) (rw passed at c.loop-i.invariant.1))
+    sym (first-none is_refusal 0 refl (pair_refusal p) (block_count p) (rw passed at c.loop-i.invariant))

@@ -2,14 +2,11 @@
 -- Assumes nothing.
 use mathlib.Core.Path.{◌≡◌}
 use mathlib.Core.Bool.{false}
-use Prim.Native.Nat.{ℕ, ◌-◌, ◌<◌, ◌≤◌}
+use Prim.Native.Nat.{ℕ, ◌<◌}
 use Rattle.model.specs.Plan.{plan_in}
 use Rattle.model.specs.Refusal.{is_refusal, pair_refusal}
 use Rattle.plan.proofs.scan_pairs.Given as goal
 
 abbrev pub invariant-loop-i : goal.invariant-loop-i
 invariant-loop-i l =
-    (l.i ≤ l.cluster.blocks) × ((k : ℕ) → k < l.i → is_refusal (pair_refusal (plan_in l.bytes) k) ≡ false)
-
-abbrev pub decreases-loop-i : goal.decreases-loop-i
-decreases-loop-i l = l.cluster.blocks - l.i
+    ((k : ℕ) → k < l.i → is_refusal (pair_refusal (plan_in l.bytes) k) ≡ false)

@@ -8,6 +8,8 @@ use borrow.Author.Tests.{lt-ltb}
 use borrow.Author.Count.{below_none, below_more}
 use Rattle.order.proofs.Sums.{sum-zero, sum_step}
 use Rattle.order.proofs.Searches.{first-none, first-at}
+use Rattle.std.proofs.lemmas.Result.{err_from_is_err_and}
+use Rattle.refusal.proofs.Laws.{number_of-pos}
 use Rattle.model.specs.Plan.{Block, Plan, machines, block_count, upper, min_total, Format, format_in, block_in, plan_in}
 use Rattle.model.specs.Refusal.{is_refusal, check8, check9, block_refusal, blocks_refusal}
 use Rattle.cluster.specs.Cluster.{machines_in}
@@ -43,7 +45,7 @@ pub format_in-format-requires : goal.format_in-format-requires
 format_in-format-requires c = common-in _ _ (passed-of _ _ c.requires)
 
 pub loop-i-init : goal.loop-i-init
-loop-i-init c = (omega arith, sym (sum-zero _), omega arith, below_none _)
+loop-i-init c = (sym (sum-zero _), omega arith, below_none _)
 
 pub min_replicas-least-requires : goal.min_replicas-least-requires
 min_replicas-least-requires c = (here _ _ c.requires _ c.format_in-format.ensures.0 c.format_in-format.ensures.1 _ c.loop-i-test.true).inside
@@ -54,32 +56,34 @@ min_domains-spread-requires c = (here _ _ c.requires _ c.format_in-format.ensure
 pub link-requires : goal.link-requires
 link-requires c = (here _ _ c.requires _ c.format_in-format.ensures.0 c.format_in-format.ensures.1 _ c.loop-i-test.true).inside
 
-pub returns-then-code-ne0 : goal.returns-then-code-ne0
+pub returns-in_err-check_block : goal.returns-in_err-check_block
 unfolding blocks_refusal
-returns-then-code-ne0 c =
+returns-in_err-check_block c =
+    let out = err_from_is_err_and c.from_residual.result c.from_residual.ensures.1 in
     let p = plan_in c.args.bytes.now in
     let block = here _ _ c.requires _ c.format_in-format.ensures.0 c.format_in-format.ensures.1 _ c.loop-i-test.true in
     let code = code_is _ _ c.requires _ c.format_in-format.ensures.0 c.format_in-format.ensures.1 _ c.loop-i-test.true _ _ _ _ _
-    c.min_replicas-least.ensures.0 c.min_domains-spread.ensures.0 c.link.ensures.0 c.upper_count-most.ensures.0 c.block_refusal-code.ensures in
-    let refuses : 0 < c.block_refusal-code.result = omega arith in
+    c.min_replicas-least.ensures.0 c.min_domains-spread.ensures.0 c.link.ensures.0 c.upper_count-most.ensures.0 c.in_err-check_block.ensures in
+    let some = number_of-pos c.in_err-check_block.field-0.0 in
+    rw (out.1, out.2) (
     record {
       is =
-          first-at is_refusal 0 refl (block_refusal p) (block_count p) c.loop-i.i block.below c.loop-i.invariant.3
-          (rw code (lt-ltb 0 c.block_refusal-code.result refuses))
+          first-at is_refusal 0 refl (block_refusal p) (block_count p) c.loop-i.i block.below c.loop-i.invariant.2
+          (rw code (lt-ltb 0 _ some))
           ∙ code;
-      some = refuses;
+      some = some;
     }
+    )
 
 pub loop-i-preserved : goal.loop-i-preserved
 loop-i-preserved c =
     let i = c.loop-i.i in
     let block = here _ _ c.requires _ c.format_in-format.ensures.0 c.format_in-format.ensures.1 _ c.loop-i-test.true in
     let code = code_is _ _ c.requires _ c.format_in-format.ensures.0 c.format_in-format.ensures.1 _ c.loop-i-test.true _ _ _ _ _
-    c.min_replicas-least.ensures.0 c.min_domains-spread.ensures.0 c.link.ensures.0 c.upper_count-most.ensures.0 c.block_refusal-code.ensures in (
+    c.min_replicas-least.ensures.0 c.min_domains-spread.ensures.0 c.link.ensures.0 c.upper_count-most.ensures.0 c.in_ok-check_block.ensures in (
+      ap₂ ◌+◌ c.loop-i.invariant.0 (c.min_replicas-least.ensures.0 ∙ ap (λ (b : Block). b.min_replicas) (sym block.is)) ∙ sym (sum_step i _),
       omega arith,
-      ap₂ ◌+◌ c.loop-i.invariant.1 (c.min_replicas-least.ensures.0 ∙ ap (λ (b : Block). b.min_replicas) (sym block.is)) ∙ sym (sum_step i _),
-      omega arith,
-      below_more _ i c.loop-i.invariant.3 (ap is_refusal (code ∙ c.if-code-ne0.false)),
+      below_more _ i c.loop-i.invariant.2 (ap is_refusal code),
     )
 
 pub returns : goal.returns
@@ -88,6 +92,6 @@ returns c =
     let p = plan_in c.args.bytes.now in
     let passed : c.loop-i.i ≡ block_count p = rw (← (plan_in-blocks _ _ (passed-of _ _ c.requires))) (omega arith) in
     record {
-      none = first-none is_refusal 0 refl (block_refusal p) (block_count p) (rw passed at c.loop-i.invariant.3);
-      is = rw passed at c.loop-i.invariant.1;
+      none = first-none is_refusal 0 refl (block_refusal p) (block_count p) (rw passed at c.loop-i.invariant.2);
+      is = rw passed at c.loop-i.invariant.0;
     }

@@ -1,14 +1,24 @@
-use Rattle.std.proofs.Common.{◌≡◌, ◌<◌, ◌≤◌, ◌+◌, ◌*◌, ◌^◌, length, get_or, set, sym, ap, ap₂, ◌∙◌, ℕ, List, arith}
+use Rattle.std.proofs.Common.{◌≡◌, ◌≤◌, ◌+◌, get_or, set, sym, ap, ap₂, ◌∙◌, ℕ, List, Bool, true, false, cond, refl, arith}
+use Rattle.std.specs.Int.{from_bool}
 use Rattle.model.specs.declared.Entry.{Entry}
 use Rattle.model.specs.ReadLog.{no_entry}
-use Rattle.readwindow.specs.Window.{kept_with}
+use Rattle.readwindow.specs.Window.{is_current, kept_with}
 use Rattle.readlog.specs.Records.{Swept, sweep, swept}
-use Rattle.readlog.proofs.SweptLaws.{swept_none, swept-next, swept_kept}
+use Rattle.readlog.proofs.SweptLaws.{swept_none, swept-next}
 use Rattle.readlog.proofs.compact.Goals as goal
 
--- no more are kept than were gone over
-kept-le : (tick kept i : ℕ) (list : List Entry) → kept ≡ (swept tick list i).kept → kept ≤ i
-kept-le tick kept i list same = omega (arith, swept_kept tick list i, same)
+at_most_one : (more : ℕ) (test : Bool) → more ≡ from_bool test → more ≤ 1
+at_most_one more true adds = omega (arith, adds)
+at_most_one more false adds = omega (arith, adds)
+
+-- the entry counts if it is in the window
+kept_more : (kept now tick more : ℕ) (test : Bool) → more ≡ from_bool test → test ≡ is_current now tick → kept + more ≡ kept_with kept now tick
+unfolding kept_with
+kept_more kept now tick more test adds is = rw (adds, is) (by-test (is_current now tick))
+  where
+    by-test : (b : Bool) → kept + from_bool b ≡ cond b (kept + 1) kept
+    by-test true = refl
+    by-test false = omega arith
 
 -- a turn is one more sweep
 list-next : (tick kept i : ℕ) (list list' : List Entry) → list' ≡ (swept tick list i).list → kept ≡ (swept tick list i).kept
@@ -26,28 +36,13 @@ kept_next tick kept i list list' same count =
 pub loop-i-init : goal.loop-i-init
 loop-i-init c =
     let none = sym (swept_none c.args.tick c.args.list.now) in
-    record { within = omega arith; list_is = ap (λ (s : Swept). s.list) none; kept_is = ap (λ (s : Swept). s.kept) none }
-
-pub offset_bounds-list-kept : goal.offset_bounds-list-kept
-offset_bounds-list-kept c =
-    let room : length c.args.list.now * 8 < 2 ^ 63 = c.well_formed.0.1 in
-    let most = kept-le _ _ _ _ c.loop-i.invariant.kept_is in
-    record { fits = omega arith }
-
-pub bounds-list-kept : goal.bounds-list-kept
-bounds-list-kept c =
-    let most = kept-le _ _ _ _ c.loop-i.invariant.kept_is in
-    omega arith
-
-pub keep-kept-requires : goal.keep-kept-requires
-keep-kept-requires c =
-    let room : length c.args.list.now * 8 < 2 ^ 63 = c.well_formed.0.1 in
-    let most = kept-le _ _ _ _ c.loop-i.invariant.kept_is in
-    omega arith
+    record { most = omega arith; list_is = ap (λ (s : Swept). s.list) none; kept_is = ap (λ (s : Swept). s.kept) none }
 
 pub loop-i-preserved : goal.loop-i-preserved
 loop-i-preserved c = record {
-  within = omega arith;
+  most = let one = at_most_one c.from-kept.result c.is_current.result c.from-kept.ensures in omega (arith, one);
   list_is = list-next _ _ _ _ _ c.loop-i.invariant.list_is c.loop-i.invariant.kept_is;
-  kept_is = c.keep-kept.ensures ∙ kept_next _ _ _ _ _ c.loop-i.invariant.list_is c.loop-i.invariant.kept_is;
+  kept_is =
+      kept_more _ _ _ _ _ c.from-kept.ensures c.is_current.ensures
+      ∙ kept_next _ _ _ _ _ c.loop-i.invariant.list_is c.loop-i.invariant.kept_is;
 }

@@ -1,22 +1,23 @@
-use Rattle.std.proofs.Common.{◌<◌, ◌*◌, ◌^◌, length, get_or, sym, ap, ◌∙◌, arith}
-use Rattle.model.specs.ReadLog.{no_entry}
-use Rattle.readwindow.specs.Window.{tallied}
-use Rattle.readlog.proofs.CountLaws.{reads_of-[], reads_of-take, reads_of-le}
+-- `readlog::reads_of` meets its contract: as many entries pass the filter as the model counts.
+-- Assumes nothing.
+use Rattle.std.proofs.Common.{◌≡◌, ◌==◌, ◌+◌, ℕ, List, ◌∷◌, Bool, true, false, cond, refl, sym, ◌∙◌, take, length, count_by, arith, rules}
+use Rattle.std.proofs.lemmas.List.Recursion.{is_count_by}
+use Rattle.order.specs.Select.{select}
+use Rattle.model.specs.declared.Entry.{Entry}
+use Rattle.model.specs.ReadLog.{reads_of}
 use Rattle.readlog.proofs.reads_of.Goals as goal
 
-pub loop-i-init : goal.loop-i-init
-loop-i-init c = record { within = omega arith; found = sym (reads_of-[] c.args.block) }
+counted : (block : ℕ) (entries : List Entry) → reads_of block entries ≡ count_by (λ (e : Entry). e.block == block) entries
+unfolding reads_of select
+counted block =
+    is_count_by (reads_of block) (λ (e : Entry). e.block == block) refl
+    (λ e entries. by-test (e.block == block) e (select (λ e'. e'.block == block) entries))
+  where
+    by-test : (t : Bool) (e : Entry) (later : List Entry) → length (cond t (e ∷ later) later) ≡ cond t (1 + length later) (length later)
+    by-test true e later = omega arith
+    by-test false e later = refl
 
-pub tally-found-requires : goal.tally-found-requires
-tally-found-requires c =
-    let room : length c.args.list.now * 8 < 2 ^ 63 = c.well_formed.0.1 in
-    omega (arith, reads_of-le c.args.block c.args.list.now c.loop-i.i, c.loop-i.invariant.found)
-
-pub loop-i-preserved : goal.loop-i-preserved
-loop-i-preserved c = record {
-  within = omega arith;
-  found =
-      c.tally-found.ensures
-      ∙ ap (λ n. tallied n (get_or c.args.list.now c.loop-i.i no_entry).block c.args.block) c.loop-i.invariant.found
-      ∙ sym (reads_of-take c.args.block c.args.list.now c.loop-i.i (omega arith));
-}
+pub returns : goal.returns
+returns c =
+    let passed : c.count.result ≡ count_by (λ (e : Entry). e.block == c.args.block) (take c.args.count c.args.list.now) = search rules in
+    passed ∙ sym (counted c.args.block (take c.args.count c.args.list.now))

@@ -1,42 +1,40 @@
--- `reads::read` meets its contract: what its parts come to is the law `read_is`.
+-- `reads::read` meets its contract: what its parts come to are the laws `read-refused` and `read-passed`.
 -- Assumes nothing.
-use Rattle.std.proofs.Common.{◌≡◌, ℕ, ◌<◌, ◌≤◌, List, length, arith}
+use Rattle.std.proofs.Common.{◌≡◌, ℕ, List, Option, Result, Err, length, take}
+use Rattle.std.proofs.lemmas.Result.{err_from_is_err_and}
 use Rattle.model.specs.declared.Entry.{Entry}
-use Rattle.model.specs.Refusal.{Verdict, judge}
-use Rattle.model.specs.ReadLog.{entry, tick_bound, standing, read_call}
-use Rattle.readwindow.specs.declared.ReadsAnswer.{ReadsAnswer}
+use Rattle.model.specs.Refusal.{judge}
+use Rattle.model.specs.ReadLog.{entry, usable, standing, read_call}
+use Rattle.refusal.specs.declared.Refusal.{Refusal}
+use Rattle.refusal.specs.Rows.{number_of}
 use Rattle.readwindow.specs.Window.{read_number}
-use Rattle.readlookup.specs.declared.Judged.{Judged}
-use Rattle.readlookup.specs.Lookup.{judged}
-use Rattle.readlog.specs.Records.{last_or, CompactedAs, appended}
+use Rattle.readlookup.specs.Lookup.{read_code}
+use Rattle.readlog.specs.Records.{last_in, CompactedAs, appended}
 use Rattle.reads.specs.Answers.{reads_outcome}
-use Rattle.reads.proofs.Laws.{span-room, count-span, read_is}
+use Rattle.reads.proofs.Laws.{read-refused, read-passed}
 use Rattle.reads.proofs.read.Goals as goal
 
--- how far the list is worked on
-rooms : (verdict : Verdict) (block tick last lent count held : ℕ) (work : Judged) → held ≡ standing lent count → work ≡ judged verdict block tick last lent held
-    → (work.span ≤ lent) × (work.count ≤ work.span)
-rooms verdict block tick last lent count held work stands is =
-    rw (is, stands) (span-room verdict block tick last lent count, count-span verdict block tick last lent count)
+-- what the steps before the dropping found
+module _ (bytes : List ℕ) (block tick count held : ℕ) (last : Option ℕ) (list : List Entry) (stands : held ≡ standing (length list) count) (found : last ≡ last_in (take held list)) where
+  refused : (refusal : Refusal) → number_of refusal ≡ read_code (judge bytes) block tick last
+      → reads_outcome (Err refusal) list ≡ read_call bytes block tick list count
+  refused refusal code = read-refused bytes block tick count list refusal (rw (found, stands) at code)
 
-parts : (bytes : List ℕ) (block tick count held last kept : ℕ) (list list' list'' : List Entry) (work : Judged) (answer : ReadsAnswer)
-    → tick < tick_bound → held ≡ standing (length list) count → last ≡ last_or list held tick
-    → work ≡ judged (judge bytes) block tick last (length list) held → CompactedAs tick work.span work.count list list' kept
-    → list'' ≡ appended (entry block tick) kept work.span list' → answer ≡ read_number work.code kept work.span
-    → reads_outcome answer list'' ≡ read_call bytes block tick list count
-parts bytes block tick count held last kept list list' list'' work answer fits stands found is done stored told =
-    rw (told, stored, is, found, stands) (read_is bytes block tick count list list' kept fits (rw (is, found, stands) at done))
+  passed : (span kept : ℕ) (list' list'' : List Entry) (answer : Result ℕ Refusal) → span ≡ usable (length list)
+      → 0 ≡ read_code (judge bytes) block tick last → CompactedAs tick span held list list' kept
+      → answer ≡ read_number kept span → list'' ≡ appended (entry block tick) kept span list'
+      → reads_outcome answer list'' ≡ read_call bytes block tick list count
+  passed span kept list' list'' answer wide code done told stored =
+      rw (told, stored, wide)
+      (read-passed bytes block tick count list kept list' (rw (found, stands) at code) (rw (wide, stands) at done))
 
-pub drop_old-kept-requires : goal.drop_old-kept-requires
-drop_old-kept-requires c =
-    rooms _ _ _ _ _ _ _ _ c.standing-standing.ensures c.judge_read-judged.ensures
-
-pub append-requires : goal.append-requires
-append-requires c =
-    let room = rooms _ _ _ _ _ _ _ _ c.standing-standing.ensures c.judge_read-judged.ensures in
-    omega arith
+pub returns-in_err-check_read : goal.returns-in_err-check_read
+returns-in_err-check_read c =
+    let p = err_from_is_err_and c.from_residual.result c.from_residual.ensures.1 in
+    rw (p.1, p.2)
+    (refused _ _ _ _ _ _ _ c.standing-standing.ensures c.last_tick-last.ensures _ c.in_err-check_read.ensures)
 
 pub returns : goal.returns
 returns c =
-    parts _ _ _ _ _ _ _ _ _ _ _ _ c.ranges.tick.fits c.standing-standing.ensures c.last_tick-last.ensures c.judge_read-judged.ensures
-    c.drop_old-kept.ensures c.append.ensures c.read_answer.ensures
+    passed _ _ _ _ _ _ _ c.standing-standing.ensures c.last_tick-last.ensures _ _ _ _ _ c.usable-span.ensures
+    c.in_ok-check_read.ensures c.drop_old-kept.ensures c.append.ensures.answer c.append.ensures.list

@@ -1,6 +1,6 @@
 -- `records::upper_count` meets its contract.
 -- Assumes nothing.
-use mathlib.Core.Path.{◌≡◌, refl, sym}
+use mathlib.Core.Path.{◌≡◌, refl, sym, ◌∙◌}
 use mathlib.Core.Bool.{Bool, true, false, cond}
 use Prim.Native.Nat.{ℕ, ◌/◌, min}
 use native.Mathlib.Omega.{arith}
@@ -20,14 +20,8 @@ upper_is p i version most usable v m u =
     cond-min true n x y = refl
     cond-min false n x y = refl
 
-pub returns-then-machines-most : goal.returns-then-machines-most
-returns-then-machines-most c = (
-  λ p i v m e. omega (arith, upper_is p i _ _ _ v c.max_replicas-most.ensures.0 (c.machines_for-machines.ensures.0 p i m e)),
-  omega arith,
-)
-
 pub returns : goal.returns
 returns c = (
-  λ p i v m e. omega (arith, upper_is p i _ _ _ v c.max_replicas-most.ensures.0 (c.machines_for-machines.ensures.0 p i m e)),
-  omega arith,
+  λ p i v m e. c.min.ensures ∙ sym (upper_is p i _ _ _ v c.max_replicas.ensures.0 (c.machines_for.ensures.0 p i m e)),
+  omega (arith, c.min.ensures, c.max_replicas.ensures.1),
 )

@@ -5,24 +5,24 @@ use native.Mathlib.Omega.{arith}
 use Rattle.removal.proofs.Laws.{gone-single, gone-second, gone-head}
 use Rattle.removal.proofs.gone_with.Goals as goal
 
-pub returns-then-link-eq1 : goal.returns-then-link-eq1
-returns-then-link-eq1 c =
+pub returns-in-1 : goal.returns-in-1
+returns-in-1 c =
     record {
       below = λ blocks l linked. omega arith;
-      of = λ p shaped l ends. gone-single p _ (sym ends ∙ sym c.link_of-link.ensures.0 ∙ c.if-link-eq1.true);
+      of = λ p shaped l ends. gone-single p _ (sym ends ∙ sym c.link_of.ensures.0 ∙ c.in-1.is);
     }
 
-pub returns-then-link-eq0 : goal.returns-then-link-eq0
-returns-then-link-eq0 c =
+pub returns-in-0 : goal.returns-in-0
+returns-in-0 c =
     record {
-      below = λ blocks l linked. omega (arith, c.requires, c.link_of-link.ensures.0);
-      of = λ p shaped l ends. gone-second p _ (sym ends ∙ sym c.link_of-link.ensures.0 ∙ c.if-link-eq0.true);
+      below = λ blocks l linked. omega (arith, c.requires, c.link_of.ensures.0);
+      of = λ p shaped l ends. gone-second p _ (sym ends ∙ sym c.link_of.ensures.0 ∙ c.in-0.is);
     }
 
-pub returns : goal.returns
-returns c =
-    let link = c.link_of-link.ensures.0 in
+pub returns-in_default : goal.returns-in_default
+returns-in_default c =
+    let link = c.link_of.ensures.0 in
     record {
-      below = λ blocks l linked. omega (arith, linked.below, link, c.if-link-eq1.false, c.if-link-eq0.false);
-      of = λ p shaped l ends. gone-head p shaped _ l (λ e. c.if-link-eq1.false (link ∙ ends ∙ e)) (λ e. c.if-link-eq0.false (link ∙ ends ∙ e));
+      below = λ blocks l linked. omega (arith, linked.below, link);
+      of = λ p shaped l ends. gone-head p shaped _ l (λ e. omega (arith, link, ends)) (λ e. omega (arith, link, ends));
     }

@@ -22,7 +22,7 @@ returns c =
       refl,
       record {
         high-narrow = asked.high-narrow;
-        over-max = elim c.if-copies-allowed.branch [ goal.then-copies-allowed w ↦ omega arith | goal.else-copies-allowed w ↦ omega arith ];
+        over-max = omega arith;
         spare-max = omega (arith, asked.limit-max);
         turn_below = omega arith;
       },

@@ -29,7 +29,7 @@ module _ (c : Cluster) (words demands : List ℕ) (asked : CountsFit c words dem
       (record { in-range = d; count-pos = omega (arith, d.least-pos, asked.at_least i l); count-max = asked.at_most i l })
 
 pub loop-i-init : goal.loop-i-init
-loop-i-init c = (omega arith, refl, λ k l. refl, λ p of. filled_to-none p _ _)
+loop-i-init c = (refl, λ k l. refl, λ p of. filled_to-none p _ _)
 
 pub bounds-items-i : goal.bounds-items-i
 bounds-items-i c = omega (arith, c.requires.demands-fit.room)
@@ -40,7 +40,7 @@ bounds-words-i c = omega (arith, c.requires.word_room)
 pub profile_at-held-requires : goal.profile_at-held-requires
 profile_at-held-requires c =
     let i = c.loop-i.i in
-    asked_here _ _ _ c.requires i _ _ (omega arith) (c.loop-i.invariant.2 i (omega arith)) c.count_set.ensures
+    asked_here _ _ _ c.requires i _ _ (omega arith) (c.loop-i.invariant.1 i (omega arith)) c.count_set.ensures
 
 pub bounds-items-i-in-loop-i : goal.bounds-items-i-in-loop-i
 bounds-items-i-in-loop-i c = omega (arith, c.requires.demands-fit.room)
@@ -51,22 +51,21 @@ loop-i-preserved c =
     let items = c.loop-i.items in
     let inv = c.loop-i.invariant in
     let l : i < c.args.cluster.blocks = omega arith in (
-      omega arith,
-      simp length-set inv.1,
-      λ k h. get_or-set_other items i k c.profile_at-held.result 0 (omega arith) ∙ inv.2 k (omega arith),
+      simp length-set inv.0,
+      λ k h. get_or-set_other items i k c.profile_at-held.result 0 (omega arith) ∙ inv.1 k (omega arith),
       λ p of.
           let count-is = c.count_set.ensures ∙ counts-held p _ _ _ of c.requires i l in
           let more =
           filled_to-more p _ (at_most _ _ _ c.requires p of) _ _ of i c.count_set.result c.loop-i.top items l
-          c.requires.demands-fit.room (inv.2 i (omega arith)) count-is (inv.3 p of)
+          c.requires.demands-fit.room (inv.1 i (omega arith)) count-is (inv.2 p of)
           in
-          rw (c.larger-top.ensures, c.share_of.ensures, c.profile_at-held.ensures) more,
+          rw (c.max-top.ensures, c.share_of.ensures, c.profile_at-held.ensures) more,
     )
 
 pub shape_of-items : goal.shape_of-items
-shape_of-items c = c.loop-i.invariant.1
+shape_of-items c = c.loop-i.invariant.0
 
 pub returns : goal.returns
 returns c p of =
     filled_to-all p _ (at_most _ _ _ c.requires p of) _ _ of c.loop-i.i c.loop-i.top c.loop-i.items c.requires.demands-fit
-    (omega (arith, c.requires.demands-fit.room)) (omega arith) (c.loop-i.invariant.3 p of)
+    (omega (arith, c.requires.demands-fit.room)) (omega arith) (c.loop-i.invariant.2 p of)

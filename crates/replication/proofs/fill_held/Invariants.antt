@@ -2,7 +2,7 @@
 -- demands were.
 -- Assumes nothing.
 use mathlib.Core.Path.{◌≡◌}
-use Prim.Native.Nat.{ℕ, ◌-◌, ◌≤◌}
+use Prim.Native.Nat.{ℕ, ◌≤◌}
 use lib.ListN.{length, get_or}
 use Rattle.model.specs.Plan.{Plan}
 use Rattle.model.specs.Placement.{count_of}
@@ -12,10 +12,6 @@ use Rattle.replication.proofs.fill_held.Given as goal
 
 abbrev pub invariant-loop-i : goal.invariant-loop-i
 invariant-loop-i l =
-    (l.i ≤ l.cluster.blocks)
-    × (length l.items ≡ length l.initial.items)
+    (length l.items ≡ length l.initial.items)
     × ((k : ℕ) → l.i ≤ k → get_or l.items k 0 ≡ get_or l.initial.items k 0)
-    × ((p : Plan) → DemandsOf p l.cluster l.initial.items → FilledTo p (count_of p l.words) l.i l.initial.items l.items l.top)
-
-abbrev pub decreases-loop-i : goal.decreases-loop-i
-decreases-loop-i l = l.cluster.blocks - l.i
+    × ((p : Plan) → DemandsOf p l.fn.cluster l.initial.items → FilledTo p (count_of p l.words) l.i l.initial.items l.items l.top)

@@ -37,7 +37,7 @@ pub scale_of-scale-requires : goal.scale_of-scale-requires
 scale_of-scale-requires c = c.requires.wanted-narrow
 
 pub loop-i-init : goal.loop-i-init
-loop-i-init c = (omega arith, refl, λ k l. refl, λ p of figure. filled_to-none p _ _)
+loop-i-init c = (refl, λ k l. refl, λ p of figure. filled_to-none p _ _)
 
 pub bounds-items-i : goal.bounds-items-i
 bounds-items-i c = omega (arith, c.requires.fit.room)
@@ -45,12 +45,12 @@ bounds-items-i c = omega (arith, c.requires.fit.room)
 pub needed-requires : goal.needed-requires
 needed-requires c =
     let i = c.loop-i.i in
-    asked_here _ _ _ _ c.requires c.scale_of-scale.ensures i _ (omega arith) (c.loop-i.invariant.2 i (omega arith))
+    asked_here _ _ _ _ c.requires c.scale_of-scale.ensures i _ (omega arith) (c.loop-i.invariant.1 i (omega arith))
 
 pub profile_at-profile-requires : goal.profile_at-profile-requires
 profile_at-profile-requires c =
     let i = c.loop-i.i in
-    let asked = asked_here _ _ _ _ c.requires c.scale_of-scale.ensures i _ (omega arith) (c.loop-i.invariant.2 i (omega arith)) in
+    let asked = asked_here _ _ _ _ c.requires c.scale_of-scale.ensures i _ (omega arith) (c.loop-i.invariant.1 i (omega arith)) in
     let d = asked.in-range in
     let found = c.needed.ensures in
     record { in-range = d; count-pos = omega (arith, found.low, d.least-pos); count-max = found.high }
@@ -64,10 +64,9 @@ loop-i-preserved c =
     let items = c.loop-i.items in
     let inv = c.loop-i.invariant in
     let l : i < c.args.cluster.blocks = omega arith in
-    let kept = inv.2 i (omega arith) in (
-      omega arith,
-      simp length-set inv.1,
-      λ k h. get_or-set_other items i k c.profile_at-profile.result 0 (omega arith) ∙ inv.2 k (omega arith),
+    let kept = inv.1 i (omega arith) in (
+      simp length-set inv.0,
+      λ k h. get_or-set_other items i k c.profile_at-profile.result 0 (omega arith) ∙ inv.1 k (omega arith),
       λ p of figure.
           let needed = rw kept at c.needed.ensures in
           let count-is =
@@ -75,15 +74,15 @@ loop-i-preserved c =
           in
           let more =
           filled_to-more p _ (at_most p _ _ of) _ _ of i c.needed.result c.loop-i.top items l
-          c.requires.fit.room kept count-is (inv.3 p of figure)
+          c.requires.fit.room kept count-is (inv.2 p of figure)
           in
-          rw (c.larger-top.ensures, c.share_of-share.ensures, c.profile_at-profile.ensures) more,
+          rw (c.max-top.ensures, c.share_of-share.ensures, c.profile_at-profile.ensures) more,
     )
 
 pub shape_of-items : goal.shape_of-items
-shape_of-items c = c.loop-i.invariant.1
+shape_of-items c = c.loop-i.invariant.0
 
 pub returns : goal.returns
 returns c p of figure =
     filled_to-all p _ (at_most p _ _ of) _ _ of c.loop-i.i c.loop-i.top c.loop-i.items c.requires.fit
-    (omega (arith, c.requires.fit.room)) (omega arith) (c.loop-i.invariant.3 p of figure)
+    (omega (arith, c.requires.fit.room)) (omega arith) (c.loop-i.invariant.2 p of figure)

@@ -46,17 +46,17 @@ returns-then-tally-allowed-2 c =
     let t = c.args.tally in
     record {
       fits = record {
-        high-narrow = omega (arith, asked.fits.high-narrow, c.smaller.ensures);
+        high-narrow = omega (arith, asked.fits.high-narrow, c.min.ensures);
         over-max = omega arith;
         spare-max = asked.fits.spare-max;
         turn_below = c.turn_after-turn.ensures;
       };
-      less = omega (arith, asked.low-max, asked.wanted-less, c.smaller.ensures);
+      less = omega (arith, asked.low-max, asked.wanted-less, c.min.ensures);
       of = λ p valid limit_is tally at.
           record {
             low-min = omega (arith, at.low-min, asked.low-max, asked.next-above);
             unreached = reachable-none p valid _ t.next (omega (arith, tally.total-is)) tally.same;
-            reached = rw c.smaller.ensures
+            reached = rw c.min.ensures
                 (reachable-smaller p _ _
                 (tally-next-reached p _ _ valid tally asked.next-above (omega (arith, c.if-tally-allowed-2.true)))
                 at.reached);

@@ -1,18 +1,16 @@
--- `screen::sweep_word` meets its contract. The loop's invariant: the ranks below base + c are swept, and `rest` has the bits of a and b
--- that differ from c on and none below. The measure is the word that is left.
+-- `screen::sweep_word` meets its contract. The loop's invariant: the ranks below base + c are swept, and the bits to come are those from
+-- c on at which a and b differ.
 -- Assumes nothing.
 use mathlib.Core.Path.{◌≡◌, refl, ap, sym, ◌∙◌}
 use mathlib.Core.Bool.{Bool, true, false}
 use mathlib.Core.List.{List}
 use Prim.Native.Nat.{ℕ, ◌+◌, ◌-◌, ◌%◌, ◌^◌, ◌<◌, ◌≤◌}
-use native.Mathlib.Nat.{add-zero, add_assoc}
+use native.Mathlib.Nat.{add_assoc}
 use native.Mathlib.Decide.{dec_lt, ℕ_discrete}
 use native.Mathlib.Omega.{arith}
 use borrow.Author.Tests.{eqb-true, eqb-false}
 use lib.Dec.{eqb}
-use lib.Pow.{pow_pos}
 use Rattle.order.proofs.Sums.{delta-same, delta-other}
-use Rattle.order.proofs.Booleans.{no-contradiction}
 use Rattle.model.specs.Placement.{bit}
 use Rattle.theory.proofs.Placement.{bit_le, bit-take, bit-zero}
 use Rattle.bits.specs.Words.{Lowest}
@@ -20,8 +18,7 @@ use Rattle.ranking.proofs.Laws.{key_share-narrow}
 use Rattle.screen.specs.declared.Sweep.{Sweep}
 use Rattle.screen.specs.Screen.{Side, Bits}
 use Rattle.screen.proofs.Laws.{skip}
-use Rattle.screen.proofs.sweep_word.Invariants.{Reached}
-use Rattle.screen.proofs.sweep_word.Invariants.{Left}
+use Rattle.screen.proofs.sweep_word.Invariants.{Reached, Left}
 use Rattle.screen.proofs.sweep_word.Goals as goal
 
 -- bits that do not differ are equal
@@ -75,72 +72,40 @@ cleared a b rest c t later left low is =
       ]);
     }
 
-pub differing-rest-requires : goal.differing-rest-requires
-differing-rest-requires c = tt
-
-pub loop-rest-init : goal.loop-rest-init
-loop-rest-init c = (
-  0,
-  omega arith,
-  record { ahead = λ t l h. c.differing-rest.ensures t; behind = λ t l. absurd (omega arith) },
-  λ mine theirs blocks rises bits swept. rw (add-zero _) swept,
-)
-
-pub bit_at-own-requires : goal.bit_at-own-requires
-bit_at-own-requires c = c.lowest-t.ensures.below
-
-pub bounds-index-base : goal.bounds-index-base
-bounds-index-base c =
-    let asked = c.requires in
-    omega (arith, asked.room, asked.sized, c.lowest-t.ensures.below)
-
-pub sweep_block-sweep-requires : goal.sweep_block-sweep-requires
-sweep_block-sweep-requires c =
+pub sweep_block-requires : goal.sweep_block-requires
+sweep_block-requires c =
     record {
-      share-narrow = rw c.key_share.ensures (key_share-narrow _ (c.type_inv.index _).fits);
+      share-narrow = rw c.key_share-share.ensures (key_share-narrow _ (c.type_inv.index _).fits);
       margin-narrow = c.requires.margin-narrow;
     }
 
-pub returns-then-sweep : goal.returns-then-sweep
-returns-then-sweep c mine theirs blocks rises bits swept shut = no-contradiction (sym c.if-sweep.true ∙ shut)
-
-pub without_bit-rest-requires : goal.without_bit-rest-requires
-without_bit-rest-requires c =
-    let low = c.lowest-t.ensures in
-    (low.below, low.on)
-
-pub loop-rest-smaller : goal.loop-rest-smaller
-loop-rest-smaller c =
-    let low = c.lowest-t in
-    omega (arith, c.without_bit-rest.ensures, (bit-take c.loop-rest.rest low.result low.ensures.on).0, pow_pos low.result)
-
-pub loop-rest-preserved : goal.loop-rest-preserved
-loop-rest-preserved c =
-    let low = c.lowest-t in
+pub loop-t-preserved : goal.loop-t-preserved
+loop-t-preserved c =
+    let low = c.in-Some.ensures.steps.0 in
     let a = c.args in
     let index = a.index.now in
-    let t = low.result in
-    let inv = c.loop-rest.invariant in
+    let t = c.in-Some.t in
+    let inv = c.loop-t.invariant in
+    let rest = c.loop-t.t-iterator.rest in
     let left = inv.2 in
-    let from = from-c a.a a.b c.loop-rest.rest inv.0 t left low.ensures.on in
-    let odd : (bit a.a t + bit a.b t) % 2 ≡ 1 = sym (left.ahead t low.ensures.below from) ∙ low.ensures.on in
-    let at-rank = c.key_share.ensures in (
+    let from = from-c a.a a.b rest inv.0 t left low.on in
+    let odd : (bit a.a t + bit a.b t) % 2 ≡ 1 = sym (left.ahead t low.below from) ∙ low.on in
+    let at-rank = c.key_share-share.ensures in (
       t + 1,
-      omega (arith, low.ensures.below),
-      cleared a.a a.b c.loop-rest.rest inv.0 t _ left low.ensures c.without_bit-rest.ensures,
+      omega (arith, low.below),
+      cleared a.a a.b rest inv.0 t _ left low c.in-Some.ensures.steps.1,
       λ mine theirs blocks rises bits swept. rw (sym (add_assoc a.base t 1))
-          (c.sweep_block-sweep.ensures mine theirs index blocks (a.base + t) rises at-rank
-          (which a.a a.b a.base t mine theirs bits low.ensures.below odd (eqb c.bit_at-own.result 1)
+          (c.in_ok-sweep.ensures mine theirs index blocks (a.base + t) rises at-rank
+          (which a.a a.b a.base t mine theirs bits low.below odd (eqb c.bit_at-own.result 1)
           (ap (λ (x : ℕ). eqb x 1) (sym c.bit_at-own.ensures)))
-          (pass a.a a.b index a.base a.margin a.start c.loop-rest.sweep c.loop-rest.rest inv.0 t from
-          (omega (arith, low.ensures.below)) left low.ensures.first inv.3 mine theirs blocks rises bits swept)
-          c.if-sweep.false),
+          (pass a.a a.b index a.base a.margin a.start c.loop-t.sweep rest inv.0 t from
+          (omega (arith, low.below)) left low.first inv.3 mine theirs blocks rises bits swept)),
     )
 
 pub returns : goal.returns
-returns c mine theirs blocks rises bits swept shut =
+returns c mine theirs blocks rises bits swept =
     let a = c.args in
-    let inv = c.loop-rest.invariant in
-    let done : c.loop-rest.rest ≡ 0 = c.loop-rest-test.false in
-    pass a.a a.b a.index.now a.base a.margin a.start c.loop-rest.sweep c.loop-rest.rest inv.0 64 inv.1 (omega arith) inv.2
+    let inv = c.loop-t.invariant in
+    let done = c.in-None.ensures.steps.0 in
+    pass a.a a.b a.index.now a.base a.margin a.start c.loop-t.sweep c.loop-t.t-iterator.rest inv.0 64 inv.1 (omega arith) inv.2
     (λ t l. rw done (bit-zero t)) inv.3 mine theirs blocks rises bits swept

@@ -1,5 +1,5 @@
--- `screen::sweep_word` meets its contract. The loop's invariant: the ranks below base + c are swept, and `rest` has the bits of a and b
--- that differ from c on and none below. The measure is the word that is left.
+-- `screen::sweep_word` meets its contract. The loop's invariant: the ranks below base + c are swept, and the bits to come are those from
+-- c on at which a and b differ.
 -- Assumes nothing.
 use mathlib.Core.Path.{◌≡◌}
 use mathlib.Core.List.{List}
@@ -21,8 +21,6 @@ pub record Left (a b rest c : ℕ) : Type 0 where
   pub ahead : (t : ℕ) → t < 64 → c ≤ t → bit rest t ≡ (bit a t + bit b t) % 2
   pub behind : (t : ℕ) → t < c → bit rest t ≡ 0
 
-abbrev pub invariant-loop-rest : goal.invariant-loop-rest
-invariant-loop-rest l = (c : ℕ) × (c ≤ 64) × Left l.a l.b l.rest c × Reached l.a l.b l.index l.base l.margin l.initial.sweep c l.sweep
-
-abbrev pub decreases-loop-rest : goal.decreases-loop-rest
-decreases-loop-rest l = l.rest
+abbrev pub invariant-loop-t : goal.invariant-loop-t
+invariant-loop-t l =
+    (c : ℕ) × (c ≤ 64) × Left l.a l.b l.t-iterator.rest c × Reached l.a l.b l.index l.base l.margin l.initial.sweep c l.sweep

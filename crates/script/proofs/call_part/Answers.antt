@@ -5,4 +5,4 @@ use Rattle.script.proofs.call_part.Goals as goal
 
 pub returns : goal.returns
 returns c =
-    does-part _ _ _ _ _ c.smaller-lent.ensures c.call_lent.ensures
+    does-part _ _ _ _ _ c.min-lent.ensures c.call_lent.ensures

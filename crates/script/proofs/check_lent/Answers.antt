@@ -1,16 +1,17 @@
 -- `script::check_lent` meets its contract: the check's outcome, reply by reply.
 -- Assumes nothing.
+use Rattle.std.proofs.lemmas.Result.{err_from_is_err_and}
 use Rattle.service.specs.Entries.{check_outcome}
 use Rattle.script.specs.Script.{reply_is}
 use Rattle.script.proofs.Laws.{respond-check}
 use Rattle.script.proofs.check_lent.Goals as goal
 
-pub returns-in-Refused : goal.returns-in-Refused
+pub returns-in_err-check : goal.returns-in_err-check
 unfolding reply_is check_outcome
-returns-in-Refused c =
-    respond-check _ _ _ (rw c.in-Refused.is at c.check-answer.ensures)
+returns-in_err-check c =
+    let p = err_from_is_err_and c.from_residual.result c.from_residual.ensures.1 in
+    rw (p.1, p.2) (respond-check _ _ _ c.in_err-check.ensures)
 
-pub returns-in-Feasible : goal.returns-in-Feasible
+pub returns : goal.returns
 unfolding reply_is check_outcome
-returns-in-Feasible c =
-    respond-check _ _ _ (rw c.in-Feasible.is at c.check-answer.ensures)
+returns c = respond-check _ _ _ c.in_ok-check.ensures

@@ -4,22 +4,18 @@ use Rattle.transfers.specs.Route.{hit_of}
 use Rattle.search.specs.Scene.{step_of}
 use Rattle.search.proofs.as_step.Goals as goal
 
-pub returns-then-across : goal.returns-then-across
+pub returns-in-Move-true : goal.returns-in-Move-true
 unfolding step_of hit_of
-returns-then-across c = rw (c.in-Move.is, c.if-across.true)
+returns-in-Move-true c = rw (c.in-Move-true.is-0, c.in-Move-true.is-1)
 
-pub returns-then-across-2 : goal.returns-then-across-2
+pub returns-in-Move-false : goal.returns-in-Move-false
 unfolding step_of hit_of
-returns-then-across-2 c = rw (c.in-Swap.is, c.if-across-2.true)
+returns-in-Move-false c = rw (c.in-Move-false.is-0, c.in-Move-false.is-1)
 
-pub returns-in-Nothing : goal.returns-in-Nothing
+pub returns-in-Swap-true : goal.returns-in-Swap-true
 unfolding step_of hit_of
-returns-in-Nothing c = rw c.in-Nothing.is
+returns-in-Swap-true c = rw (c.in-Swap-true.is-0, c.in-Swap-true.is-1)
 
-pub returns-else-across : goal.returns-else-across
+pub returns-in-Swap-false : goal.returns-in-Swap-false
 unfolding step_of hit_of
-returns-else-across c = rw (c.in-Move.is, c.if-across.false)
-
-pub returns-else-across-2 : goal.returns-else-across-2
-unfolding step_of hit_of
-returns-else-across-2 c = rw (c.in-Swap.is, c.if-across-2.false)
+returns-in-Swap-false c = rw (c.in-Swap-false.is-0, c.in-Swap-false.is-1)

@@ -1,50 +1,38 @@
 -- `search::find` meets its contract: the kinds in the definition's order, each tried where those before it found nothing.
 -- Assumes nothing.
-use mathlib.Core.Path.{◌∙◌}
-use mathlib.Core.Bool.{true}
-use Rattle.search.specs.Scene.{kind_step}
-use Rattle.search.proofs.Laws.{kind-taken, kind-passed, after_moves, after_swaps, next_step-kinds}
+use mathlib.Core.Path.{◌≡◌}
+use mathlib.Core.Bool.{true, false}
+use mathlib.Core.List.{List}
+use Prim.Native.Nat.{ℕ}
+use borrow.Author.Rules.{rules}
+use Rattle.cluster.specs.declared.Cluster.{Cluster}
+use Rattle.cluster.specs.Cluster.{machines_in}
+use Rattle.search.specs.declared.Kind.{Kind}
+use Rattle.search.specs.Scene.{is_exchange, kind_step, FindAsked, KindSearchAsked}
+use Rattle.loads.specs.Loads.{RoomTo}
+use Rattle.search.proofs.Laws.{or_kind, next_step-kinds}
 use Rattle.search.proofs.Targets.{targets-room, targets-all}
 use Rattle.search.proofs.find.Goals as goal
 
-pub find_kind-near-requires : goal.find_kind-near-requires
-find_kind-near-requires c =
-    record { all = c.requires.all; targets-are = targets-room c.requires c.with_room-room.ensures }
+-- an exchange may lead to any machine, and a move to one with room
+module _ {c : Cluster} {words profiles index copies : List ℕ} (asked : FindAsked c words profiles index copies) (kind : Kind) where
+  all-asked : is_exchange kind ≡ true → KindSearchAsked c words profiles index kind 18446744073709551615
+  all-asked e = record { all = asked.all; targets-are = rw e (targets-all asked) }
 
-pub returns-then-is_step : goal.returns-then-is_step
-returns-then-is_step c =
-    next_step-kinds
-    (kind-taken c.find_kind-near.ensures (after_moves c.args.words.now) (c.is_step.ensures ∙ c.if-is_step.true))
+  room-asked : {room : ℕ} → RoomTo c copies (machines_in c) room → is_exchange kind ≡ false → KindSearchAsked c words profiles index kind room
+  room-asked room e = record { all = asked.all; targets-are = rw e (targets-room asked room) }
 
-pub find_kind-swap-requires : goal.find_kind-swap-requires
-find_kind-swap-requires c =
-    record { all = c.requires.all; targets-are = targets-all c.requires }
+pub or_else-requires : goal.or_else-requires
+or_else-requires c = search (rules, all-asked c.requires)
 
-pub returns-then-is_step-2 : goal.returns-then-is_step-2
-returns-then-is_step-2 c =
-    next_step-kinds
-    (kind-passed c.find_kind-near.ensures (c.is_step.ensures ∙ c.if-is_step.false)
-    (kind-taken c.find_kind-swap.ensures (after_swaps c.args.words.now) (c.is_step-2.ensures ∙ c.if-is_step-2.true)))
-
-pub find_kind-far-requires : goal.find_kind-far-requires
-find_kind-far-requires c =
-    record { all = c.requires.all; targets-are = targets-room c.requires c.with_room-room.ensures }
-
-pub returns-then-is_step-3 : goal.returns-then-is_step-3
-returns-then-is_step-3 c =
-    next_step-kinds
-    (kind-passed c.find_kind-near.ensures (c.is_step.ensures ∙ c.if-is_step.false)
-    (kind-passed c.find_kind-swap.ensures (c.is_step-2.ensures ∙ c.if-is_step-2.false)
-    (kind-taken c.find_kind-far.ensures (λ p. kind_step p c.args.words.now true true) (c.is_step-3.ensures ∙ c.if-is_step-3.true))))
-
-pub find_kind-requires : goal.find_kind-requires
-find_kind-requires c =
-    record { all = c.requires.all; targets-are = targets-all c.requires }
+pub or_else-requires-3 : goal.or_else-requires-3
+or_else-requires-3 c = search (rules, all-asked c.requires)
 
 pub returns : goal.returns
 returns c =
-    next_step-kinds
-    (kind-passed c.find_kind-near.ensures (c.is_step.ensures ∙ c.if-is_step.false)
-    (kind-passed c.find_kind-swap.ensures (c.is_step-2.ensures ∙ c.if-is_step-2.false)
-    (kind-passed c.find_kind-far.ensures (c.is_step-3.ensures ∙ c.if-is_step-3.false)
-    c.find_kind.ensures)))
+    next_step-kinds _
+    (or_kind _ _
+    (or_kind _ _
+    (or_kind {later = λ p. kind_step p c.args.words.now true false} _ _ c.find_kind.ensures c.or_else.ensures (λ e. search rules))
+    c.or_else-2.ensures (λ e. search rules))
+    c.or_else-3.ensures (λ e. search rules))

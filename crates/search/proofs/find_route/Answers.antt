@@ -6,8 +6,9 @@ use mathlib.Core.List.{List}
 use Prim.Native.Nat.{ℕ}
 use native.Mathlib.Omega.{arith}
 use Rattle.theory.proofs.Placement.{bit_le}
-use Rattle.search.proofs.Routes.{kind-asked, kind_here, nothing-other, nothing-level, nothing-full, open-asked, open-found}
+use Rattle.search.proofs.Routes.{kind_here, nothing-other, nothing-level, nothing-full, open-asked, open-found}
 use Rattle.cluster.specs.declared.Cluster.{Cluster}
+use Rattle.transfers.specs.Route.{hit_of}
 use Rattle.search.specs.declared.Row.{Row}
 use Rattle.search.specs.Scene.{OfKind, RouteAt}
 use Rattle.search.proofs.find_route.Goals as goal
@@ -18,18 +19,17 @@ kind-here : {c : Cluster} {words profiles index : List ℕ} {row : Row} {n : ℕ
 kind-here asked told e = sym e ∙ told _ asked.asked.row_in.low-is
 
 pub returns-then-from-to : goal.returns-then-from-to
+unfolding hit_of
 returns-then-from-to c =
     nothing-level c.requires c.if-from-to.true
 
-pub of_kind-requires : goal.of_kind-requires
-of_kind-requires c =
-    kind-asked c.requires
-
 pub returns-then-not-of_kind : goal.returns-then-not-of_kind
+unfolding hit_of
 returns-then-not-of_kind c =
     nothing-other c.requires (sym c.if-not-of_kind.true ∙ c.of_kind.ensures c.args.row.m c.requires.asked.row_in.low-is)
 
 pub returns-then-bit_at-eq0 : goal.returns-then-bit_at-eq0
+unfolding hit_of
 returns-then-bit_at-eq0 c =
     nothing-full c.requires (kind-here c.requires c.of_kind.ensures c.if-not-of_kind.false) (sym c.bit_at.ensures ∙ c.if-bit_at-eq0.true)
 

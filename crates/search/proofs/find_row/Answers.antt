@@ -1,10 +1,12 @@
 -- `search::find_row` meets its contract. The loop's invariant: the definition finds nothing at the machines passed.
 -- Assumes nothing.
-use mathlib.Core.Path.{◌∙◌}
+use mathlib.Core.Path.{sym, ◌∙◌}
 use Prim.Native.Nat.{ℕ, ◌<◌}
 use native.Mathlib.Omega.{arith}
 use Rattle.cluster.specs.declared.Cluster.{Cluster}
 use Rattle.cluster.specs.Cluster.{machines_in}
+use Rattle.transfers.specs.Route.{hit_of}
+use Rattle.transfers.proofs.Searches.{hit-is_step}
 use Rattle.search.specs.declared.Row.{Row}
 use Rattle.search.specs.Scene.{row_of, EndsAt}
 use Rattle.search.proofs.Routes.{kind_at-other}
@@ -15,11 +17,6 @@ use Rattle.search.proofs.find_row.Goals as goal
 below : (c : Cluster) (row : Row) (n end : ℕ) → n < end → EndsAt c row end → n < machines_in c
 below c row n end l ends = omega (arith, ends.within)
 
-pub row_end-end-requires : goal.row_end-end-requires
-row_end-end-requires c =
-    let asked = c.requires in
-    (asked.all.fits.profiles-fit.in-range, asked.row_in)
-
 -- before the row's first machine none is of its kind
 pub loop-n-init : goal.loop-n-init
 loop-n-init c =
@@ -28,30 +25,20 @@ loop-n-init c =
     let from = c.row_start-n.ensures a.cluster asked.all.fits.profiles-fit.in-range asked.row_in in
     record { within = from.0; none-at = λ k l. kind_at-other a.cluster _ _ a.row k (from.1 k l) }
 
-pub find_route-hit-requires : goal.find_route-hit-requires
-find_route-hit-requires c =
-    record { asked = c.requires; n-below = below _ _ _ _ c.loop-n-test.true c.row_end-end.ensures }
-
-pub returns-then-is_found : goal.returns-then-is_found
+pub returns-then-is_some : goal.returns-then-is_some
 unfolding row_of
-returns-then-is_found c =
-    passed-found c.loop-n.invariant (below _ _ _ _ c.loop-n-test.true c.row_end-end.ensures) c.find_route-hit.ensures (c.is_found.ensures _ ∙ c.if-is_found.true)
-
-pub overflow_add-n : goal.overflow_add-n
-overflow_add-n c = omega (arith, c.loop-n-test.true)
-
-pub loop-n-smaller : goal.loop-n-smaller
-loop-n-smaller c = omega (arith, c.loop-n-test.true)
+returns-then-is_some c =
+    passed-found c.loop-n.invariant (below _ _ _ _ c.loop-n-test.true c.row_end-n-end.ensures) c.find_route-hit.ensures (hit-is_step _ _ ∙ sym c.is_some.ensures ∙ c.if-is_some.true)
 
 pub loop-n-preserved : goal.loop-n-preserved
 loop-n-preserved c =
-    passed-more c.loop-n.invariant (below _ _ _ _ c.loop-n-test.true c.row_end-end.ensures) c.find_route-hit.ensures (c.is_found.ensures _ ∙ c.if-is_found.false)
+    passed-more c.loop-n.invariant (below _ _ _ _ c.loop-n-test.true c.row_end-n-end.ensures) c.find_route-hit.ensures (hit-is_step _ _ ∙ sym c.is_some.ensures ∙ c.if-is_some.false)
 
 -- nor is one past its last
 pub returns : goal.returns
-unfolding row_of
+unfolding row_of hit_of
 returns c =
-    let ends = c.row_end-end.ensures in
+    let ends = c.row_end-n-end.ensures in
     let a = c.args in
-    passed-rest c.loop-n.invariant _
+    passed-rest c.loop-n.invariant
     (λ k l h. kind_at-other a.cluster _ _ a.row k (ends.past k (omega (arith, c.loop-n-test.false)) h))

@@ -1,6 +1,5 @@
 -- `search::find_row` meets its contract. The loop's invariant: the definition finds nothing at the machines passed.
 -- Assumes nothing.
-use Prim.Native.Nat.{◌-◌}
 use Rattle.search.specs.Scene.{route_of}
 use Rattle.search.proofs.Loops.{Passed}
 use Rattle.search.proofs.find_row.Given as goal
@@ -8,6 +7,3 @@ use Rattle.search.proofs.find_row.Given as goal
 abbrev pub invariant-loop-n : goal.invariant-loop-n
 invariant-loop-n l =
     Passed l.cluster l.words l.profiles (λ p. route_of p l.words l.row.swapping l.row.across l.row.m) l.n
-
-abbrev pub decreases-loop-n : goal.decreases-loop-n
-decreases-loop-n l = l.end - l.n

@@ -11,15 +11,6 @@ use Rattle.cluster.proofs.Laws.{range-turn, range-turn-pos}
 use Rattle.search.proofs.Laws.{true-beq, turn-domain, turn-base}
 use Rattle.search.proofs.is_parted.Goals as goal
 
-pub overflow_mul-turn : goal.overflow_mul-turn
-overflow_mul-turn c = omega (arith, range-turn _ c.requires, c.requires.machines-max)
-
-pub wrapped-requires : goal.wrapped-requires
-wrapped-requires c = range-turn-pos _ c.requires
-
-pub wrapped-requires-2 : goal.wrapped-requires-2
-wrapped-requires-2 c = range-turn-pos _ c.requires
-
 pub of_kind-requires : goal.of_kind-requires
 of_kind-requires c =
     let range = c.requires in

@@ -19,15 +19,6 @@ rack-within c =
     let whole : (c.args.row.m / size + 1) * size ≤ k.racks * size = mul-le-mul_right size (omega (arith, rack)) in
     omega (arith, in_row.low-is, add-mul (c.args.row.m / size) 1 size, one-mul size)
 
-pub machines-requires : goal.machines-requires
-machines-requires c = c.requires.0
-
-pub returns-then-row : goal.returns-then-row
-returns-then-row c = record { within = omega (arith, c.machines.ensures); past = λ n l h. absurd (omega (arith, c.machines.ensures)) }
-
-pub overflow_add-result : goal.overflow_add-result
-overflow_add-result c = omega (arith, rack-within c, c.requires.0.machines-max)
-
 -- machines past m's rack lie in other racks
 pub returns : goal.returns
 returns c =

@@ -5,9 +5,6 @@ use native.Mathlib.Omega.{arith}
 use Rattle.search.proofs.Laws.{apart-before}
 use Rattle.search.proofs.row_start.Goals as goal
 
-pub returns-then-row : goal.returns-then-row
-returns-then-row c k range in_row = (omega arith, λ n l. absurd (omega arith))
-
 -- machines before m's rack lie in other racks
 pub returns : goal.returns
 returns c k range in_row =

@@ -3,17 +3,20 @@
 use mathlib.Core.Path.{ap, ◌∙◌}
 use Rattle.model.specs.Calls.{report_call, answered, Report}
 use Rattle.loads.proofs.Laws.{loads-narrow}
+use Rattle.std.proofs.lemmas.Result.{err_from_is_err_and}
 use Rattle.service.specs.Entries.{report_outcome}
 use Rattle.service.proofs.Laws.{placement-refused, placement-made, report-is}
 use Rattle.service.proofs.report.Goals as goal
 
-pub returns-then-held-ne0 : goal.returns-then-held-ne0
+pub returns-in_err-held : goal.returns-in_err-held
 unfolding report_outcome report_call
-returns-then-held-ne0 c = placement-refused _ _ _ _ c.admit_placement-held.ensures _ c.if-held-ne0.true
+returns-in_err-held c =
+    let p = err_from_is_err_and c.from_residual.result c.from_residual.ensures.1 in
+    rw (p.1, p.2) (placement-refused _ _ _ _ c.in_err-held.ensures)
 
 pub report-requires : goal.report-requires
 report-requires c =
-    let ready = c.admit_placement-held.ensures.ready c.if-held-ne0.false in
+    let ready = c.in_ok-held.ensures in
     record {
       machines-max = ready.prepared.fit.in-range.machines-max;
       load-narrow = loads-narrow _ _ _ _ _ ready.loads-of ready.prepared.fit;
@@ -22,8 +25,6 @@ report-requires c =
 pub returns : goal.returns
 unfolding report_outcome report_call
 returns c =
-    let admitted = c.admit_placement-held.ensures in
-    let passed = c.if-held-ne0.false in
-    ap (λ (r : Report). record { answer = answered r; items = c.args.words.now })
-    (report-is _ _ _ _ (admitted.ready passed) _ c.report.ensures)
-    ∙ placement-made _ _ _ _ admitted _ passed
+    let ready = c.in_ok-held.ensures in
+    ap (λ (r : Report). record { answer = answered r; items = c.args.words.now }) (report-is _ _ _ _ ready _ c.report.ensures)
+    ∙ placement-made _ _ _ _ _ ready

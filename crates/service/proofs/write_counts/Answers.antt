@@ -7,17 +7,16 @@ use Rattle.order.proofs.Tables.{filled_none, filled_more}
 use Rattle.service.proofs.write_counts.Goals as goal
 
 pub loop-i-init : goal.loop-i-init
-loop-i-init c = (omega arith, refl, filled_none _ _)
+loop-i-init c = (refl, filled_none _ _)
 
 pub loop-i-preserved : goal.loop-i-preserved
 loop-i-preserved c =
     let inv = c.loop-i.invariant in (
-      omega arith,
-      simp length-set inv.1,
-      filled_more c.loop-i.i _ _ _ _ inv.2 (omega (arith, c.requires.count_room)) c.count_of.ensures,
+      simp length-set inv.0,
+      filled_more c.loop-i.i _ _ _ _ inv.1 (omega (arith, c.requires.count_room)) c.count_of.ensures,
     )
 
 pub returns : goal.returns
 returns c =
     let all : c.loop-i.i ≡ c.args.cluster.blocks = omega arith in
-    rw all at c.loop-i.invariant.2
+    rw all at c.loop-i.invariant.1

@@ -1,23 +1,13 @@
--- `text::put_word` meets its contract. The loop's invariant: the bytes passed stand in the text.
+-- `text::put_word` meets its contract: the text's part that holds the word lies between the bytes before and behind it.
 -- Assumes nothing.
-use mathlib.Core.Path.{refl}
-use native.Mathlib.Nat.{add-zero}
-use native.Mathlib.Omega.{arith}
-use lib.ListN.{length-set}
-use lib.Seq.{take_all}
-use Rattle.text.proofs.Laws.{put-none, word_more}
+use Rattle.std.proofs.Common.{◌≡◌, ℕ, List, length, refl, arith, append_assoc, drop-drop}
+use borrow.Rule.Slice.PartMut.{put_mid}
+use Rattle.text.specs.Pasted.{pasted}
 use Rattle.text.proofs.put_word.Goals as goal
 
-pub loop-i-init : goal.loop-i-init
-loop-i-init c = (omega arith, refl, rw (add-zero c.args.at) (put-none _ _))
-
-pub loop-i-preserved : goal.loop-i-preserved
-loop-i-preserved c =
-    (omega arith, simp length-set c.loop-i.invariant.1, word_more _ _ _ _ _ c.loop-i-test.true c.requires c.loop-i.invariant.2)
-
-pub shape_of-text : goal.shape_of-text
-shape_of-text c = c.loop-i.invariant.1
+mid-pasted : (at k : ℕ) (word old new : List ℕ) → k ≡ length word → new ≡ word → put_mid at k old new ≡ pasted at word old
+unfolding pasted
+mid-pasted at k word old new size same = rw (same, size) (simp (append_assoc, drop-drop))
 
 pub returns : goal.returns
-returns c =
-    rw (take_all c.loop-i.i c.args.word.now c.loop-i-test.false) at c.loop-i.invariant.2
+returns c = record { text-is = mid-pasted _ _ _ _ _ (omega arith) c.copy_from_slice.ensures.after; next-is = refl }

@@ -2,11 +2,8 @@
 -- Assumes nothing.
 use mathlib.Core.Path.{sym, ◌∙◌}
 use Rattle.order.proofs.Booleans.{no-contradiction}
-use Rattle.transfers.proofs.Laws.{return-block, lies_at}
+use Rattle.transfers.proofs.Laws.{lies_at}
 use Rattle.transfers.proofs.can_return.Goals as goal
-
-pub returnable-requires : goal.returnable-requires
-returnable-requires c = return-block c.requires
 
 pub returns-then-not-returnable : goal.returns-then-not-returnable
 returns-then-not-returnable c =

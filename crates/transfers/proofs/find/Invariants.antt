@@ -19,7 +19,7 @@ Fails cluster words profiles route swapping k =
     → (across : Bool) → is_step (block_step p words swapping across route.m route.n k) ≡ false
 
 abbrev pub invariant-loop-i : goal.invariant-loop-i
-invariant-loop-i l = Passed l.cluster l.words l.route (Fails l.cluster l.words l.profiles l.route l.swapping) l.i
+invariant-loop-i l = Passed l.cluster (Fails l.cluster l.words l.profiles l.route l.swapping) l.next_i
 
 abbrev pub decreases-loop-i : goal.decreases-loop-i
-decreases-loop-i l = l.cluster.blocks - l.i
+decreases-loop-i l = l.cluster.blocks - l.next_i

@@ -5,47 +5,42 @@ use native.Mathlib.Omega.{arith}
 use Rattle.order.proofs.Booleans.{no-contradiction, not_so}
 use Rattle.cluster.proofs.Laws.{cluster-blocks, placement-block}
 use Rattle.transfers.specs.Route.{hit_of}
-use Rattle.transfers.proofs.Laws.{candidate-block, candidate-shift, block_step-none, block_step-move, block_step-swap, lies_at, move-told}
+use Rattle.transfers.proofs.Laws.{candidate-shift, block_step-none, block_step-move, block_step-swap, lies_at, move-told}
 use Rattle.transfers.proofs.find_at.Goals as goal
 
-pub returns-then-j-cluster : goal.returns-then-j-cluster
+pub returns-in_err-j : goal.returns-in_err-j
 unfolding hit_of
-returns-then-j-cluster c =
-    let asked = c.requires in
-    let found = c.first_exchange-j.ensures in
-    let j = c.first_exchange-j.result in
-    let jl = c.if-j-cluster.true in
-    record {
-      sound = (
-        candidate-shift asked,
-        record {
-          m-below = asked.asked.route-in.n-below;
-          n-below = asked.asked.route-in.m-below;
-          i-below = jl;
-          holds = found.holds jl;
-          lacks = found.lacks jl;
-        },
-      );
+returns-in_err-j c =
+    rw c.from_residual.ensures
+    (record {
+      sound = λ across. tt;
       is = λ p count scene room across.
-          sym (block_step-swap p _ _ _ _ _ _ c.if-swapping.true j (placement-block p count _ _ _ scene.placement j jl)
-          (λ k l. found.passed k l (omega arith) p count scene) (found.found jl p count scene));
-    }
+          let blocks = cluster-blocks p _ scene.placement.profiles-of.cluster in
+          sym (block_step-none p _ _ _ _ _ _ (λ e. no-contradiction (sym c.if-swapping.true ∙ e))
+          (λ e j l. c.in_err-j.ensures j (omega arith) p count scene));
+    })
 
 pub returns-then-swapping : goal.returns-then-swapping
 unfolding hit_of
 returns-then-swapping c =
-    let found = c.first_exchange-j.ensures in
+    let asked = c.requires in
+    let found = c.in_ok-j.ensures in
+    let j = c.in_ok-j.j in
     record {
-      sound = tt;
+      sound = λ across. (
+        candidate-shift asked,
+        record {
+          m-below = asked.asked.route-in.n-below;
+          n-below = asked.asked.route-in.m-below;
+          i-below = found.below;
+          holds = found.holds;
+          lacks = found.lacks;
+        },
+      );
       is = λ p count scene room across.
-          let blocks = cluster-blocks p _ scene.placement.profiles-of.cluster in
-          sym (block_step-none p _ _ _ _ _ _ (λ e. no-contradiction (sym c.if-swapping.true ∙ e))
-          (λ e j l. found.passed j (omega arith) (omega arith) p count scene));
+          sym (block_step-swap p _ _ _ _ _ _ c.if-swapping.true j (placement-block p count _ _ _ scene.placement j found.below)
+          (λ k l. found.passed k l p count scene) (found.found p count scene));
     }
-
-pub movable-requires : goal.movable-requires
-movable-requires c =
-    candidate-block c.requires
 
 pub returns-then-not-movable : goal.returns-then-not-movable
 unfolding hit_of
@@ -54,7 +49,7 @@ returns-then-not-movable c =
     let i = c.args.i in
     let moves = c.if-swapping.false in
     record {
-      sound = tt;
+      sound = λ across. tt;
       is = λ p count scene room across.
           let told = move-told p count _ _ _ _ scene asked.asked.route-in i asked.i-below asked.holds asked.lacks (room moves) in
           let test = c.movable.ensures p (lies_at p count _ _ _ scene.placement i asked.i-below) in
@@ -70,7 +65,7 @@ returns-then-not-is_free c =
     let i = c.args.i in
     let moves = c.if-swapping.false in
     record {
-      sound = tt;
+      sound = λ across. tt;
       is = λ p count scene room across.
           let told = move-told p count _ _ _ _ scene asked.asked.route-in i asked.i-below asked.holds asked.lacks (room moves) in
           sym (block_step-none p _ _ _ _ _ _
@@ -85,7 +80,7 @@ returns c =
     let i = c.args.i in
     let moves = c.if-swapping.false in
     record {
-      sound = candidate-shift asked;
+      sound = λ across. candidate-shift asked;
       is = λ p count scene room across.
           let told = move-told p count _ _ _ _ scene asked.asked.route-in i asked.i-below asked.holds asked.lacks (room moves) in
           let test = c.movable.ensures p (lies_at p count _ _ _ scene.placement i asked.i-below) in

@@ -3,12 +3,11 @@
 use mathlib.Core.Path.{◌≡◌, sym, ◌∙◌}
 use mathlib.Core.List.{List}
 use Prim.Native.Nat.{ℕ, ◌<◌}
-use native.Mathlib.Omega.{arith}
 use Rattle.order.proofs.Booleans.{no-contradiction}
 use Rattle.model.specs.Placement.{held}
 use Rattle.cluster.specs.declared.Cluster.{Cluster}
 use Rattle.transfers.specs.declared.Route.{Route}
-use Rattle.transfers.proofs.Laws.{passed_first, passed-next, passed-candidate, candidate-return, no_return-block}
+use Rattle.transfers.proofs.Laws.{next-candidate, passed-before, passed-next, passed-all, no_return-block}
 use Rattle.transfers.proofs.first_return.Invariants.{Fails}
 use Rattle.transfers.proofs.first_return.Goals as goal
 
@@ -33,45 +32,23 @@ may_return-requires c =
 pub returns-then-not-may_return : goal.returns-then-not-may_return
 returns-then-not-may_return c =
     let none = c.may_return.ensures c.if-not-may_return.true in
-    record {
-      holds = λ b. absurd (omega arith);
-      lacks = λ b. absurd (omega arith);
-      passed = λ k l b p count of t. no_return-block p c.requires none k b t.back;
-      found = λ b. absurd (omega arith);
-    }
-
-pub loop-j-init : goal.loop-j-init
-loop-j-init c =
-    passed_first c.requires others c.next-j.ensures
-
-pub can_return-requires : goal.can_return-requires
-can_return-requires c =
-    candidate-return (passed-candidate c.requires c.loop-j.invariant c.loop-j-test.true)
+    λ k l p count of t. no_return-block p c.requires none k l t.back
 
 pub returns-then-can_return : goal.returns-then-can_return
 returns-then-can_return c =
-    let inv = c.loop-j.invariant in
+    let candidate = next-candidate c.requires c.in-Some.ensures in
     record {
-      holds = inv.holds;
-      lacks = inv.lacks;
-      passed = inv.before;
-      found = λ b p count of. (c.can_return.ensures p count of).0 c.if-can_return.true;
+      below = candidate.i-below;
+      holds = candidate.holds;
+      lacks = candidate.lacks;
+      passed = passed-before c.requires others c.loop-j.invariant c.in-Some.ensures;
+      found = λ p count of. (c.can_return.ensures p count of).0 c.if-can_return.true;
     }
-
-pub loop-j-smaller : goal.loop-j-smaller
-loop-j-smaller c = omega (arith, c.next-j-in-loop-j.ensures.at_least)
 
 pub loop-j-preserved : goal.loop-j-preserved
 loop-j-preserved c =
-    passed-next c.requires others c.loop-j.invariant
+    passed-next c.requires others c.loop-j.invariant c.in-Some.ensures
     (λ p count of t. no-contradiction (sym ((c.can_return.ensures p count of).1 t) ∙ c.if-can_return.false))
-    c.next-j-in-loop-j.ensures
 
 pub returns : goal.returns
-returns c =
-    record {
-      holds = λ b. absurd (omega arith);
-      lacks = λ b. absurd (omega arith);
-      passed = c.loop-j.invariant.before;
-      found = λ b. absurd (omega arith);
-    }
+returns c = passed-all c.requires others c.loop-j.invariant c.in_default.ensures

@@ -16,7 +16,7 @@ Fails cluster words profiles route given k =
     (p : Plan) (count : ℕ → ℕ) → PlacementOf p count cluster words profiles → FreeReturn p words profiles route given k → ⊥
 
 abbrev pub invariant-loop-j : goal.invariant-loop-j
-invariant-loop-j l = Passed l.cluster l.words l.route (Fails l.cluster l.words l.profiles l.route l.given) l.j
+invariant-loop-j l = Passed l.cluster (Fails l.cluster l.words l.profiles l.route l.given) l.next_j
 
 abbrev pub decreases-loop-j : goal.decreases-loop-j
-decreases-loop-j l = l.cluster.blocks - l.j
+decreases-loop-j l = l.cluster.blocks - l.next_j

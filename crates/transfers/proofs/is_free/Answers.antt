@@ -2,22 +2,9 @@
 -- Assumes nothing.
 use mathlib.Core.Path.{ap, sym, ◌∙◌}
 use Prim.Native.Nat.{ℕ}
-use native.Mathlib.Omega.{arith}
 use borrow.Author.Tests.{eqb-true, eq-eqb}
 use Rattle.model.specs.Placement.{held}
-use Rattle.transfers.proofs.Laws.{linked-below}
 use Rattle.transfers.proofs.is_free.Goals as goal
-
-pub linked_to-k-requires : goal.linked_to-k-requires
-linked_to-k-requires c =
-    let asked = c.requires in
-    let fit = asked.fits.profiles-fit in
-    ((fit.linked _ asked.i-below).some, omega (arith, asked.i-below, fit.in-range.blocks-max))
-
-pub bounds-words-k : goal.bounds-words-k
-bounds-words-k c =
-    let asked = c.requires in
-    omega (arith, c.linked_to-k.ensures, linked-below asked.fits _ asked.i-below, asked.fits.word_room)
 
 pub returns : goal.returns
 returns c =

@@ -1,17 +1,7 @@
 -- `transfers::movable` meets its contract: each early return is a part of the test that fails.
 -- Assumes nothing.
-use mathlib.Core.Path.{sym}
 use native.Mathlib.Omega.{arith}
-use Rattle.order.proofs.Booleans.{no-contradiction}
 use Rattle.transfers.proofs.movable.Goals as goal
-
-pub returns-then-share-eq0 : goal.returns-then-share-eq0
-returns-then-share-eq0 c =
-    λ p lies. (λ e. no-contradiction (sym e), λ h. absurd (omega (arith, h.in-margin.gain)))
-
-pub returns-then-route-share : goal.returns-then-route-share
-returns-then-route-share c =
-    λ p lies. (λ e. no-contradiction (sym e), λ h. absurd (omega (arith, h.in-margin.below)))
 
 pub returns : goal.returns
 returns c =

@@ -1,29 +1,22 @@
--- `validation::all_fit` meets its contract. The loop's invariant: no machine passed holds more than C copies.
+-- `validation::all_fit` meets its contract.
 -- Assumes nothing.
-use mathlib.Core.Path.{◌≡◌, sym, ◌∙◌}
-use native.Mathlib.Omega.{arith}
-use borrow.Author.Tests.{lt-leb, le-leb}
-use Rattle.order.proofs.Extremes.{allb-false}
+use mathlib.Core.Path.{◌∙◌}
+use lib.Dec.{leb}
+use lib.ListN.{take, length}
+use Prim.Native.Nat.{◌≤◌}
+use Rattle.std.proofs.Common.{rules, tests, arith}
+use Rattle.std.proofs.lemmas.Grind.{common_steps}
+use Rattle.std.proofs.lemmas.Iterator.{YieldsList-from_slice}
+use Rattle.std.proofs.lemmas.Iterator.Search.{all_from_yields_List}
 use Rattle.cluster.specs.Cluster.{machines_in}
-use Rattle.validation.proofs.Laws.{allb-none, allb-more, is_fit, fit_row}
+use Rattle.validation.proofs.Laws.{allb-front, fit_row}
 use Rattle.validation.proofs.all_fit.Goals as goal
-
-pub loop-m-init : goal.loop-m-init
-loop-m-init c = (omega arith, allb-none _)
-
-pub returns-then-cluster-copies : goal.returns-then-cluster-copies
-returns-then-cluster-copies c p words of =
-    let a = c.args in
-    let test = is_fit a.loads.copies a.cluster.capacity in
-    sym (allb-false (machines_in a.cluster) test c.loop-m.m (omega arith) (lt-leb _ _ c.if-cluster-copies.true))
-    ∙ fit_row p words a.cluster a.loads of
-
-pub loop-m-preserved : goal.loop-m-preserved
-loop-m-preserved c =
-    (omega arith, allb-more c.loop-m.m _ c.loop-m.invariant.1 (le-leb _ _ c.if-cluster-copies.false))
 
 pub returns : goal.returns
 returns c p words of =
     let a = c.args in
-    let done : c.loop-m.m ≡ machines_in a.cluster = omega arith in
-    sym (rw done at c.loop-m.invariant.1) ∙ fit_row p words a.cluster a.loads of
+    let copies = a.loads.copies in
+    let room : machines_in a.cluster ≤ length copies = grind (arith, common_steps) in
+    let first = all_from_yields_List (λ x. leb x a.cluster.capacity) _ _ _ c.all.ensures.ran
+    (YieldsList-from_slice (take (machines_in a.cluster) copies) (grind (arith, common_steps))) (λ x b q k. search (rules, tests)) in
+    first ∙ allb-front _ _ _ room ∙ fit_row p words a.cluster a.loads of

@@ -1,50 +1,27 @@
--- `validation::all_spread` meets its contract. The loop's invariant: every block passed lies in as many domains as its spread says.
+-- `validation::all_spread` meets its contract.
 -- Assumes nothing.
-use mathlib.Core.Path.{◌≡◌, sym, ◌∙◌}
-use Prim.Native.Nat.{◌<◌}
-use native.Mathlib.Omega.{arith}
-use Rattle.order.proofs.Extremes.{allb-false}
+use mathlib.Core.Path.{◌≡◌, refl, ◌∙◌}
+use mathlib.Core.Bool.{true, false}
+use Prim.Native.Nat.{ℕ, ◌<◌, ◌≤◌}
+use Rattle.std.proofs.Common.{rules, tests, arith}
+use Rattle.std.proofs.lemmas.Iterator.{YieldsList-from_range, cases_from_all}
+use Rattle.order.proofs.Extremes.{allb-intro, allb-false}
+use Rattle.model.specs.Placement.{replicas, word_of}
 use Rattle.cluster.proofs.Laws.{cluster-blocks}
-use Rattle.validation.proofs.Laws.{allb-none, allb-more, spread_row}
+use Rattle.validation.proofs.Laws.{tested_below, is_spread, spread_row}
 use Rattle.validation.proofs.all_spread.Goals as goal
-
-pub loop-i-init : goal.loop-i-init
-loop-i-init c = (omega arith, λ p of some. allb-none _)
-
-pub bounds-words-i : goal.bounds-words-i
-bounds-words-i c = omega (arith, c.requires.word_room)
-
-pub bounds-profiles-i : goal.bounds-profiles-i
-bounds-profiles-i c =
-    omega (arith, c.requires.profiles-fit.room)
-
-pub is_spread-requires : goal.is_spread-requires
-is_spread-requires c =
-    c.requires.profiles-fit.in-range
-
-pub returns-then-not-is_spread : goal.returns-then-not-is_spread
-returns-then-not-is_spread c p count of =
-    let a = c.args in
-    let i = c.loop-i.i in
-    let l : i < a.cluster.blocks = omega arith in
-    let cluster = of.profiles-of.cluster in
-    let here = c.is_spread.ensures p cluster (of.some i (rw (cluster-blocks p _ cluster) at l)) in
-    sym (allb-false a.cluster.blocks _ i l (sym here ∙ c.if-not-is_spread.true))
-    ∙ spread_row p a.words.now a.cluster count a.profiles.now of
-
-pub loop-i-preserved : goal.loop-i-preserved
-loop-i-preserved c =
-    let i = c.loop-i.i in
-    let l : i < c.args.cluster.blocks = omega arith in (
-      omega arith,
-      λ p of some.
-          let here = c.is_spread.ensures p of (some i (rw (cluster-blocks p _ of) at l)) in
-          allb-more i _ (c.loop-i.invariant.1 p of some) (sym here ∙ c.if-not-is_spread.false),
-    )
 
 pub returns : goal.returns
 returns c p count of =
-    let a = c.args in
-    let done : c.loop-i.i ≡ a.cluster.blocks = omega arith in
-    sym (rw done at (c.loop-i.invariant.1 p of.profiles-of.cluster of.some))
-    ∙ spread_row p a.words.now a.cluster count a.profiles.now of
+    let words = c.args.words.now in
+    let profiles = c.args.profiles.now in
+    let n = c.args.cluster.blocks in
+    let test = is_spread p words profiles in
+    let cluster = of.profiles-of.cluster in
+    let some : (i : ℕ) → i < n → 1 ≤ replicas p (word_of words i) = λ i l. of.some i (rw (cluster-blocks p _ cluster) at l) in
+    tested_below n _ _ (λ i. i < n → test i ≡ true) (λ i. i < n → test i ≡ false)
+    (cases_from_all _ _ _ (λ i. i < n → test i ≡ true) (λ i. i < n → test i ≡ false) c.all.ensures.ran
+    (YieldsList-from_range 0 n n refl (omega arith)) (λ x q k. search (rules, tests)) (λ x q k. search (rules, tests)))
+    (λ each. allb-intro n test (λ i l. each i l l))
+    (λ i l fails. allb-false n test i l (fails l))
+    ∙ spread_row p words c.args.cluster count profiles of

@@ -1,23 +1,8 @@
 -- `layout::Cursor::next` meets its contract: one position on is the next rack, the first rack of the next level, or position 0.
 -- Assumes nothing.
-use Prim.Native.Nat.{◌+◌, ◌*◌, ◌<◌}
 use native.Mathlib.Omega.{arith}
-use lib.Arith.{digits_lt}
-use Rattle.cluster.specs.Cluster.{machines_in}
 use Rattle.layout.proofs.Laws.{on-rack, on-level, on-round}
-use Rattle.layout.specs.declared.Cursor.{Cursor}
-use Rattle.layout.specs.Circle.{OnCircle}
 use Rattle.layout.proofs.Cursor.next.Goals as goal
-
--- the machine is one of the cluster's
-machine-below : (at : Cursor) → OnCircle at → at.rack * at.cluster.rack_size + at.level < machines_in at.cluster
-machine-below at circle = digits_lt circle.rack-below circle.level-below
-
-pub overflow_mul-machine : goal.overflow_mul-machine
-overflow_mul-machine c = omega (arith, machine-below c.args.self c.requires)
-
-pub overflow_add-machine : goal.overflow_add-machine
-overflow_add-machine c = omega (arith, machine-below c.args.self c.requires)
 
 pub returns-then-cursor-cluster-2 : goal.returns-then-cursor-cluster-2
 returns-then-cursor-cluster-2 c t l e =
