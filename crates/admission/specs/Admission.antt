@@ -10,8 +10,8 @@ use Rattle.refusal.specs.declared.Refusal.{Refusal}
 use Rattle.refusal.specs.Rows.{number_of}
 use Rattle.cluster.specs.declared.Cluster.{Cluster}
 use Rattle.cluster.specs.Blocks.{DemandsFit, DemandsOf, CountsFit, ProfilesFit, ProfilesOf, PlacementFits, PlacementOf}
-use Rattle.header.specs.declared.Header.{Header}
-use Rattle.plan.specs.Reading.{plan_of}
+use Rattle.plan.specs.declared.passed.Accepted.{Accepted}
+use Rattle.plan.specs.Verdict.{accepted_plan}
 use Rattle.replication.specs.Choice.{LimitedDemands}
 use Rattle.loads.specs.Loads.{LoadsOf}
 use Rattle.validation.specs.Validation.{layout_refusal}
@@ -36,15 +36,15 @@ PreparedChosen p = Prepared p (chosen p)
 abbrev pub lent_refusal : ℕ → Plan → ℕ
 lent_refusal lent p = check12 lent (block_count p) 0
 
--- The header of a plan that passes rows 1 to 12, 17, 22 and 23 with so many items lent.
-pub record HeaderReady (bytes : List ℕ) (lent : ℕ) (h : Header) : Type 0 where
-  pub accepts : judge bytes ≡ accepted (plan_of bytes h)
-  pub enough : block_count (plan_of bytes h) ≤ lent
+-- The bytes' plan, which passes rows 1 to 12, 17, 22 and 23 with so many items lent.
+pub record EnteredAs (bytes : List ℕ) (lent : ℕ) (a : Accepted) : Type 0 where
+  pub reads : judge bytes ≡ accepted (accepted_plan a)
+  pub enough : block_count (accepted_plan a) ≤ lent
 
 -- Else the number of the first row that refuses.
-abbrev pub Entered : List ℕ → ℕ → Result Header Refusal → Type 0
+abbrev pub Entered : List ℕ → ℕ → Result Accepted Refusal → Type 0
 Entered bytes lent (Err refusal) = number_of refusal ≡ call_refusal (judge bytes) (lent_refusal lent)
-Entered bytes lent (Ok h) = HeaderReady bytes lent h
+Entered bytes lent (Ok a) = EnteredAs bytes lent a
 
 -- A plan that passes rows 1 to 12, 17, 22 and 23 with so many items lent.
 pub record PlanReady (bytes : List ℕ) (lent : ℕ) (profiles : List ℕ) (r : Intake) : Type 0 where

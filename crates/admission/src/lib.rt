@@ -5,12 +5,13 @@ ghost use Rattle.std.specs.Prelude.{◌≤◌, length};
 ghost use Rattle.model.specs.Refusal.{max_blocks};
 ghost use Rattle.model.specs.Plan.{Plan};
 ghost use Rattle.cluster.specs.Blocks.{DemandsOf};
-ghost use Rattle.plan.specs.Reading.{plan_of, DecodeAsked};
+ghost use Rattle.plan.specs.Verdict.{accepted_plan};
 ghost use Rattle.admission.specs.Admission.{Demanded, PreparedChosen, Entered, Admitted, CountedAsked, Weighed, PlacementAdmitted};
 
 use cluster::Cluster;
-use header::Header;
+use held::Held;
 use loads::Loads;
+use plan::Accepted;
 use refusal::Refusal;
 
 // What a call on a plan works with: the cluster, and the largest share at the chosen counts.
@@ -29,36 +30,34 @@ pub struct Placement {
 }
 
 // The demands of an accepted plan's blocks, and the most copies that it allows in all.
-fn demand_all(bytes: &[u8], h: Header, demands: &mut [u64]) -> usize
-    requires { DecodeAsked bytes.now h demands.old }
-    ensures { Demanded (plan_of bytes.now h) h.cluster demands.new result }
+fn demand_all(plan: &Accepted, demands: &mut [u64]) -> usize
+    requires { plan.now.header.cluster.blocks ≤ length demands.old }
+    ensures { Demanded (accepted_plan plan.now) plan.now.header.cluster demands.new result }
 {
-    let cluster = h.cluster;
-    plan::decode(bytes, h, demands);
+    let cluster = plan.header.cluster;
+    plan.decode(demands);
     let places = cluster.machines() * cluster.capacity;
-    h.budget.min(places)
+    plan.header.budget.min(places)
 }
 
 // The profiles of an accepted plan's blocks at the chosen counts, and the largest share.
-pub fn prepare(bytes: &[u8], h: Header, profiles: &mut [u64]) -> u64
-    requires { DecodeAsked bytes.now h profiles.old }
-    ensures { PreparedChosen (plan_of bytes.now h) h.cluster profiles.new result }
+pub fn prepare(plan: &Accepted, profiles: &mut [u64]) -> u64
+    requires { plan.now.header.cluster.blocks ≤ length profiles.old }
+    ensures { PreparedChosen (accepted_plan plan.now) plan.now.header.cluster profiles.new result }
 {
-    let cluster = h.cluster;
-    let allowed = demand_all(bytes, h, profiles);
-    replication::choose(profiles, allowed, cluster)
+    let allowed = demand_all(plan, profiles);
+    replication::choose(profiles, allowed, plan.header.cluster)
 }
 
-// The header of any bytes' plan, with so many items lent for its blocks: rows 1 to 12, 17, 22 and 23.
-fn enter(bytes: &[u8], lent: usize) -> Result<Header, Refusal>
+// Any bytes' plan, with so many items lent for its blocks: rows 1 to 12, 17, 22 and 23.
+fn enter(bytes: &[u8], lent: usize) -> Result<Accepted<'_>, Refusal>
     ensures { Entered bytes.now lent result }
 {
-    let h = plan::read(bytes)?;
-    let cluster = h.cluster;
-    if lent < cluster.blocks {
+    let plan = plan::read(bytes)?;
+    if lent < plan.header.cluster.blocks {
         return Err(Refusal::ShortBuffer);
     }
-    Ok(h)
+    Ok(plan)
 }
 
 // Any bytes, with so many items lent: rows 1 to 12, 17, 22 and 23. Where none refuses, the profiles are in the lent list.
@@ -66,10 +65,10 @@ pub fn admit(bytes: &[u8], lent: usize, profiles: &mut [u64]) -> Result<Intake, 
     requires { max_blocks ≤ length profiles.old }
     ensures { Admitted bytes.now lent profiles.new result }
 {
-    let h = enter(bytes, lent)?;
-    let top = prepare(bytes, h, profiles);
+    let plan = enter(bytes, lent)?;
+    let top = prepare(&plan, profiles);
     Ok(Intake {
-        cluster: h.cluster,
+        cluster: plan.header.cluster,
         top,
     })
 }
@@ -85,8 +84,13 @@ fn admit_counted(
         → Weighed p cluster words.now profiles.new result }
 {
     let largest = replication::fill_held(profiles, words, cluster);
-    let loads = loads::sum_words(words, profiles, cluster);
-    validation::check_layout(words, profiles, loads, cluster)?;
+    let held = Held {
+        words,
+        profiles,
+        cluster,
+    };
+    let loads = loads::sum_words(&held);
+    validation::check_layout(&held, loads)?;
     Ok(Placement {
         cluster,
         top: largest,
@@ -103,9 +107,9 @@ pub fn admit_placement(
     requires { max_blocks ≤ length profiles.old }
     ensures { PlacementAdmitted bytes.now words.now profiles.new result }
 {
-    let h = enter(bytes, words.len())?;
-    let cluster = h.cluster;
-    let allowed = demand_all(bytes, h, profiles);
+    let plan = enter(bytes, words.len())?;
+    let cluster = plan.header.cluster;
+    let allowed = demand_all(&plan, profiles);
     let figure = replication::best_figure(profiles, allowed, cluster);
     validation::check_counts(words, profiles, cluster, figure)?;
     admit_counted(words, profiles, cluster)

@@ -6,7 +6,8 @@ use Rattle.cluster.specs.declared.Cluster.{Cluster}
 use Rattle.cluster.specs.Blocks.{PlacementFits}
 use Rattle.loads.specs.declared.Loads.{Loads}
 use Rattle.loads.specs.Loads.{LoadsOf}
-use Rattle.index.specs.Index.{Ordered, Cleared}
+use Rattle.index.specs.declared.Index.{Index}
+use Rattle.index.specs.Index.{Ordered, Cleared, Indexed}
 use Rattle.transfers.specs.Route.{Shift, StepFound}
 use Rattle.search.specs.Scene.{step_of}
 use Rattle.search.specs.declared.Step.{Step}
@@ -19,10 +20,16 @@ pub record StepAsked (c : Cluster) (words profiles : List ℕ) (loads : Loads) :
   pub loads-of : LoadsOf c words profiles loads.load loads.copies
 
 -- With an index that has its blocks in order and no placement yet.
-pub record OrderedAsked (c : Cluster) (words profiles index : List ℕ) (loads : Loads) : Type 0 where
+pub record OrderedAsked (c : Cluster) (words profiles : List ℕ) (index : Index) (loads : Loads) : Type 0 where
   pub asked : StepAsked c words profiles loads
   pub ordered : Ordered c profiles index
   pub cleared : Cleared index
+
+-- With its index, in which the loads stand.
+pub record LookAsked (c : Cluster) (words profiles : List ℕ) (index : Index) (loads : Loads) : Type 0 where
+  pub asked : StepAsked c words profiles loads
+  pub indexed : Indexed c words profiles index
+  pub loads-in : index.loads ≡ loads.load
 
 -- A copy at a placement with these loads that is to pass from m to n.
 pub record ShiftAsked (words profiles : List ℕ) (loads : Loads) (m n i : ℕ) : Type 0 where

@@ -7,12 +7,14 @@ ghost use Rattle.model.specs.Steps.{run};
 ghost use Rattle.cluster.specs.Blocks.{PlacementOf};
 ghost use Rattle.index.specs.Index.{Ordered};
 ghost use Rattle.search.specs.Scene.{NextFound};
-ghost use Rattle.balance.specs.Standing.{StepAsked, OrderedAsked, ShiftAsked, Shifted, FollowAsked, Followed, Stepped, ran_of};
+ghost use Rattle.balance.specs.Standing.{StepAsked, OrderedAsked, LookAsked, ShiftAsked, Shifted, FollowAsked, Followed, Stepped, ran_of};
 
 use cluster::Cluster;
-use index::INDEX_LENGTH;
+use held::Held;
+use index::Index;
 use loads::Loads;
 use search::Step;
+use transfers::Scene;
 
 // How a run ended, at rest or with its step limit used and a step left, and the number of steps taken.
 #[derive(Clone, Copy)]
@@ -21,11 +23,31 @@ pub enum Ran {
     Spent(u32),
 }
 
+// The next step of a placement, with its index and its loads.
+fn find_next<'a>(
+    words: &'a [u64],
+    profiles: &'a [u64],
+    index: &'a Index,
+    loads: Loads,
+    cluster: Cluster,
+) -> Option<Step>
+    requires { LookAsked cluster words.now profiles.now index.now loads }
+    ensures { NextFound cluster words.now profiles.now result }
+{
+    let held = Held {
+        words,
+        profiles,
+        cluster,
+    };
+    let scene = Scene { held, index };
+    search::find(&scene, &loads.copies)
+}
+
 // The next step, not taken; the index is made anew from the words and the loads.
 fn look(
     words: &[u64],
     profiles: &[u64],
-    index: &mut [u64],
+    index: &mut Index,
     loads: Loads,
     cluster: Cluster,
 ) -> Option<Step>
@@ -33,9 +55,10 @@ fn look(
     ensures { NextFound cluster words.now profiles.now result
         × Ordered cluster profiles.now index.new }
 {
-    index::fill(index, words, cluster);
-    index::put_loads(index, &loads.load);
-    search::find(words, profiles, index, &loads.copies, cluster)
+    index.fill(words, cluster);
+    let load = loads.load;
+    index.loads = load;
+    find_next(words, profiles, index, loads, cluster)
 }
 
 // The copy of block i on m passes to n, in the words and in the loads.
@@ -67,7 +90,7 @@ fn follow(words: &mut [u64], profiles: &[u64], loads: Loads, step: Step) -> Load
 fn run_ordered(
     words: &mut [u64],
     profiles: &[u64],
-    index: &mut [u64],
+    index: &mut Index,
     start: Loads,
     cluster: Cluster,
     limit: u32,
@@ -82,7 +105,7 @@ fn run_ordered(
             return Ran::Rested(steps);
         };
         loads = follow(words, profiles, loads, step);
-        index::clear(index);
+        index.clear();
     }
     match look(words, profiles, index, loads, cluster) {
         None => Ran::Rested(limit),
@@ -96,9 +119,9 @@ pub fn step(words: &mut [u64], profiles: &[u64], loads: Loads, cluster: Cluster)
     ensures { (p : Plan) (count : ℕ → ℕ) → PlacementOf p count cluster words.old profiles.now
         → Stepped p words.old words.new result }
 {
-    let mut index = [0u64; INDEX_LENGTH];
-    index::start(&mut index[..], profiles, cluster);
-    let step = look(words, profiles, &mut index[..], loads, cluster)?;
+    let mut index = Index::empty();
+    index.start(profiles, cluster);
+    let step = look(words, profiles, &mut index, loads, cluster)?;
     follow(words, profiles, loads, step);
     Some(step)
 }
@@ -109,7 +132,7 @@ pub fn run(words: &mut [u64], profiles: &[u64], loads: Loads, cluster: Cluster, 
     ensures { (p : Plan) (count : ℕ → ℕ) → PlacementOf p count cluster words.old profiles.now
         → ran_of result words.new ≡ run p limit words.old }
 {
-    let mut index = [0u64; INDEX_LENGTH];
-    index::start(&mut index[..], profiles, cluster);
-    run_ordered(words, profiles, &mut index[..], loads, cluster, limit)
+    let mut index = Index::empty();
+    index.start(profiles, cluster);
+    run_ordered(words, profiles, &mut index, loads, cluster, limit)
 }

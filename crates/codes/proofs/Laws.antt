@@ -10,8 +10,8 @@ use Rattle.model.specs.Refusal.{verdict_code}
 use Rattle.model.specs.Calls.{OutcomeOver, answered, refuse}
 use Rattle.refusal.specs.declared.Refusal.{Refusal}
 use Rattle.refusal.specs.Rows.{number_of, code_of}
-use Rattle.header.specs.declared.Header.{Header}
-use Rattle.plan.specs.Reading.{verdict_of}
+use Rattle.plan.specs.declared.passed.Accepted.{Accepted}
+use Rattle.plan.specs.Verdict.{verdict_of}
 use Rattle.interface.specs.Interface.{Effect, effect_of, short_out, over, no_numbers, one_number, replied, effect}
 use Rattle.codes.specs.Told.{Told, NumberTold}
 
@@ -86,7 +86,7 @@ module _ {I : Type 0} (outcome : Result ℕ Refusal → List I → OutcomeOver I
       }
 
 -- a plan's verdict, as its code
-pub verdict-told : (bytes : List ℕ) (reading : Result Header Refusal) → code_of reading ≡ verdict_code (verdict_of bytes reading)
+pub verdict-told : (reading : Result Accepted Refusal) → code_of reading ≡ verdict_code (verdict_of reading)
 unfolding verdict_code verdict_of
-verdict-told bytes (Err refusal) = refl
-verdict-told bytes (Ok h) = refl
+verdict-told (Err refusal) = refl
+verdict-told (Ok plan) = refl

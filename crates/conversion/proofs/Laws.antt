@@ -1,30 +1,30 @@
 -- Laws of the new file's pieces.
 -- Assumes nothing.
-use mathlib.Core.Path.{◌≡◌, ap}
+use mathlib.Core.Path.{◌≡◌}
 use mathlib.Core.List.{List, ◌++◌}
 use Prim.Native.Nat.{ℕ}
 use Rattle.order.specs.Table.{joined}
-use Rattle.order.proofs.Tables.{joined-cong}
-use Rattle.model.specs.Plan.{Format, format_of, format_in, block_in}
-use Rattle.model.specs.Refusal.{judge, accepted}
+use Rattle.model.specs.Plan.{Format, block_of, format_of, plan_in}
 use Rattle.model.specs.Writing.{header_bytes, record_bytes, plan_bytes}
 use Rattle.model.specs.Conversion.{written_version, converted}
 use Rattle.header.specs.declared.Header.{Header}
+use Rattle.records.proofs.Laws.{records-count}
 use Rattle.encoding.specs.Pieces.{header_with}
+use Rattle.plan.specs.declared.passed.Accepted.{Accepted}
 use Rattle.plan.specs.Reading.{plan_of}
-use Rattle.plan.proofs.Laws.{plan_of-blocks, accepted-of, plan_in-blocks, plan_in-records}
+use Rattle.plan.specs.Verdict.{accepted_plan}
+use Rattle.plan.proofs.Laws.{plan_of-blocks, accepted-of}
 use Rattle.conversion.specs.Pieces.{new_records}
 
 -- ── new_records ─────────────────────────────────────────────────────────────────────────────────────────────────────────
 
+-- The new form of block i.
+abbrev pub renewed : Format → List ℕ → ℕ → List ℕ
+renewed new bytes i = record_bytes new (block_of (plan_in bytes) i)
+
 -- an accepted plan's new records are made from the old ones
-pub new_records-read : (bytes : List ℕ) (h : Header) (new old : Format) → judge bytes ≡ accepted (plan_of bytes h) → old ≡ format_in bytes
-    → new_records new (plan_of bytes h) ≡ joined h.cluster.blocks (λ i. record_bytes new (block_in old bytes i))
-new_records-read bytes h new old e is =
-    let of = accepted-of bytes h e in
-    let count = plan_in-blocks bytes h of in
-    rw (of.held, ← count)
-    (joined-cong h.cluster.blocks _ _ (λ i l. ap (record_bytes new) (plan_in-records bytes old is i (rw count at l))))
+pub new_records-read : (a : Accepted) (new : Format) → new_records new (accepted_plan a) ≡ joined a.records.blocks (renewed new a.records.bytes.now)
+new_records-read a new = rw ((accepted-of a.records.bytes.now a.header a.accepts).held, records-count a.records)
 
 -- ── converted ──────────────────────────────────────────────────────────────────────────────────────────────────────────
 

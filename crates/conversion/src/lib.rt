@@ -2,14 +2,17 @@
 #![tactic(auto)]
 
 ghost use Rattle.std.specs.Prelude.{◌≡◌};
-ghost use Rattle.model.specs.Conversion.{converted, convert_call};
-ghost use Rattle.text.specs.Pasted.{Put};
+ghost use Rattle.model.specs.Plan.{format_of};
+ghost use Rattle.model.specs.Refusal.{accepted};
+ghost use Rattle.model.specs.Conversion.{written_version, converted, convert_verdict, convert_call};
+ghost use Rattle.text.specs.Pasted.{Room, Put};
 ghost use Rattle.header.specs.Format.{as_format};
-ghost use Rattle.plan.specs.Reading.{plan_of};
-ghost use Rattle.conversion.specs.Pieces.{new_records, RecordsAsked, PlanAsked};
-ghost use Rattle.conversion.specs.Entries.{convert_outcome, Convertible};
+ghost use Rattle.plan.specs.Verdict.{accepted_plan};
+ghost use Rattle.conversion.specs.Pieces.{new_records};
+ghost use Rattle.conversion.specs.Entries.{convert_outcome};
 
-use header::{Format, Header};
+use header::Format;
+use plan::Accepted;
 use refusal::Refusal;
 
 // The last version that is taken, and the one that is written.
@@ -18,39 +21,36 @@ const CONVERTED_VERSION: usize = 2;
 const WRITTEN_VERSION: usize = 3;
 
 // Puts the records of an accepted plan in file order.
-fn put_records(bytes: &[u8], h: Header, new: Format, buffer: &mut [u8], at: usize) -> usize
-    requires { RecordsAsked bytes.now h (as_format new) at buffer.old }
-    ensures { Put at (new_records (as_format new) (plan_of bytes.now h)) buffer.old buffer.new result }
+fn put_records(plan: &Accepted, new: Format, buffer: &mut [u8], at: usize) -> usize
+    requires { Room at (new_records (as_format new) (accepted_plan plan.now)) buffer.old }
+    ensures { Put at (new_records (as_format new) (accepted_plan plan.now)) buffer.old buffer.new result }
 {
-    let old = header::format_in(bytes);
-    let cluster = h.cluster;
     let mut next = at;
-    for i in 0..cluster.blocks {
-        next = encoding::put_record(bytes, old, new, i, buffer, next);
+    for i in 0..plan.records.blocks {
+        next = encoding::put_record(&plan.records, new, i, buffer, next);
     }
     next
 }
 
 // Puts the new file of an accepted plan.
-fn put_plan(bytes: &[u8], h: Header, new: Format, buffer: &mut [u8]) -> usize
-    requires { PlanAsked bytes.now h (as_format new) buffer.old }
-    ensures { Put 0 (converted (plan_of bytes.now h)) buffer.old buffer.new result }
+fn put_plan(plan: &Accepted, new: Format, buffer: &mut [u8]) -> usize
+    requires { (as_format new ≡ format_of written_version) × Room 0 (converted (accepted_plan plan.now)) buffer.old }
+    ensures { Put 0 (converted (accepted_plan plan.now)) buffer.old buffer.new result }
 {
-    let next = encoding::put_header(h, WRITTEN_VERSION, new, buffer);
-    put_records(bytes, h, new, buffer, next)
+    let next = encoding::put_header(plan.header, WRITTEN_VERSION, new, buffer);
+    put_records(plan, new, buffer, next)
 }
 
-// Converts an accepted plan: refused where the buffer is shorter than the new file.
-fn convert_accepted(bytes: &[u8], h: Header, buffer: &mut [u8]) -> Result<usize, Refusal>
-    requires { Convertible bytes.now h }
-    ensures { convert_outcome result buffer.new ≡ convert_call bytes.now buffer.old }
+// Converts an accepted plan that the converter takes: refused where the buffer is shorter than the new file.
+fn convert_accepted(plan: &Accepted, buffer: &mut [u8]) -> Result<usize, Refusal>
+    requires { convert_verdict plan.now.records.bytes.now ≡ accepted (accepted_plan plan.now) }
+    ensures { convert_outcome result buffer.new ≡ convert_call plan.now.records.bytes.now buffer.old }
 {
-    let cluster = h.cluster;
     let new = header::format_of(WRITTEN_VERSION);
-    if buffer.len() < header::record_at(new, cluster.blocks) {
+    if buffer.len() < new.record_at(plan.records.blocks) {
         return Err(Refusal::ShortBuffer);
     }
-    Ok(put_plan(bytes, h, new, buffer))
+    Ok(put_plan(plan, new, buffer))
 }
 
 // Converts any bytes' plan into a lent buffer. A refusal writes nothing.
@@ -58,6 +58,6 @@ pub fn convert(bytes: &[u8], buffer: &mut [u8]) -> Result<usize, Refusal>
     ensures { convert_outcome result buffer.new ≡ convert_call bytes.now buffer.old }
 {
     header::check_mark(bytes, CONVERTED_VERSION)?;
-    let h = plan::read(bytes)?;
-    convert_accepted(bytes, h, buffer)
+    let plan = plan::read(bytes)?;
+    convert_accepted(&plan, buffer)
 }

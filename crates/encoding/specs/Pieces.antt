@@ -1,12 +1,11 @@
 -- The pieces of a plan's file, and what their writers are given.
 use Rattle.std.specs.Prelude.{◌≡◌, List, ◌++◌, ℕ, ◌≤◌, length, get_or}
 use Rattle.order.specs.Table.{joined}
-use Rattle.model.specs.Plan.{Format, block_in}
+use Rattle.model.specs.Plan.{Format}
 use Rattle.model.specs.Refusal.{mark}
-use Rattle.model.specs.Writing.{bytes_of, record_bytes}
+use Rattle.model.specs.Writing.{bytes_of}
 use Rattle.text.specs.Pasted.{Room}
 use Rattle.header.specs.declared.Header.{Header}
-use Rattle.records.specs.Records.{RecordIn}
 
 -- Numbers one after the other, each in its width.
 abbrev pub number_at : List ℕ → List ℕ → ℕ → List ℕ
@@ -32,8 +31,3 @@ pub record NumbersAsked (at : ℕ) (widths numbers buffer : List ℕ) : Type 0 w
   pub few : length widths ≤ 8
   pub as_many : length numbers ≡ length widths
   pub room : Room at (numbers_bytes widths numbers) buffer
-
--- A record that lies in the bytes, and room for its new form.
-pub record RecordAsked (bytes : List ℕ) (old new : Format) (i at : ℕ) (buffer : List ℕ) : Type 0 where
-  pub inside : RecordIn bytes old i
-  pub room : Room at (record_bytes new (block_in old bytes i)) buffer

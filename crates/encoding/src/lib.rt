@@ -1,13 +1,15 @@
 // A plan's fields as bytes, put into a lent buffer: numbers in their widths, a header, a record. Each answers the position past its piece.
 #![tactic(auto)]
 
-ghost use Rattle.model.specs.Plan.{block_in};
+ghost use Rattle.std.specs.Prelude.{◌<◌};
+ghost use Rattle.model.specs.Plan.{block_of, plan_in};
 ghost use Rattle.model.specs.Writing.{bytes_of, record_bytes};
 ghost use Rattle.text.specs.Pasted.{Room, Put};
 ghost use Rattle.header.specs.Format.{as_format};
-ghost use Rattle.encoding.specs.Pieces.{numbers_bytes, header_with, NumbersAsked, RecordAsked};
+ghost use Rattle.encoding.specs.Pieces.{numbers_bytes, header_with, NumbersAsked};
 
 use header::{Format, Header};
+use records::Records;
 
 // The mark.
 const MARK: u64 = 0x42504C;
@@ -57,17 +59,10 @@ pub fn put_header(h: Header, version: usize, new: Format, buffer: &mut [u8]) -> 
     put_numbers(buffer, 0, &widths, &numbers)
 }
 
-// Puts block i of the bytes, which have the old format, as a record of the new one.
-pub fn put_record(
-    bytes: &[u8],
-    old: Format,
-    new: Format,
-    i: usize,
-    buffer: &mut [u8],
-    at: usize,
-) -> usize
-    requires { RecordAsked bytes.now (as_format old) (as_format new) i at buffer.old }
-    ensures { Put at (record_bytes (as_format new) (block_in (as_format old) bytes.now i)) buffer.old buffer.new result }
+// Puts block i of the records as a record of the new format.
+pub fn put_record(records: &Records, new: Format, i: usize, buffer: &mut [u8], at: usize) -> usize
+    requires { (i < records.now.blocks) × Room at (record_bytes (as_format new) (block_of (plan_in records.now.bytes.now) i)) buffer.old }
+    ensures { Put at (record_bytes (as_format new) (block_of (plan_in records.now.bytes.now) i)) buffer.old buffer.new result }
 {
     let widths = [
         new.popularity_width,
@@ -76,10 +71,10 @@ pub fn put_record(
         new.pair_byte_width,
     ];
     let numbers = [
-        records::popularity(bytes, old, i),
-        records::min_replicas(bytes, old, i) as u64,
-        records::min_domains(bytes, old, i) as u64,
-        records::pair_byte(bytes, old, i) as u64,
+        records.popularity(i),
+        records.min_replicas(i) as u64,
+        records.min_domains(i) as u64,
+        records.pair_byte(i) as u64,
     ];
     put_numbers(buffer, at, &widths, &numbers)
 }

@@ -1,5 +1,4 @@
--- Every version's format fits, and nothing else but the code that makes a format looks at a version's numbers. What rows 6 and 7 say of a
--- file that is shorter than its header.
+-- What rows 6 and 7 say of a file that is shorter than its header.
 -- Assumes nothing.
 use mathlib.Core.Path.{◌≡◌, ap, sym, ◌∙◌}
 use mathlib.Core.List.{List}
@@ -7,26 +6,11 @@ use Prim.Native.Nat.{ℕ, ◌<◌, ◌≤◌}
 use native.Mathlib.Decide.{dec_lt}
 use native.Mathlib.Omega.{arith}
 use borrow.Author.Tests.{lt-ltb, le-ltb, ne_eqb}
-use lib.Dec.{ltb}
 use lib.ListN.{length}
-use Rattle.order.proofs.Booleans.{cond-all}
-use Rattle.model.specs.Plan.{Format, format_of, format_in, block_count_in, header_length, record_at}
+use Rattle.model.specs.Plan.{Format, format_in, block_count_in, header_length, record_at}
 use Rattle.model.specs.Refusal.{max_blocks, check6, check7}
-use Rattle.theory.proofs.Plan.{format_of-popularity, format_of-feeds}
 use Rattle.theory.proofs.Refusal.{check6-short}
-use Rattle.header.specs.Format.{FormatFits}
 use Rattle.header.specs.Header.{counted_blocks}
-
-pub format_of-fits : (version : ℕ) → FormatFits (format_of version)
-unfolding format_of
-format_of-fits version =
-    record {
-      feeds-max = format_of-feeds version;
-      popularity-max = format_of-popularity version;
-      replicas-max = omega arith;
-      domains-max = omega arith;
-      pair-max = cond-all (λ n. n ≤ 1) (ltb version 2) 0 1 (λ e. omega arith) (omega arith);
-    }
 
 -- ── counted_blocks ────────────────────────────────────────────────────────────────────────────────────────────────────────────
 

@@ -1,14 +1,12 @@
 -- What the reader of the header says, in the model's terms.
 use Rattle.std.specs.Prelude.{◌≡◌, cond, List, ℕ, ◌<◌, ◌≤◌, ltb, length, Result, Ok, Err}
 use Rattle.model.specs.Plan.{mark_in, version_in, racks_in, rack_size_in, feeds_in, capacity_in, budget_in, block_count_in, common_length, header_length, Format as ModelFormat, format_in, record_at, plan_in}
-use Rattle.model.specs.Refusal.{or_else, max_blocks, check1, check2, check3, check4, check22, check5, check6, check7, plan_refusal, refusal}
+use Rattle.model.specs.Refusal.{or_else, check1, check2, check3, check4, check22, check5, check6, check7, plan_refusal, refusal}
 use Rattle.refusal.specs.declared.Refusal.{Refusal}
 use Rattle.refusal.specs.Rows.{number_of}
 use Rattle.cluster.specs.declared.Cluster.{Cluster}
 use Rattle.cluster.specs.Cluster.{InRange}
 use Rattle.header.specs.declared.Header.{Header}
-use Rattle.header.specs.declared.Format.{Format}
-use Rattle.header.specs.Format.{as_format, FormatFits}
 
 -- The header's fields, as the structs have them, with so many blocks.
 abbrev pub cluster_counted : ℕ → List ℕ → Cluster
@@ -31,12 +29,6 @@ header_in bytes = header_counted (block_count_in bytes) bytes
 unfoldable pub counted_blocks : List ℕ → ℕ
 counted_blocks bytes = cond (ltb (length bytes) (header_length (format_in bytes))) 0 (block_count_in bytes)
 
--- The common bytes, and their format.
-pub record FieldsAsked (bytes : List ℕ) (f : Format) : Type 0 where
-  pub long : common_length ≤ length bytes
-  pub format-is : as_format f ≡ format_in bytes
-  pub fits : FormatFits (as_format f)
-
 -- Each number that check 4 multiplies fits its byte.
 pub record Narrow (h : Header) : Type 0 where
   pub racks-narrow : h.cluster.racks < 256
@@ -46,11 +38,7 @@ pub record Narrow (h : Header) : Type 0 where
 abbrev pub HallRows : ℕ → ℕ → ℕ → ℕ → ℕ → Type 0
 HallRows racks size feeds capacity r = (later : ℕ) → check4 racks size (check22 racks feeds (check5 capacity later)) ≡ or_else r later
 
--- The code r of checks 6 and 7, for a count that is not above its limit where one of its bytes is missing.
-pub record SizesAsked (f : ModelFormat) (blocks size : ℕ) : Type 0 where
-  pub fits : FormatFits f
-  pub counted : size < header_length f → blocks ≤ max_blocks
-
+-- The code r of checks 6 and 7, whatever the later rows say.
 abbrev pub SizeRows : ModelFormat → ℕ → ℕ → ℕ → Type 0
 SizeRows f blocks size r = (later : ℕ) → check6 f size blocks (check7 f size blocks later) ≡ or_else r later
 

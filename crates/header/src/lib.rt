@@ -2,18 +2,22 @@
 #![tactic(auto)]
 
 ghost use Rattle.std.specs.Prelude.{◌≡◌, ◌+◌, ◌<◌, ◌≤◌, ◌^◌, length};
-ghost use Rattle.model.specs.Plan.{field, common_length, format_of, format_in, feeds_in, record_at};
+ghost use Rattle.model.specs.Plan.{field, common_length, format_of, format_in, header_length};
 ghost use Rattle.model.specs.Refusal.{max_blocks};
 ghost use Rattle.refusal.specs.Rows.{code_of};
-ghost use Rattle.header.specs.Format.{as_format, FormatFits};
-ghost use Rattle.header.specs.Header.{counted_blocks, header_counted, HallRows, SizeRows, Narrow, FieldsAsked, SizesAsked, MarkChecked, HeaderChecked};
+ghost use Rattle.header.specs.Format.{as_format};
+ghost use Rattle.header.specs.Header.{HallRows, SizeRows, MarkChecked, HeaderChecked};
+
+mod formats;
+mod front;
 
 use cluster::{Cluster, MAX_BLOCKS, MAX_MACHINES};
+use formats::COMMON_LENGTH;
+pub use formats::Format;
+use front::Fields;
 use refusal::Refusal;
 
-// The bytes that every version's header has, the mark, the latest version, and the most copies that a machine can be said to hold.
-const COMMON_LENGTH: usize = 15;
-
+// The mark, the latest version, and the most copies that a machine can be said to hold.
 const MARK: usize = 0x42504C;
 
 const LATEST_VERSION: usize = 4;
@@ -26,28 +30,6 @@ pub struct Header {
     pub version: usize,
     pub cluster: Cluster,
     pub budget: usize,
-}
-
-// The widths of the fields in which versions differ. A record's fields stand one after the other.
-#[derive(Clone, Copy)]
-pub struct Format {
-    pub feeds_width: usize,
-    pub popularity_width: usize,
-    pub min_replicas_width: usize,
-    pub min_domains_width: usize,
-    pub pair_byte_width: usize,
-}
-
-// Where record i stands.
-pub fn record_at(format: Format, i: usize) -> usize
-    requires { FormatFits (as_format format) × (i ≤ max_blocks) }
-    ensures { (result ≡ record_at (as_format format) i) × (result ≤ 8192) }
-{
-    let record = format.popularity_width
-        + format.min_replicas_width
-        + format.min_domains_width
-        + format.pair_byte_width;
-    COMMON_LENGTH + format.feeds_width + record * i
 }
 
 // The number in the `width` bytes from `at` on, high byte first.
@@ -76,7 +58,7 @@ pub fn byte_at(bytes: &[u8], at: usize, width: usize) -> usize
 
 // The format of a version's file: F from version 4 on, a popularity of three bytes before version 3, and a pair byte from version 2 on.
 pub fn format_of(version: usize) -> Format
-    ensures { (as_format result ≡ format_of version) × FormatFits (as_format result) }
+    ensures { as_format result ≡ format_of version }
 {
     Format {
         feeds_width: usize::from(version >= 4),
@@ -90,7 +72,7 @@ pub fn format_of(version: usize) -> Format
 // The format of these bytes.
 pub fn format_in(bytes: &[u8]) -> Format
     requires { common_length ≤ length bytes.now }
-    ensures { (as_format result ≡ format_in bytes.now) × FormatFits (as_format result) }
+    ensures { as_format result ≡ format_in bytes.now }
 {
     format_of(field_at(bytes, 3, 2))
 }
@@ -131,58 +113,16 @@ fn check_hall(racks: usize, rack_size: usize, feeds: usize, capacity: usize) -> 
 
 // Checks 6 and 7.
 fn check_size(format: Format, blocks: usize, size: usize) -> Result<(), Refusal>
-    requires { SizesAsked (as_format format) blocks size }
+    requires { size < header_length (as_format format) → blocks ≤ max_blocks }
     ensures { SizeRows (as_format format) blocks size (code_of result) }
 {
     if blocks > MAX_BLOCKS {
         return Err(Refusal::Blocks);
     }
-    if size != record_at(format, blocks) {
+    if size != format.record_at(blocks) {
         return Err(Refusal::FileLength);
     }
     Ok(())
-}
-
-// F, which is R where the file does not have it.
-fn feeds_in(bytes: &[u8], format: Format) -> usize
-    requires { FieldsAsked bytes.now format }
-    ensures { result ≡ feeds_in bytes.now }
-{
-    if format.feeds_width == 0 {
-        return field_at(bytes, 5, 1);
-    }
-    field_at(bytes, 7, format.feeds_width)
-}
-
-// B, which is 0 where one of its bytes is missing: row 6 is not judged on the other one.
-fn count_in(bytes: &[u8], format: Format) -> usize
-    requires { FieldsAsked bytes.now format }
-    ensures { result ≡ counted_blocks bytes.now }
-{
-    if bytes.len() < COMMON_LENGTH + format.feeds_width {
-        return 0;
-    }
-    field_at(bytes, 13 + format.feeds_width, 2)
-}
-
-// The header's fields.
-fn fields(bytes: &[u8], format: Format) -> Header
-    requires { FieldsAsked bytes.now format }
-    ensures { (result ≡ header_counted (counted_blocks bytes.now) bytes.now) × Narrow result }
-{
-    let shift = format.feeds_width;
-    let cluster = Cluster {
-        racks: field_at(bytes, 5, 1),
-        rack_size: field_at(bytes, 6, 1),
-        feeds: feeds_in(bytes, format),
-        capacity: field_at(bytes, 7 + shift, 2),
-        blocks: count_in(bytes, format),
-    };
-    Header {
-        version: field_at(bytes, 3, 2),
-        cluster,
-        budget: field_at(bytes, 9 + shift, 4),
-    }
 }
 
 // Checks 1 to 4, 22 and 5 to 7, in this order, or the header.
@@ -191,7 +131,7 @@ pub fn read(bytes: &[u8]) -> Result<Header, Refusal>
 {
     check_mark(bytes, LATEST_VERSION)?;
     let format = format_in(bytes);
-    let h = fields(bytes, format);
+    let h = Fields { bytes, format }.header();
     let c = h.cluster;
     check_hall(c.racks, c.rack_size, c.feeds, c.capacity)?;
     check_size(format, c.blocks, bytes.len())?;

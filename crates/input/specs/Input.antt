@@ -1,11 +1,12 @@
 -- What came of standard input, and how this bears on the whole input, however long.
-use Rattle.std.specs.Prelude.{◌≡◌, Bool, false, nat_lt, List, ℕ, ◌≤◌, length, take, Option, None, Some, Result, Ok, Err}
+use Rattle.std.specs.Prelude.{◌≡◌, Bool, nat_lt, List, ℕ, ◌≤◌, length, take, Option, None, Some, Result, Ok, Err}
 use Rattle.model.specs.Listing.{input_room}
 
--- Whether the answer of the read after a short count says that a read has failed: at the end of the input it gives nothing.
-unfoldable pub failed_by : Option ℕ → Bool
-failed_by None = false
-failed_by (Some more) = nat_lt 0 more
+-- Whether the answer of the read after so many bytes says that a read has failed: at the end of the input it gives nothing, and only after
+-- a full buffer none is made.
+unfoldable pub failed_by : ℕ → Option ℕ → Bool
+failed_by size None = nat_lt size input_room
+failed_by size (Some more) = nat_lt 0 more
 
 -- What f gives for the bytes that came; `none` where a read failed.
 unfoldable pub on_input : {A E : Type 0} → A → (List ℕ → A) → Result (List ℕ) E → A

@@ -1,7 +1,7 @@
 // Standard input, read whole or up to one byte more than any plan has.
 #![tactic(auto)]
 
-ghost use Rattle.std.specs.Prelude.{◌≡◌, ◌≢◌, ◌<◌, ◌≤◌, [], List, ℕ, Some, length, take, IfOk, IfSome, OnOk};
+ghost use Rattle.std.specs.Prelude.{◌≡◌, ◌≢◌, ◌<◌, ◌≤◌, [], List, ℕ, Some, false, length, take, IfOk, IfSome, OnOk};
 ghost use Rattle.std.specs.Io.KnownBytes.{Consumes, IsAtEnd};
 ghost use Rattle.std.specs.IoError.{error_kind};
 ghost use Rattle.model.specs.Listing.{input_room};
@@ -14,11 +14,12 @@ use std::marker::Model;
 // One byte more than the largest plan has. Of a longer input no more is read: it is judged as it would be in full.
 const INPUT_ROOM: usize = 7185;
 
-// The bytes that came: the first `size` of the buffer.
+// The bytes that came, the first `size` of the buffer, and what the read after them gave: nothing, or none was made after a full buffer.
 #[derive(Drop)]
 pub struct Source {
     buffer: [u8; INPUT_ROOM],
     size: usize,
+    next: Option<usize>,
 }
 
 impl Model for Source {
@@ -26,7 +27,7 @@ impl Model for Source {
 
     ghost view = { λ s. take s.size s.buffer };
 
-    ghost invariant = { λ s. s.size ≤ length s.buffer };
+    ghost invariant = { λ s. (s.size ≤ length s.buffer) × (failed_by s.size s.next ≡ false) };
 }
 
 impl Source {
@@ -38,7 +39,7 @@ impl Source {
     }
 }
 
-// Reads until the part is full or nothing more comes; so many bytes came.
+// Reads until the part is full or nothing more comes; so many bytes came. The loop stays a `while`: a read gives as many as it has.
 fn read_full<R: Read>(reader: &mut R, part: &mut [u8]) -> io::Result<usize>
     ensures within { IfOk result (λ size. size ≤ length part.new) }
     ensures came { IfOk result
@@ -70,13 +71,12 @@ fn read_on<R: Read>(reader: &mut R, size: usize) -> io::Result<Option<usize>>
     Ok(Some(more))
 }
 
-// Whether the read after the end says that one has failed: it gave more.
-// A `match`: with `is_some_and` the proof stayed open, since it could not name what the closure promises.
-fn gave_more(next: Option<usize>) -> bool
-    ensures { result ≡ failed_by next }
+// Whether the read after so many bytes says that one has failed: it gave more, or it was not made after a short count.
+fn has_failed(size: usize, next: Option<usize>) -> bool
+    ensures { result ≡ failed_by size next }
 {
     match next {
-        None => false,
+        None => size < INPUT_ROOM,
         Some(more) => more > 0,
     }
 }
@@ -89,10 +89,10 @@ pub fn fill<R: Read>(reader: &mut R) -> io::Result<Source>
     let mut buffer = [0u8; INPUT_ROOM];
     let size = read_full(reader, &mut buffer)?;
     let next = read_on(reader, size)?;
-    if gave_more(next) {
+    if has_failed(size, next) {
         return Err(read_failed());
     }
-    Ok(Source { buffer, size })
+    Ok(Source { buffer, size, next })
 }
 
 // The error to tell of where the reads say that one failed.

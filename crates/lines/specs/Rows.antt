@@ -4,10 +4,9 @@ use Rattle.order.specs.Table.{joined}
 use Rattle.model.specs.Refusal.{max_machines}
 use Rattle.model.specs.Listing.{line, plan_word, block_word, holders, end_word}
 use Rattle.cluster.specs.declared.Cluster.{Cluster}
-use Rattle.cluster.specs.Blocks.{share_in, count_in, PlacementFits}
+use Rattle.cluster.specs.Blocks.{share_in, count_in}
 use Rattle.balance.specs.declared.Ran.{Ran}
 use Rattle.balance.specs.declared.Ran.TheVariants.{Rested, Spent}
-use Rattle.text.specs.Pasted.{Room}
 use Rattle.lines.specs.declared.FirstRun.{FirstRun}
 
 -- A block line from the block's numbers and word, and from its profile.
@@ -41,13 +40,3 @@ end_row r = ended_row r.ran r
 
 abbrev pub all_rows : Cluster → List ℕ → List ℕ → FirstRun → List ℕ
 all_rows c profiles words r = (first_row c ++ rows c profiles words) ++ end_row r
-
--- A placement with its profiles, and room for its block lines.
-pub record RowsAsked (at : ℕ) (c : Cluster) (profiles words text : List ℕ) : Type 0 where
-  pub fits : PlacementFits c words profiles
-  pub room : Room at (rows c profiles words) text
-
--- Room for every line.
-pub record LinesAsked (c : Cluster) (profiles words : List ℕ) (r : FirstRun) (text : List ℕ) : Type 0 where
-  pub fits : PlacementFits c words profiles
-  pub room : Room 0 (all_rows c profiles words r) text

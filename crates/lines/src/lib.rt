@@ -4,10 +4,10 @@
 ghost use Rattle.model.specs.Refusal.{max_machines};
 ghost use Rattle.model.specs.Listing.{fields, holders};
 ghost use Rattle.text.specs.Pasted.{Room, Put};
-ghost use Rattle.lines.specs.Rows.{block_row, rows, number_end, end_row, all_rows, RowsAsked, LinesAsked};
+ghost use Rattle.lines.specs.Rows.{block_row, rows, number_end, end_row, all_rows};
 
 use balance::Ran;
-use cluster::Cluster;
+use held::Held;
 use loads::LoadReport;
 
 // How the run from the first placement ended, the report on the placement after it, and the largest share.
@@ -42,24 +42,18 @@ fn put_block(text: &mut [u8], at: usize, i: usize, profile: u64, word: u64) -> u
     ];
     let named = text::put_word(text, at, b"block");
     let listed = text::put_fields(text, named, &numbers);
-    let held = put_holders(text, listed, word);
-    text::put_byte(text, held, b'\n')
+    let ended = put_holders(text, listed, word);
+    text::put_byte(text, ended, b'\n')
 }
 
 // Puts the block lines in file order.
-fn put_blocks(
-    text: &mut [u8],
-    at: usize,
-    profiles: &[u64],
-    words: &[u64],
-    cluster: Cluster,
-) -> usize
-    requires { RowsAsked at cluster profiles.now words.now text.old }
-    ensures { Put at (rows cluster profiles.now words.now) text.old text.new result }
+fn put_blocks(text: &mut [u8], at: usize, held: &Held) -> usize
+    requires { Room at (rows held.now.cluster held.now.profiles.now held.now.words.now) text.old }
+    ensures { Put at (rows held.now.cluster held.now.profiles.now held.now.words.now) text.old text.new result }
 {
     let mut next = at;
-    for i in 0..cluster.blocks {
-        next = put_block(text, next, i, profiles[i], words[i]);
+    for i in 0..held.cluster.blocks {
+        next = put_block(text, next, i, held.profiles[i], held.words[i]);
     }
     next
 }
@@ -92,22 +86,17 @@ fn put_last(text: &mut [u8], at: usize, made: FirstRun) -> usize
 }
 
 // Puts all lines.
-pub fn put_lines(
-    text: &mut [u8],
-    cluster: Cluster,
-    profiles: &[u64],
-    words: &[u64],
-    made: FirstRun,
-) -> usize
-    requires { LinesAsked cluster profiles.now words.now made text.old }
-    ensures { Put 0 (all_rows cluster profiles.now words.now made) text.old text.new result }
+pub fn put_lines(text: &mut [u8], held: &Held, made: FirstRun) -> usize
+    requires { Room 0 (all_rows held.now.cluster held.now.profiles.now held.now.words.now made) text.old }
+    ensures { Put 0 (all_rows held.now.cluster held.now.profiles.now held.now.words.now made) text.old text.new result }
 {
+    let cluster = held.cluster;
     let numbers = [
         cluster.racks as u64,
         cluster.rack_size as u64,
         cluster.blocks as u64,
     ];
     let first = text::put_line(text, 0, b"plan", &numbers);
-    let next = put_blocks(text, first, profiles, words, cluster);
+    let next = put_blocks(text, first, held);
     put_last(text, next, made)
 }

@@ -3,60 +3,70 @@
 
 ghost use Rattle.std.specs.Prelude.{◌≡◌, ◌<◌, ◌≤◌, length, MatchResult};
 ghost use Rattle.model.specs.Listing.{listing_room, listing_of, listing_call, print_call};
-ghost use Rattle.plan.specs.Reading.{plan_of};
+ghost use Rattle.refusal.specs.Rows.{code_of};
+ghost use Rattle.plan.specs.Verdict.{accepted_plan};
 ghost use Rattle.text.specs.Pasted.{Put};
-ghost use Rattle.listing.specs.FirstRun.{FirstRunAsked, FirstRunAs, ListAsked, PutAsked};
+ghost use Rattle.listing.specs.FirstRun.{FirstRunAs};
 ghost use Rattle.listing.specs.Entries.{listing_outcome};
 
 use cluster::MAX_BLOCKS;
-use header::Header;
+use held::Held;
 use lines::FirstRun;
+use plan::Accepted;
 use refusal::Refusal;
 
 // Bytes that every listing fits in.
 const LISTING_ROOM: usize = 65536;
 
 // The profiles at the chosen counts in the lent list, and in the words the placement after a run from the first placement.
-fn run_first(
-    bytes: &[u8],
-    h: Header,
-    limit: u32,
-    profiles: &mut [u64],
-    words: &mut [u64],
-) -> FirstRun
-    requires { FirstRunAsked bytes.now h profiles.old words.old }
-    ensures { FirstRunAs (plan_of bytes.now h) h.cluster limit profiles.new words.new result }
+fn run_first(plan: &Accepted, limit: u32, profiles: &mut [u64], words: &mut [u64]) -> FirstRun
+    requires { (plan.now.header.cluster.blocks ≤ length profiles.old) × (length words.old ≡ plan.now.header.cluster.blocks) }
+    ensures { FirstRunAs (accepted_plan plan.now) plan.now.header.cluster limit profiles.new words.new result }
 {
-    let cluster = h.cluster;
-    let top = admission::prepare(bytes, h, profiles);
+    let cluster = plan.header.cluster;
+    let top = admission::prepare(plan, profiles);
     layout::lay_all(cluster, profiles, words);
-    let first = loads::sum_words(words, profiles, cluster);
+    let laid = Held {
+        words,
+        profiles,
+        cluster,
+    };
+    let first = loads::sum_words(&laid);
     let ran = balance::run(words, profiles, first, cluster, limit);
-    let last = loads::sum_words(words, profiles, cluster);
+    let moved = Held {
+        words,
+        profiles,
+        cluster,
+    };
+    let last = loads::sum_words(&moved);
     let report = loads::report(last, cluster);
     FirstRun { ran, report, top }
 }
 
 // Puts the listing of an accepted plan, with room for its words.
-fn put_listing(bytes: &[u8], h: Header, limit: u32, words: &mut [u64], text: &mut [u8]) -> usize
-    requires { PutAsked bytes.now h words.old text.old }
-    ensures { Put 0 (listing_of (plan_of bytes.now h) limit) text.old text.new result }
+fn put_listing(plan: &Accepted, limit: u32, words: &mut [u64], text: &mut [u8]) -> usize
+    requires { (listing_room ≤ length text.old) × (length words.old ≡ plan.now.header.cluster.blocks) }
+    ensures { Put 0 (listing_of (accepted_plan plan.now) limit) text.old text.new result }
 {
-    let cluster = h.cluster;
+    let cluster = plan.header.cluster;
     let mut profiles = [0u64; MAX_BLOCKS];
-    let made = run_first(bytes, h, limit, &mut profiles, words);
-    lines::put_lines(text, cluster, &profiles, words, made)
+    let made = run_first(plan, limit, &mut profiles, words);
+    let held = Held {
+        words,
+        profiles: &profiles,
+        cluster,
+    };
+    lines::put_lines(text, &held, made)
 }
 
 // Puts the listing of an accepted plan.
-fn list_accepted(bytes: &[u8], h: Header, limit: u32, text: &mut [u8]) -> usize
-    requires { ListAsked bytes.now h text.old }
-    ensures { Put 0 (listing_of (plan_of bytes.now h) limit) text.old text.new result }
+fn list_accepted(plan: &Accepted, limit: u32, text: &mut [u8]) -> usize
+    requires { listing_room ≤ length text.old }
+    ensures { Put 0 (listing_of (accepted_plan plan.now) limit) text.old text.new result }
 {
-    let cluster = h.cluster;
     let mut words = [0u64; MAX_BLOCKS];
-    let blocks = cluster.blocks;
-    put_listing(bytes, h, limit, &mut words[..blocks], text)
+    let blocks = plan.header.cluster.blocks;
+    put_listing(plan, limit, &mut words[..blocks], text)
 }
 
 // Refuses a text that not every listing fits in.
@@ -75,8 +85,18 @@ pub fn listing(bytes: &[u8], limit: u32, text: &mut [u8]) -> Result<usize, Refus
     ensures { listing_outcome result text.new ≡ listing_call bytes.now limit text.old }
 {
     check_room(text)?;
-    let h = plan::read(bytes)?;
-    Ok(list_accepted(bytes, h, limit, text))
+    let plan = plan::read(bytes)?;
+    Ok(list_accepted(&plan, limit, text))
+}
+
+// The number of a refused plan, 0 for an accepted one.
+fn refusal_code(read: Result<Accepted, Refusal>) -> u8
+    ensures { result ≡ code_of read.entry }
+{
+    match read {
+        Err(refusal) => u8::from(refusal),
+        Ok(_) => 0,
+    }
 }
 
 // What the program prints for any bytes, in a lent text: the listing, or the line of a refused plan.
@@ -84,12 +104,11 @@ pub fn print(bytes: &[u8], limit: u32, text: &mut [u8]) -> Result<usize, Refusal
     ensures { listing_outcome result text.new ≡ print_call bytes.now limit text.old }
 {
     check_room(text)?;
-    match plan::read(bytes) {
-        Err(refusal) => {
-            let code = u8::from(refusal);
-            let numbers = [u64::from(code)];
-            Ok(text::put_line(text, 0, b"refused", &numbers))
-        }
-        Ok(h) => Ok(list_accepted(bytes, h, limit, text)),
-    }
+    let read = plan::read(bytes);
+    let Ok(plan) = read else {
+        let code = refusal_code(read);
+        let numbers = [u64::from(code)];
+        return Ok(text::put_line(text, 0, b"refused", &numbers));
+    };
+    Ok(list_accepted(&plan, limit, text))
 }

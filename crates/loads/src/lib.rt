@@ -5,10 +5,10 @@
 ghost use Rattle.std.specs.Prelude.{◌≡◌, length};
 ghost use Rattle.model.specs.Refusal.{max_machines};
 ghost use Rattle.cluster.specs.Cluster.{InRange, machines_in};
-ghost use Rattle.cluster.specs.Blocks.{PlacementFits};
 ghost use Rattle.loads.specs.Loads.{AddAsked, AddedTo, LoadsOf, LoadShiftAsked, ShiftedTo, ReportAsked, ReportOf, RoomTo};
 
 use cluster::{Cluster, MAX_MACHINES};
+use held::Held;
 
 // For each of 64 machines: the sum of its copies' shares, and the number of its copies.
 #[derive(Clone, Copy)]
@@ -37,19 +37,13 @@ fn add_word(loads: &mut [u64], copies: &mut [usize], word: u64, share: u64)
 }
 
 // The loads and copies of a placement.
-pub fn sum_words(words: &[u64], profiles: &[u64], cluster: Cluster) -> Loads
-    requires { PlacementFits cluster words.now profiles.now }
-    ensures { LoadsOf cluster words.now profiles.now result.load result.copies }
+pub fn sum_words(held: &Held) -> Loads
+    ensures { LoadsOf held.now.cluster held.now.words.now held.now.profiles.now result.load result.copies }
 {
     let mut load = [0u64; MAX_MACHINES];
     let mut copies = [0usize; MAX_MACHINES];
-    for i in 0..cluster.blocks {
-        add_word(
-            &mut load[..],
-            &mut copies[..],
-            words[i],
-            cluster::share_of(profiles[i]),
-        );
+    for i in 0..held.cluster.blocks {
+        add_word(&mut load[..], &mut copies[..], held.words[i], held.share(i));
     }
     Loads { load, copies }
 }

@@ -13,16 +13,17 @@ use Rattle.theory.proofs.Replication.{unit-divides, need-is}
 use Rattle.cluster.specs.declared.Cluster.{Cluster}
 use Rattle.cluster.specs.Blocks.{popularity_in, most_in, DemandInRange, DemandsFit, DemandsOf}
 use Rattle.cluster.proofs.Laws.{cluster-block, demands-popularity, demands-least, demands-most}
-use Rattle.needs.specs.declared.Fraction.{Fraction}
-use Rattle.needs.specs.Needs.{FractionFits, NeedOf}
+use Rattle.needs.specs.declared.fractions.Fraction.{Fraction}
+use Rattle.needs.specs.Fractions.{FractionFits}
+use Rattle.needs.specs.Needs.{NeedOf}
 
 -- ── FractionFits ─────────────────────────────────────────────────────────────────────────────────
-pub fraction-divides : (f : Fraction) → FractionFits f → f.count ∣ unit
-fraction-divides f fits = unit-divides f.count fits.count-pos fits.count-max
+pub fraction-divides : (f : Fraction) → f.count ∣ unit
+fraction-divides f = unit-divides f.count f.fits.count-pos f.fits.count-max
 
 -- a block's popularity, with a count from 1 to its upper one
 pub fraction-of : (demand popularity count : ℕ) → DemandInRange demand → popularity ≡ popularity_in demand → 1 ≤ count → count ≤ most_in demand
-    → FractionFits record { popularity = popularity; count = count }
+    → FractionFits popularity count
 fraction-of demand popularity count d is pos max =
     record {
       popularity-max = rw is (le_of_lt d.popularity-narrow);

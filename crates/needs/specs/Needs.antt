@@ -7,17 +7,12 @@ use Rattle.model.specs.Replication.{unit, share, largest_share, need}
 use Rattle.theory.specs.Widths.{most_replicas, popularity_bound, share_bound}
 use Rattle.cluster.specs.declared.Cluster.{Cluster}
 use Rattle.cluster.specs.Blocks.{popularity_in, least_in, most_in, DemandInRange, DemandsFit}
-use Rattle.needs.specs.declared.Fraction.{Fraction}
+use Rattle.needs.specs.declared.fractions.Fraction.{Fraction}
 use Rattle.needs.specs.declared.NextShare.{NextShare}
 use Rattle.needs.specs.declared.Extent.{Extent}
 use Rattle.needs.specs.declared.Tally.{Tally}
 
--- A popularity, or the least number that is none, and a count in its range; and the share that they stand for.
-pub record FractionFits (f : Fraction) : Type 0 where
-  pub popularity-max : f.popularity ≤ popularity_bound
-  pub count-pos : 1 ≤ f.count
-  pub count-max : f.count ≤ most_replicas
-
+-- The share that a fraction stands for.
 abbrev pub fraction_share : Fraction → ℕ
 fraction_share f = share f.popularity f.count
 
@@ -30,14 +25,8 @@ abbrev pub next_blocks : Option NextShare → ℕ
 next_blocks None = 0
 next_blocks (Some next) = next.blocks
 
-abbrev pub NextFits : Option NextShare → Type 0
-NextFits None = Unit {0}
-NextFits (Some next) = FractionFits next.share
-
 -- A next share, if there is one, and one block's share more that is not above it.
 pub record NextShareAsked (next : Option NextShare) (share : Fraction) : Type 0 where
-  pub next_fits : NextFits next
-  pub share-fits : FractionFits share
   pub share-narrow : fraction_share share < share_bound
   pub share-max : fraction_share share ≤ next_share next
   pub blocks-room : next_blocks next < max_blocks
@@ -49,9 +38,8 @@ pub record Joined (next blocks share next' blocks' : ℕ) : Type 0 where
   pub tied : share ≡ next → (next' ≡ next) × (blocks' ≡ suc blocks)
   pub replaced : share < next → (next' ≡ share) × (blocks' ≡ 1)
 
-pub record NextAs (next : Option NextShare) (share : Fraction) (r : NextShare) : Type 0 where
-  pub fits : FractionFits r.share
-  pub joined : Joined (next_share next) (next_blocks next) (fraction_share share) (fraction_share r.share) r.blocks
+abbrev pub NextAs : Option NextShare → Fraction → NextShare → Type 0
+NextAs next share r = Joined (next_share next) (next_blocks next) (fraction_share share) (fraction_share r.share) r.blocks
 
 -- Estimates are reckoned in parts of a copy.
 abbrev pub parts : ℕ

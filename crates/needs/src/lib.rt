@@ -5,9 +5,12 @@ ghost use Rattle.std.specs.Prelude.{◌≡◌, ◌<◌, max, ltb};
 ghost use Rattle.model.specs.Plan.{Plan};
 ghost use Rattle.theory.specs.Widths.{share_bound};
 ghost use Rattle.cluster.specs.Blocks.{DemandsFit, DemandsOf};
-ghost use Rattle.needs.specs.Needs.{FractionFits, fraction_share, NextShareAsked, NextAs, ScaleOf, NeedAsked, NeedOf, FigureAsked, TallyFits, TallyOf, ExtentFits, ExtentOf};
+ghost use Rattle.needs.specs.Needs.{fraction_share, NextShareAsked, NextAs, ScaleOf, NeedAsked, NeedOf, FigureAsked, TallyFits, TallyOf, ExtentFits, ExtentOf};
+
+mod fractions;
 
 use cluster::Cluster;
+pub use fractions::Fraction;
 
 // The units in a read.
 pub const UNIT: u64 = 2520;
@@ -16,13 +19,6 @@ pub const UNIT: u64 = 2520;
 const PARTS: u64 = 281474976710656;
 
 const UNIT_PARTS: u64 = UNIT * PARTS;
-
-// A share before it is divided: a block's popularity, and its count of copies.
-#[derive(Clone, Copy)]
-pub struct Fraction {
-    pub popularity: u64,
-    pub count: usize,
-}
 
 // The smallest share of a block with one copy less than its need, and how many blocks have it.
 #[derive(Clone, Copy)]
@@ -50,7 +46,6 @@ pub struct Extent {
 
 // The share in units: the popularity times the unit's quotient by the count.
 pub fn share_at(at: Fraction) -> u64
-    requires { FractionFits at }
     ensures { result ≡ fraction_share at }
 {
     at.popularity * (UNIT / at.count as u64)
@@ -58,7 +53,7 @@ pub fn share_at(at: Fraction) -> u64
 
 // The larger of a share and another one, which is divided only where it is the larger.
 fn raised(top: u64, share: Fraction) -> u64
-    requires { (top < share_bound) × FractionFits share }
+    requires { top < share_bound }
     ensures { result ≡ max top (fraction_share share) }
 {
     if top * (share.count as u64) < share.popularity * UNIT {
@@ -67,10 +62,9 @@ fn raised(top: u64, share: Fraction) -> u64
     top
 }
 
-// Shares are compared without a division: by the popularities, each times the other's count. A function, since `PartialOrd` cannot ask
-// that the products fit.
+// Shares are compared without a division: by the popularities, each times the other's count. A function: `PartialOrd` would want an
+// equality of the shares, which is not that of the fields.
 fn is_less(a: Fraction, b: Fraction) -> bool
-    requires { FractionFits a × FractionFits b }
     ensures { result ≡ ltb (fraction_share a) (fraction_share b) }
 {
     a.popularity * (b.count as u64) < b.popularity * (a.count as u64)

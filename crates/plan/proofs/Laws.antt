@@ -2,26 +2,21 @@
 -- Assumes nothing.
 use mathlib.Core.Path.{◌≡◌, ap, sym, ◌∙◌}
 use mathlib.Core.List.{List}
-use Prim.Native.Nat.{ℕ, ◌*◌, ◌<◌, ◌≤◌}
+use Prim.Native.Nat.{ℕ, ◌*◌, ◌≤◌}
 use native.Mathlib.Omega.{arith}
-use lib.ListN.{length, get_or}
+use lib.ListN.{get_or}
 use Rattle.order.specs.Table.{filled}
 use Rattle.order.proofs.Tables.{length-table, get_d-filled}
-use Rattle.model.specs.Plan.{Plan, machines, domains, block_count, block_of, min_total, common_length, version_in, Format, format_of, format_in, record_at, block_in, plan_in}
+use Rattle.model.specs.Plan.{Plan, machines, domains, block_count, min_total, block_count_in, format_of, format_in, record_at, block_in, plan_in}
 use Rattle.model.specs.Refusal.{check23, check10, check11, blocks_refusal, pairs_refusal, plan_refusal, refusal, judge, accepted}
 use Rattle.theory.specs.Refusal.{Valid}
-use Rattle.theory.proofs.Plan.{plan_in-block_count, plan_in-block_of}
 use Rattle.theory.proofs.Refusal.{or_else-some, accepted-laws}
 use Rattle.cluster.specs.declared.Cluster.{Cluster}
 use Rattle.cluster.specs.Cluster.{machines_in, InRange, ClusterOf}
 use Rattle.cluster.specs.Blocks.{demand_of, DemandsOf}
 use Rattle.cluster.proofs.Laws.{cluster-range}
 use Rattle.header.specs.declared.Header.{Header}
-use Rattle.header.specs.Format.{FormatFits}
 use Rattle.header.specs.Header.{header_counted, header_in, PassedAs}
-use Rattle.header.proofs.Laws.{format_of-fits}
-use Rattle.records.specs.Records.{RecordIn, RecordsIn, RecordsOf}
-use Rattle.records.proofs.Laws.{record-in}
 use Rattle.plan.specs.Reading.{plan_of, AcceptedHeader}
 
 -- ── plan_of ─────────────────────────────────────────────────────────────────────────────────────────────────────────────
@@ -58,25 +53,29 @@ module _ (bytes : List ℕ) (h : Header) where
 
 -- ── plan_in ─────────────────────────────────────────────────────────────────────────────────────────────────────────────
 
--- A header with the numbers of the plan that the bytes hold, in their ranges, and bytes that are it and its records.
+-- A header with the numbers of the plan that the bytes hold, in their ranges.
 pub record HeaderOf (bytes : List ℕ) (h : Header) : Type 0 where
   pub held : plan_of bytes h ≡ plan_in bytes
   pub in-range : InRange h.cluster
-  pub length-is : length bytes ≡ record_at (format_in bytes) h.cluster.blocks
 
 pub passed-of : (bytes : List ℕ) (h : Header) → PassedAs bytes h → HeaderOf bytes h
 passed-of bytes h passed =
-    record { held = plan_of-in bytes h passed.fields; in-range = passed.in-range; length-is = passed.length-is }
+    record { held = plan_of-in bytes h passed.fields; in-range = passed.in-range }
 
--- and its version gives the format of the bytes
-pub passed-format : (bytes : List ℕ) (h : Header) → PassedAs bytes h → format_of h.version ≡ format_in bytes
-unfolding header_counted
-passed-format bytes h passed = ap (λ (g : Header). format_of g.version) passed.fields
+-- and its version and its count are those of the bytes
+module _ (bytes : List ℕ) (h : Header) (passed : PassedAs bytes h) where
+  pub passed-format : format_of h.version ≡ format_in bytes
+  unfolding header_counted
+  passed-format = ap (λ (g : Header). format_of g.version) passed.fields
+
+  pub passed-blocks : h.cluster.blocks ≡ block_count_in bytes
+  unfolding header_counted
+  passed-blocks = ap (λ (g : Header). g.cluster.blocks) passed.fields
 
 pub accepted-of : (bytes : List ℕ) (h : Header) → judge bytes ≡ accepted (plan_of bytes h) → HeaderOf bytes h
 accepted-of bytes h e =
     let laws = accepted-header bytes h e in
-    record { held = laws.held; in-range = cluster-range _ _ laws.cluster-of; length-is = laws.length-is }
+    record { held = laws.held; in-range = cluster-range _ _ laws.cluster-of }
 
 module _ (bytes : List ℕ) (h : Header) (of : HeaderOf bytes h) where
   pub plan_in-blocks : h.cluster.blocks ≡ block_count (plan_in bytes)
@@ -94,10 +93,6 @@ module _ (bytes : List ℕ) (h : Header) (of : HeaderOf bytes h) where
   unfolding plan_of
   plan_in-machines = ap machines of.held
 
--- its blocks are the records
-pub plan_in-records : (bytes : List ℕ) (f : Format) → f ≡ format_in bytes → RecordsOf (plan_in bytes) f bytes
-plan_in-records bytes f e i l = rw e (plan_in-block_of bytes i (rw (plan_in-block_count bytes) at l))
-
 -- ── DemandsOf ──────────────────────────────────────────────────────────────────────────────────────────────────────────
 
 -- a list filled with a plan's demands holds them
@@ -106,29 +101,6 @@ pub demands-of : (p : Plan) (c : Cluster) (demands₀ demands : List ℕ) → Cl
     → DemandsOf p c demands
 demands-of p c demands₀ demands of are =
     record { cluster = of; are = λ i l. ap (λ (d : List ℕ). get_or d i 0) are ∙ get_d-filled c.blocks (demand_of p) demands₀ i 0 l }
-
--- ── BlockAt ────────────────────────────────────────────────────────────────────────────────────────────────────────────
-
--- Record i lies in the bytes, and is block i of the plan.
-pub record BlockAt (bytes : List ℕ) (f : Format) (i : ℕ) : Type 0 where
-  pub inside : RecordIn bytes f i
-  pub below : i < block_count (plan_in bytes)
-  pub is : block_of (plan_in bytes) i ≡ block_in f bytes i
-
-module _ (bytes : List ℕ) (h : Header) (of : HeaderOf bytes h) where
-  -- the bytes that every version's header has are there
-  pub common-in : common_length ≤ length bytes
-  common-in = let fits = format_of-fits (version_in bytes) in omega (arith, of.length-is)
-
-  -- and so are the records
-  pub records-in : (f : Format) → f ≡ format_in bytes → FormatFits f → RecordsIn bytes f h.cluster.blocks
-  records-in f e fits =
-      record { fits = fits; blocks-max = of.in-range.blocks-max; room = rw (of.length-is, ← e) (omega arith) }
-
-  pub block_at : (f : Format) → f ≡ format_in bytes → FormatFits f → (i : ℕ) → i < h.cluster.blocks → BlockAt bytes f i
-  block_at f e fits i l =
-      let below : i < block_count (plan_in bytes) = rw (plan_in-blocks bytes h of) at l in
-      record { inside = record-in bytes f _ i (records-in f e fits) l; below = below; is = plan_in-records bytes f e i below }
 
 -- ── refusal ────────────────────────────────────────────────────────────────────────────────────────────────────────────
 

@@ -1,8 +1,8 @@
--- What the reader's answers say, in the model's terms.
-use Rattle.std.specs.Prelude.{◌≡◌, List, ℕ, ◌<◌, ◌≤◌, length, Result, Ok, Err}
+-- What the passes over a plan's bytes say, in the model's terms.
+use Rattle.std.specs.Prelude.{◌≡◌, List, ℕ, ◌≤◌, length, Result, Ok, Err}
 use Rattle.order.specs.Table.{table, filled}
 use Rattle.model.specs.Plan.{Plan, min_total, format_in, record_at, block_in, plan_in}
-use Rattle.model.specs.Refusal.{blocks_refusal, Verdict, refused, accepted, judge}
+use Rattle.model.specs.Refusal.{blocks_refusal}
 use Rattle.refusal.specs.declared.Refusal.{Refusal}
 use Rattle.refusal.specs.Rows.{number_of}
 use Rattle.cluster.specs.Cluster.{ClusterOf}
@@ -22,11 +22,6 @@ plan_of bytes h =
       blocks = table h.cluster.blocks (block_in (format_in bytes) bytes);
     }
 
--- The reader's answer on these bytes, as the model's verdict.
-unfoldable pub verdict_of : List ℕ → Result Header Refusal → Verdict
-verdict_of bytes (Err refusal) = refused (number_of refusal)
-verdict_of bytes (Ok h) = accepted (plan_of bytes h)
-
 pub record FaultAs (bytes : List ℕ) (code : ℕ) : Type 0 where
   pub is : blocks_refusal (plan_in bytes) ≡ code
   pub some : 1 ≤ code
@@ -40,20 +35,10 @@ abbrev pub RecordsRead : List ℕ → Result ℕ Refusal → Type 0
 RecordsRead bytes (Err refusal) = FaultAs bytes (number_of refusal)
 RecordsRead bytes (Ok total) = TotalAs bytes total
 
--- What taking the records apart is given: an accepted plan's bytes with its header, and room for its demands.
-pub record DecodeAsked (bytes : List ℕ) (h : Header) (demands : List ℕ) : Type 0 where
-  pub accepts : judge bytes ≡ accepted (plan_of bytes h)
-  pub room : h.cluster.blocks ≤ length demands
-
 -- The demands of the plan's blocks, in their ranges; later items stay.
 pub record Decoded (bytes : List ℕ) (h : Header) (demands₀ demands : List ℕ) : Type 0 where
   pub are : demands ≡ filled h.cluster.blocks (demand_of (plan_of bytes h)) demands₀
   pub fit : DemandsFit h.cluster demands
-
--- What looking for a block's partner is given: an accepted plan's bytes with its header, and one of its blocks.
-pub record MateAsked (bytes : List ℕ) (h : Header) (i : ℕ) : Type 0 where
-  pub accepts : judge bytes ≡ accepted (plan_of bytes h)
-  pub below : i < h.cluster.blocks
 
 -- What holds of a header that was accepted with its bytes.
 pub record AcceptedHeader (bytes : List ℕ) (h : Header) : Type 0 where

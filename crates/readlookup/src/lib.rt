@@ -21,12 +21,12 @@ pub struct Searched {
 fn seek(bytes: &[u8], block: u32) -> Result<u32, Refusal>
     ensures { answer_of result ≡ sought (judge bytes.now) block }
 {
-    let h = plan::read(bytes)?;
+    let plan = plan::read(bytes)?;
     let i = block as usize;
-    if i >= h.cluster.blocks {
+    if i >= plan.header.cluster.blocks {
         return Err(Refusal::NoSuchBlock);
     }
-    Ok(plan::mate(bytes, h, i) as u32)
+    Ok(plan.mate(i) as u32)
 }
 
 // What a block's popularity is counted over. Nothing is searched twice for a block without a partner.

@@ -103,7 +103,7 @@ fn narrowed(bracket: Bracket, wanted: u64, tally: Tally, allowed: usize) -> Brac
 }
 
 // A figure whose needs are the chosen counts, by bisection: the least that is reachable, or one whose needs use the whole limit. Where the
-// least copies do, no other figure is tried.
+// least copies do, no other figure is tried. The search stays a `while`: it goes on until its bracket is closed.
 pub fn best_figure(demands: &[u64], allowed: usize, cluster: Cluster) -> u64
     requires { ChooseAsked cluster demands.now allowed }
     ensures { ((p : Plan) → LimitedDemands p cluster demands.now allowed → FigureOf p result) × (result < share_bound) }

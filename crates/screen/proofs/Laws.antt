@@ -7,19 +7,19 @@ use native.Mathlib.Decide.{dec_lt}
 use native.Mathlib.Omega.{arith}
 use lib.ListN.{get_or}
 use Rattle.model.specs.Placement.{bit}
-use Rattle.index.specs.Index.{words_by_rank, spot}
+use Rattle.index.specs.declared.Index.{Index}
+use Rattle.index.specs.Index.{spot}
 use Rattle.screen.specs.Screen.{Alone, Passed, SweptBelow}
 
--- the bits of one word of the index
-pub spot-word : (index : List ℕ) (m word t : ℕ) → t < 64
-    → spot index words_by_rank m (word * 64 + t) ≡ bit (get_or index (words_by_rank + word + m * 16) 0) t
+-- the bits of one word of a part
+pub spot-word : (part : List ℕ) (m word t : ℕ) → t < 64 → spot part m (word * 64 + t) ≡ bit (get_or part (m * 16 + word) 0) t
 unfolding spot
-spot-word index m word t l =
-    let at : words_by_rank + m * 16 + (word * 64 + t) / 64 ≡ words_by_rank + word + m * 16 = omega arith in
+spot-word part m word t l =
+    let at : m * 16 + (word * 64 + t) / 64 ≡ m * 16 + word = omega arith in
     let in-word : (word * 64 + t) % 64 ≡ t = omega arith in
     rw (at, in-word)
 
-module _ (mine theirs : ℕ → ℕ) (index : List ℕ) (margin blocks : ℕ) where
+module _ (mine theirs : ℕ → ℕ) (index : Index) (margin blocks : ℕ) where
   -- a block on one machine alone is not one that both machines or neither have
   never-equal : (k : ℕ) → mine k ≡ theirs k → Alone mine theirs k → ⊥
   never-equal k e a = omega (arith, a.holds, a.lacks)

@@ -6,7 +6,7 @@ ghost use Rattle.std.specs.Prelude.{◌≡◌, Bool, IfSome};
 ghost use Rattle.screen.specs.Screen.{ScreenAsked, NoMove, NoExchange, RuledOut, SweepAsked, BlockSwept, WordAsked, WordSwept};
 
 use cluster::Cluster;
-use index::{BY_RANK, KEYS_AT};
+use index::Index;
 
 // The blocks passed by rising share: n's largest share, and below which share of m's it or the next smaller one can be returned
 // (0 where there is none, and no `Option`: no share is below it).
@@ -18,13 +18,13 @@ struct Sweep {
 }
 
 // No block of m's that n lacks has a share above 0 and below the margin.
-fn no_move(index: &[u64], cluster: Cluster, m: usize, n: usize, margin: u64) -> bool
+fn no_move(index: &Index, cluster: Cluster, m: usize, n: usize, margin: u64) -> bool
     requires { ScreenAsked cluster index.now m n margin }
     ensures { result ≡ Bool.true → NoMove cluster index.now m n margin }
 {
     let mut k: usize = 0;
-    while let Some(rank) = index::next(index, BY_RANK, m, n, k, cluster) {
-        let share = ranking::key_share(index[KEYS_AT + rank]);
+    while let Some(rank) = index::next(&index.by_rank, m, n, k, cluster) {
+        let share = ranking::key_share(index.keys[rank]);
         if share != 0 {
             return margin <= share;
         }
@@ -58,7 +58,7 @@ fn sweep_block(sweep: Sweep, own: bool, share: u64, margin: u64) -> Option<Sweep
 fn sweep_word(
     a: u64,
     b: u64,
-    index: &[u64],
+    index: &Index,
     base: usize,
     margin: u64,
     start: Sweep,
@@ -69,14 +69,14 @@ fn sweep_word(
     let mut sweep = start;
     for t in bits::ones(bits::differing(a, b)) {
         let own = bits::bit_at(a, t) == 1;
-        let share = ranking::key_share(index[KEYS_AT + (base + t)]);
+        let share = ranking::key_share(index.keys[base + t]);
         sweep = sweep_block(sweep, own, share, margin)?;
     }
     Some(sweep)
 }
 
 // No block of m's that n lacks has a share above that of one of n's that m lacks by less than the margin.
-fn no_exchange(index: &[u64], cluster: Cluster, m: usize, n: usize, margin: u64) -> bool
+fn no_exchange(index: &Index, cluster: Cluster, m: usize, n: usize, margin: u64) -> bool
     requires { ScreenAsked cluster index.now m n margin }
     ensures { result ≡ Bool.true → NoExchange cluster index.now m n margin }
 {
@@ -86,9 +86,8 @@ fn no_exchange(index: &[u64], cluster: Cluster, m: usize, n: usize, margin: u64)
         under: 0,
     };
     for word in 0..cluster.blocks.div_ceil(64) {
-        let at = BY_RANK + word;
-        let a = index[at + m * 16];
-        let b = index[at + n * 16];
+        let a = index.by_rank[m * 16 + word];
+        let b = index.by_rank[n * 16 + word];
         let Some(swept) = sweep_word(a, b, index, word * 64, margin, sweep) else {
             return false;
         };
@@ -99,7 +98,7 @@ fn no_exchange(index: &[u64], cluster: Cluster, m: usize, n: usize, margin: u64)
 
 // Whether the shares rule out every move from m to n, or every exchange between them, where m has `margin` more load.
 pub fn rules_out(
-    index: &[u64],
+    index: &Index,
     cluster: Cluster,
     m: usize,
     n: usize,

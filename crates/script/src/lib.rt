@@ -80,6 +80,7 @@ fn call_item(bytes: &[u8], other: &[u8], words: &mut [u64], item: u64) -> Result
         ≡ does (call_of bytes.now other.now item) words.old }
 {
     let source = item / LIMIT_SPAN / 4 % 2;
+    // No `match`, as in `call_lent`.
     if source == 1 {
         return call_part(other, words, item);
     }

@@ -5,7 +5,6 @@ use mathlib.Core.Bool.{Bool, true, false, not, beq}
 use mathlib.Core.List.{List}
 use Prim.Native.Nat.{ℕ, ◌+◌, ◌*◌, ◌/◌, ◌%◌, ◌<◌, ◌≤◌}
 use Rattle.std.proofs.Common.{Option, Some, None}
-use Rattle.std.specs.Option.{MatchOption}
 use native.Mathlib.Nat.{add-zero, mod-lt, div-lt_iff_lt-mul, mul-div_cancel, mul-mod_left}
 use native.Mathlib.Decide.{dec_lt}
 use native.Mathlib.Omega.{arith}
@@ -87,30 +86,32 @@ or_step-grouped none b later = refl
 or_step-grouped (relocate racks m n i) b later = refl
 or_step-grouped (exchange racks m n i j) b later = refl
 
--- what one kind finds, or else a later one
-pub or_kind : {c : Cluster} {words profiles : List ℕ} {wanted later : Plan → ModelStep} (r q : Option Step) {Post : Type 0}
-    → FoundIs c words profiles wanted (step_of r) → MatchOption r Post (λ s. q ≡ Some s)
-    → (Post → FoundIs c words profiles later (step_of q)) → FoundIs c words profiles (λ p. or_step (wanted p) (later p)) (step_of q)
+-- what one kind finds
+pub kind-found : {c : Cluster} {words profiles : List ℕ} {wanted : Plan → ModelStep} (later : Plan → ModelStep) (s : Step)
+    → FoundIs c words profiles wanted (step_of (Some s)) → FoundIs c words profiles (λ p. or_step (wanted p) (later p)) (step_of (Some s))
 unfolding step_of
-or_kind {wanted} {later} None q found e after =
+kind-found later s found =
     record {
-      sound = (after e).sound;
-      is = λ p count at. (after e).is p count at ∙ ap (λ (s : ModelStep). or_step s (later p)) (found.is p count at);
-    }
-or_kind {wanted} {later} (Some s) q found e after =
-    rw e
-    (record {
       sound = found.sound;
-      is = λ p count at.
-          taken s (later p)
-          ∙ ap (λ (s : ModelStep). or_step s (later p)) (found.is p count at);
-    })
+      is = λ p count at. taken s (later p) ∙ ap (λ (s : ModelStep). or_step s (later p)) (found.is p count at);
+    }
   where
     taken : (s : Step) (later : ModelStep) → step_of (Some s) ≡ or_step (step_of (Some s)) later
     taken (Move m n i) later = refl
     taken (Swap m n i j) later = refl
     taken (RackMove m n i) later = refl
     taken (RackSwap m n i j) later = refl
+
+-- or else a later one
+pub kind-later : {c : Cluster} {words profiles : List ℕ} {wanted : Plan → ModelStep} (later : Plan → ModelStep) (s : ModelStep)
+    → FoundIs c words profiles wanted (step_of None) → FoundIs c words profiles later s
+    → FoundIs c words profiles (λ p. or_step (wanted p) (later p)) s
+unfolding step_of
+kind-later later s found after =
+    record {
+      sound = after.sound;
+      is = λ p count at. after.is p count at ∙ ap (λ (s : ModelStep). or_step s (later p)) (found.is p count at);
+    }
 
 -- the four kinds are the definition's next step
 pub next_step-kinds : {c : Cluster} {words profiles : List ℕ} (r : Option Step)

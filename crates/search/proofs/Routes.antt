@@ -6,6 +6,7 @@ use mathlib.Core.List.{List}
 use Prim.Native.Nat.{ℕ, ◌-◌, ◌<◌, ◌≤◌}
 use native.Mathlib.Nat.{div-add-mod', mul-le-mul_right}
 use native.Mathlib.Omega.{arith}
+use lib.ListN.{get_or}
 use Rattle.std.proofs.Common.{Option}
 use Rattle.order.proofs.Booleans.{not_so, no-contradiction}
 use Rattle.model.specs.Plan.{Plan, machines, block_count}
@@ -17,15 +18,17 @@ use Rattle.theory.specs.Steps.{LocalMove, LocalSwap}
 use Rattle.theory.proofs.StepsLocal.{can_move-local, can_swap-local}
 use Rattle.cluster.specs.declared.Cluster.{Cluster}
 use Rattle.cluster.specs.Cluster.{machines_in, InRange}
-use Rattle.cluster.specs.Blocks.{PlacementOf}
+use Rattle.cluster.specs.Blocks.{PlacementFits, PlacementOf}
 use Rattle.cluster.proofs.Laws.{cluster-size, cluster-capacity, cluster-blocks, placement-machine, placement-share}
 use Rattle.loads.specs.Loads.{copy_sum, LoadsOf}
 use Rattle.loads.proofs.Laws.{loads-narrow, copies-used, loads-load}
 use Rattle.transfers.specs.declared.Route.{Route}
-use Rattle.index.specs.Index.{rank_at, share_at, load_at}
+use Rattle.index.specs.declared.Index.{Index}
+use Rattle.index.specs.Index.{rank_at, share_at, Indexed}
 use Rattle.screen.specs.Screen.{ScreenAsked, Alone, ranked_on, RuledOut}
 use Rattle.transfers.specs.declared.Hit.{Hit}
-use Rattle.transfers.specs.Route.{hit_of, route_step, MarginOf, RouteAsked, HitOf}
+use Rattle.transfers.specs.declared.view.Scene.{Scene}
+use Rattle.transfers.specs.Route.{hit_of, route_step, RouteIn, MarginOf, HitOf}
 use Rattle.transfers.proofs.Searches.{none_found, test-none}
 use Rattle.search.specs.declared.Row.{Row}
 use Rattle.search.specs.Scene.{KindAsked, PartedOf, OpenAsked, OpenFound, kind_at, route_of, RouteAt, FoundIs}
@@ -60,9 +63,10 @@ module _ (p : Plan) (count : ℕ → ℕ) (c : Cluster) (words profiles : List �
 
 -- ── OpenAsked: what the screen rules out, and the route that is handed on ───────────────────────────────────────────────
 
-module _ {c : Cluster} {words profiles index : List ℕ} {row : Row} {n margin : ℕ} (at : OpenAsked c words profiles index row n margin) where
+module _ {c : Cluster} {words profiles : List ℕ} {index : Index} {row : Row} {n margin : ℕ}
+    (fits : PlacementFits c words profiles) (indexed : Indexed c words profiles index) (at : OpenAsked c row n margin) where
   pub range : InRange c
-  range = at.fits.profiles-fit.in-range
+  range = fits.profiles-fit.in-range
 
   in-machines : (m : ℕ) → m < machines_in c → m < max_machines
   in-machines m l = omega (arith, range.machines-max)
@@ -70,12 +74,11 @@ module _ {c : Cluster} {words profiles index : List ℕ} {row : Row} {n margin :
   pub screen-asked : ScreenAsked c index row.m n margin
   screen-asked =
       record {
-        sized = at.indexed.ordered.sized;
         in-range = range;
         m-below = in-machines row.m at.row_in.m-below;
         n-below = in-machines n at.n-below;
         margin-narrow = at.margin-narrow;
-        rising = at.indexed.ordered.rising;
+        rising = indexed.ordered.rising;
       }
 
   -- a block on one machine alone is so at its rank
@@ -83,8 +86,8 @@ module _ {c : Cluster} {words profiles index : List ℕ} {row : Row} {n margin :
       → Alone (ranked_on index a) (ranked_on index b) (rank_at index i)
   alone a b i al bl l on off =
       record {
-        holds = at.indexed.by_rank a i (in-machines a al) l ∙ on;
-        lacks = at.indexed.by_rank b i (in-machines b bl) l ∙ off;
+        holds = indexed.by_rank a i (in-machines a al) l ∙ on;
+        lacks = indexed.by_rank b i (in-machines b bl) l ∙ off;
       }
 
   module _ (p : Plan) (count : ℕ → ℕ) (placement : PlacementOf p count c words profiles) (margin-is : MarginOf p words row.m n margin) where
@@ -92,13 +95,13 @@ module _ {c : Cluster} {words profiles index : List ℕ} {row : Row} {n margin :
     below i l = rw (cluster-blocks p c placement.profiles-of.cluster) l
 
     share-is : (i : ℕ) → i < c.blocks → share_at index (rank_at index i) ≡ share_of p words i
-    share-is i l = at.indexed.ordered.rank-share i l ∙ placement-share p count c words profiles placement i l
+    share-is i l = indexed.ordered.rank-share i l ∙ placement-share p count c words profiles placement i l
 
     barren-ruled : (swapping : Bool) → RuledOut c index row.m n margin swapping → Barren p words swapping row.m n
     barren-ruled false ruled = λ i il s.
         let l = below i il in
         let lowers = (margin-is _ _).0 s.lowers in
-        let far = ruled (rank_at index i) (at.indexed.ordered.rank_below i l)
+        let far = ruled (rank_at index i) (indexed.ordered.rank_below i l)
         (alone row.m n i at.row_in.m-below at.n-below l s.on s.off)
         (rw (share-is i l) lowers.gain) in
         omega (arith, share-is i l, lowers.below)
@@ -106,7 +109,7 @@ module _ {c : Cluster} {words profiles index : List ℕ} {row : Row} {n margin :
         let l = below i il in
         let h = below j jl in
         let lowers = (margin-is _ _).0 s.lowers in
-        let far = ruled (rank_at index i) (rank_at index j) (at.indexed.ordered.rank_below i l) (at.indexed.ordered.rank_below j h)
+        let far = ruled (rank_at index i) (rank_at index j) (indexed.ordered.rank_below i l) (indexed.ordered.rank_below j h)
         (alone row.m n i at.row_in.m-below at.n-below l s.i-on s.i-off)
         (alone n row.m j at.n-below at.row_in.m-below h s.j-on s.j-off)
         (rw (share-is j h, share-is i l) lowers.gain) in
@@ -123,19 +126,14 @@ module _ {c : Cluster} {words profiles index : List ℕ} {row : Row} {n margin :
     abbrev route_here : Route
     route_here = record { parted = parted; m = row.m; n = n; margin = margin }
 
-    pub route-asked : RouteAsked c words profiles index route_here
-    route-asked =
+    pub route-in : RouteIn c route_here
+    route-in =
         record {
-          fits = at.fits;
-          indexed = at.indexed;
-          route-in =
-              record {
-                in-range = range;
-                m-below = at.row_in.m-below;
-                n-below = at.n-below;
-                parted-is = parted-is row.m at.row_in.low-is;
-                margin-narrow = at.margin-narrow;
-              };
+          in-range = range;
+          m-below = at.row_in.m-below;
+          n-below = at.n-below;
+          parted-is = parted-is row.m at.row_in.low-is;
+          margin-narrow = at.margin-narrow;
         }
 
     pub route-found : (r : Option Hit)
@@ -158,17 +156,19 @@ kind_at-other c words profiles row n e p count placement = rw (sym (cluster-size
 
 -- ── the route of a row's machine m and n ────────────────────────────────────────────────────────────────────────────────
 
-module _ {c : Cluster} {words profiles index : List ℕ} {row : Row} {n : ℕ}
-    (at : RouteAt c words profiles index row n) where
-  m-max : row.m < max_machines
-  m-max = omega (arith, at.asked.row_in.m-below, at.asked.all.fits.profiles-fit.in-range.machines-max)
+module _ {scene : Scene} {row : Row} {n : ℕ} (at : RouteAt scene row n) where
+  abbrev c : Cluster
+  c = scene.held.cluster
 
-  n-max : n < max_machines
-  n-max = omega (arith, at.n-below, at.asked.all.fits.profiles-fit.in-range.machines-max)
+  abbrev words : List ℕ
+  words = scene.held.words.now
 
-  -- the loads and the copies that those in the index are
+  abbrev profiles : List ℕ
+  profiles = scene.held.profiles.now
+
+  -- the loads in the index, and the copies that go with them
   abbrev loads : List ℕ
-  loads = at.asked.all.loads
+  loads = scene.index.now.loads
 
   abbrev copies : List ℕ
   copies = at.asked.all.copies
@@ -176,9 +176,15 @@ module _ {c : Cluster} {words profiles index : List ℕ} {row : Row} {n : ℕ}
   of : LoadsOf c words profiles loads copies
   of = at.asked.all.loads-of
 
+  m-max : row.m < max_machines
+  m-max = omega (arith, at.asked.row_in.m-below, scene.held.fits.profiles-fit.in-range.machines-max)
+
+  n-max : n < max_machines
+  n-max = omega (arith, at.n-below, scene.held.fits.profiles-fit.in-range.machines-max)
+
   pub kind-asked : KindAsked row.low c.rack_size
   kind-asked =
-      let ranges = at.asked.all.fits.profiles-fit.in-range in
+      let ranges = scene.held.fits.profiles-fit.in-range in
       record {
         size-pos = ranges.size-pos;
         low-max = omega (arith, at.asked.row_in.low-is, div-add-mod' row.m c.rack_size, m-max);
@@ -216,10 +222,9 @@ module _ {c : Cluster} {words profiles index : List ℕ} {row : Row} {n : ℕ}
         }
 
     module _ (p : Plan) (count : ℕ → ℕ) (placement : PlacementOf p count c words profiles) where
-      load_of : (k : ℕ) → k < machines_in c → load_at index k ≡ load p words k
+      load_of : (k : ℕ) → k < machines_in c → get_or loads k 0 ≡ load p words k
       load_of k l =
-          at.asked.all.loads-in k (omega (arith, at.asked.all.fits.profiles-fit.in-range.machines-max))
-          ∙ loads-load c words profiles loads copies of p count placement k l
+          loads-load c words profiles loads copies of p count placement k l
 
       n-used : copy_sum c words n ≡ used p words n
       n-used =
@@ -227,10 +232,10 @@ module _ {c : Cluster} {words profiles index : List ℕ} {row : Row} {n : ℕ}
           ∙ copies-used c words profiles loads copies of p placement.profiles-of.cluster n at.n-below
 
     -- nothing leaves a machine that has no more load
-    level-barren : load_at index row.m ≤ load_at index n → FoundIs c words profiles wanted none
+    level-barren : get_or loads row.m 0 ≤ get_or loads n 0 → FoundIs c words profiles wanted none
     level-barren l = nothing-barren (λ p count placement. go p (load_of p count placement row.m at.asked.row_in.m-below) (load_of p count placement n at.n-below) row.swapping)
       where
-        go : (p : Plan) → load_at index row.m ≡ load p words row.m → load_at index n ≡ load p words n
+        go : (p : Plan) → get_or loads row.m 0 ≡ load p words row.m → get_or loads n 0 ≡ load p words n
             → (swapping : Bool) → Barren p words swapping row.m n
         go p d e false = λ i h s. omega (arith, s.lowers)
         go p d e true = λ i j h k s. omega (arith, s.lowers)
@@ -244,19 +249,17 @@ module _ {c : Cluster} {words profiles index : List ℕ} {row : Row} {n : ℕ}
         go p d e false on = λ i h s. omega (arith, on (λ x. omega (arith, s.room)))
         go p d e true on = λ i j h k s. omega (arith, on (λ x. no-contradiction x))
 
-    module _ (more : load_at index n < load_at index row.m) where
+    module _ (more : get_or loads n 0 < get_or loads row.m 0) where
       -- what m has more than n is the margin
       abbrev margin_here : ℕ
-      margin_here = load_at index row.m - load_at index n
+      margin_here = get_or loads row.m 0 - get_or loads n 0
 
-      pub open-asked : OpenAsked c words profiles index row n margin_here
+      pub open-asked : OpenAsked c row n margin_here
       open-asked =
           record {
-            fits = at.asked.all.fits;
-            indexed = at.asked.all.indexed;
             row_in = at.asked.row_in;
             n-below = at.n-below;
-            margin-narrow = omega (arith, at.asked.all.loads-in row.m m-max, loads-narrow c words profiles loads copies of at.asked.all.fits.profiles-fit row.m m-max);
+            margin-narrow = omega (arith, loads-narrow c words profiles loads copies of scene.held.fits.profiles-fit row.m m-max);
           }
 
       margin-is : (p : Plan) (count : ℕ → ℕ) → PlacementOf p count c words profiles → MarginOf p words row.m n margin_here
@@ -280,7 +283,7 @@ module _ {c : Cluster} {words profiles index : List ℕ} {row : Row} {n : ℕ}
           }
 
   -- whatever the kind of the route
-  pub nothing-level : load_at index row.m ≤ load_at index n → FoundIs c words profiles wanted none
+  pub nothing-level : get_or loads row.m 0 ≤ get_or loads n 0 → FoundIs c words profiles wanted none
   nothing-level l = go kind_here refl
     where
       go : (kind : Bool) → kind ≡ kind_here → FoundIs c words profiles wanted none

@@ -13,11 +13,18 @@ use Rattle.cluster.specs.declared.Cluster.{Cluster}
 use Rattle.cluster.specs.Cluster.{machines_in}
 use Rattle.bits.proofs.Laws.{bit_not}
 use Rattle.loads.specs.Loads.{RoomTo}
+use Rattle.transfers.specs.declared.view.Scene.{Scene}
 use Rattle.search.specs.Scene.{FindAsked, TargetsOf}
 
-module _ {c : Cluster} {words profiles index copies : List ℕ} (asked : FindAsked c words profiles index copies) where
+module _ {scene : Scene} {copies : List ℕ} (asked : FindAsked scene copies) where
+  abbrev c : Cluster
+  c = scene.held.cluster
+
+  abbrev words : List ℕ
+  words = scene.held.words.now
+
   below : (n : ℕ) → n < machines_in c → n < max_machines
-  below n l = omega (arith, asked.all.fits.profiles-fit.in-range.machines-max)
+  below n l = omega (arith, scene.held.fits.profiles-fit.in-range.machines-max)
 
   -- a move leads to a machine with room
   pub targets-room : {r : ℕ} → RoomTo c copies (machines_in c) r → TargetsOf c words false r

@@ -1,5 +1,5 @@
 -- What the search is given, and that it finds the definition's next step.
-use Rattle.std.specs.Prelude.{◌≡◌, Bool, true, false, not, cond, List, ◌↔◌, ℕ, ◌*◌, ◌/◌, ◌<◌, ◌≤◌, eqb, get_or, Option, Some, None}
+use Rattle.std.specs.Prelude.{◌≡◌, Bool, true, false, not, cond, List, ◌↔◌, ℕ, ◌*◌, ◌/◌, ◌<◌, ◌≤◌, eqb, Option, Some, None}
 use Rattle.std.specs.Bool.{beq}
 use Rattle.model.specs.Plan.{Plan, machines}
 use Rattle.model.specs.Refusal.{max_machines}
@@ -8,10 +8,10 @@ use Rattle.theory.specs.Widths.{load_bound}
 use Rattle.model.specs.Steps.{Step as ModelStep, none, relocate, exchange, across_racks, first, next_step}
 use Rattle.cluster.specs.declared.Cluster.{Cluster}
 use Rattle.cluster.specs.Cluster.{machines_in, domain_in, InRange}
-use Rattle.cluster.specs.Blocks.{PlacementFits, PlacementOf}
+use Rattle.cluster.specs.Blocks.{PlacementOf}
 use Rattle.loads.specs.Loads.{copy_sum, LoadsOf}
-use Rattle.index.specs.Index.{load_at, Indexed}
 use Rattle.transfers.specs.declared.Hit.{Hit}
+use Rattle.transfers.specs.declared.view.Scene.{Scene}
 use Rattle.transfers.specs.Route.{hit_of, route_step, StepFound, MarginOf, HasRoom}
 use Rattle.search.specs.declared.Step.{Step}
 use Rattle.search.specs.declared.Step.TheVariants.{Move, Swap, RackMove, RackSwap}
@@ -64,18 +64,14 @@ row_of p words swapping across m = first (machines p) (route_of p words swapping
 unfoldable pub kind_step : Plan → List ℕ → Bool → Bool → ModelStep
 kind_step p words swapping across = first (machines p) (row_of p words swapping across)
 
--- A placement with its index, in which its loads stand, too.
-pub record SearchAsked (c : Cluster) (words profiles index : List ℕ) : Type 0 where
-  pub fits : PlacementFits c words profiles
-  pub indexed : Indexed c words profiles index
-  pub loads : List ℕ
+-- A scene in whose index the loads of its placement stand.
+pub record SearchAsked (scene : Scene) : Type 0 where
   pub copies : List ℕ
-  pub loads-of : LoadsOf c words profiles loads copies
-  pub loads-in : (m : ℕ) → m < max_machines → load_at index m ≡ get_or loads m 0
+  pub loads-of : LoadsOf scene.held.cluster scene.held.words.now scene.held.profiles.now scene.index.now.loads copies
 
 -- With the copies on each machine.
-pub record FindAsked (c : Cluster) (words profiles index copies : List ℕ) : Type 0 where
-  pub all : SearchAsked c words profiles index
+pub record FindAsked (scene : Scene) (copies : List ℕ) : Type 0 where
+  pub all : SearchAsked scene
   pub copies-are : copies ≡ all.copies
 
 -- The machines that an exchange may lead to are all, and a move those with room.
@@ -83,9 +79,9 @@ abbrev pub TargetsOf : Cluster → List ℕ → Bool → ℕ → Type 0
 TargetsOf c words swapping targets =
     (n : ℕ) → n < machines_in c → (bit targets n ≡ 1) ↔ (swapping ≡ false → copy_sum c words n < c.capacity)
 
-pub record KindSearchAsked (c : Cluster) (words profiles index : List ℕ) (kind : Kind) (targets : ℕ) : Type 0 where
-  pub all : SearchAsked c words profiles index
-  pub targets-are : TargetsOf c words (is_exchange kind) targets
+pub record KindSearchAsked (scene : Scene) (kind : Kind) (targets : ℕ) : Type 0 where
+  pub all : SearchAsked scene
+  pub targets-are : TargetsOf scene.held.cluster scene.held.words.now (is_exchange kind) targets
 
 -- A machine of the cluster, and where its rack starts.
 pub record RowIn (c : Cluster) (row : Row) : Type 0 where
@@ -105,19 +101,17 @@ pub record EndsAt (c : Cluster) (row : Row) (r : ℕ) : Type 0 where
   pub within : r ≤ machines_in c
   pub past : (n : ℕ) → r ≤ n → n < machines_in c → kind_at c row n ≡ false
 
-pub record RowAsked (c : Cluster) (words profiles index : List ℕ) (row : Row) : Type 0 where
-  pub all : SearchAsked c words profiles index
-  pub row_in : RowIn c row
-  pub targets-are : TargetsOf c words row.swapping row.targets
+pub record RowAsked (scene : Scene) (row : Row) : Type 0 where
+  pub all : SearchAsked scene
+  pub row_in : RowIn scene.held.cluster row
+  pub targets-are : TargetsOf scene.held.cluster scene.held.words.now row.swapping row.targets
 
-pub record RouteAt (c : Cluster) (words profiles index : List ℕ) (row : Row) (n : ℕ) : Type 0 where
-  pub asked : RowAsked c words profiles index row
-  pub n-below : n < machines_in c
+pub record RouteAt (scene : Scene) (row : Row) (n : ℕ) : Type 0 where
+  pub asked : RowAsked scene row
+  pub n-below : n < machines_in scene.held.cluster
 
 -- The row's machine and n, and what it has more in load.
-pub record OpenAsked (c : Cluster) (words profiles index : List ℕ) (row : Row) (n margin : ℕ) : Type 0 where
-  pub fits : PlacementFits c words profiles
-  pub indexed : Indexed c words profiles index
+pub record OpenAsked (c : Cluster) (row : Row) (n margin : ℕ) : Type 0 where
   pub row_in : RowIn c row
   pub n-below : n < machines_in c
   pub margin-narrow : margin < load_bound

@@ -7,8 +7,7 @@ ghost use Rattle.transfers.specs.Route.{hit_of};
 ghost use Rattle.search.specs.Scene.{is_exchange, is_across, step_of, NextFound, KindAsked, OfKind, PartedOf, OpenAsked, OpenFound, route_of, row_of, kind_step, FindAsked, KindSearchAsked, RowIn, StartsAt, EndsAt, RowAsked, RouteAt, FoundIs};
 
 use cluster::Cluster;
-use index::LOADS_AT;
-use transfers::{Hit, Route};
+use transfers::{Hit, Route, Scene};
 
 // A step. Block i goes from m to n, of an exchange block j from n to m; m and n of a RackMove or RackSwap lie in
 // different racks.
@@ -126,20 +125,13 @@ fn is_parted(cluster: Cluster, low: usize, n: usize) -> bool
 
 // The first step of the row's kind from its machine, which has `margin` more load, to n, unless the shares rule it out; n of a move has
 // room. Whether the two lie in different failure domains is asked only then.
-fn find_open(
-    words: &[u64],
-    profiles: &[u64],
-    index: &[u64],
-    cluster: Cluster,
-    row: Row,
-    n: usize,
-    margin: u64,
-) -> Option<Hit>
-    requires { OpenAsked cluster words.now profiles.now index.now row n margin }
-    ensures { OpenFound cluster words.now profiles.now row n margin result }
+fn find_open(scene: &Scene, row: Row, n: usize, margin: u64) -> Option<Hit>
+    requires { OpenAsked scene.now.held.cluster row n margin }
+    ensures { let h = scene.now.held in OpenFound h.cluster h.words.now h.profiles.now row n margin result }
 {
+    let cluster = scene.held.cluster;
     let m = row.m;
-    if screen::rules_out(index, cluster, m, n, margin, row.swapping) {
+    if screen::rules_out(scene.index, cluster, m, n, margin, row.swapping) {
         return None;
     }
     let route = Route {
@@ -148,35 +140,27 @@ fn find_open(
         n,
         margin,
     };
-    transfers::find(words, profiles, index, cluster, route, row.swapping)
+    transfers::find(scene, route, row.swapping)
 }
 
 // The first step of the row's kind from its machine to n. The loads are compared first: they rule out half of all routes.
-fn find_route(
-    words: &[u64],
-    profiles: &[u64],
-    index: &[u64],
-    cluster: Cluster,
-    row: Row,
-    n: usize,
-) -> Option<Hit>
-    requires { RouteAt cluster words.now profiles.now index.now row n }
-    ensures { FoundIs cluster words.now profiles.now
-        (λ p. route_of p words.now row.swapping row.across row.m n) (hit_of row.across result) }
+fn find_route(scene: &Scene, row: Row, n: usize) -> Option<Hit>
+    requires { RouteAt scene.now row n }
+    ensures { let h = scene.now.held in FoundIs h.cluster h.words.now h.profiles.now
+        (λ p. route_of p h.words.now row.swapping row.across row.m n) (hit_of row.across result) }
 {
-    let m = row.m;
-    let from = index[LOADS_AT + m];
-    let to = index[LOADS_AT + n];
+    let from = scene.index.loads[row.m];
+    let to = scene.index.loads[n];
     if from <= to {
         return None;
     }
-    if !of_kind(row.low, cluster.rack_size, n, row.across) {
+    if !of_kind(row.low, scene.held.cluster.rack_size, n, row.across) {
         return None;
     }
     if bits::bit_at(row.targets, n) == 0 {
         return None;
     }
-    find_open(words, profiles, index, cluster, row, n, from - to)
+    find_open(scene, row, n, from - to)
 }
 
 // The first machine that a step of the row's kind can lead to: its rack's first one, or any.
@@ -201,19 +185,13 @@ fn row_end(cluster: Cluster, row: Row) -> usize
 }
 
 // The first step of the row's kind from its machine.
-fn find_row(
-    words: &[u64],
-    profiles: &[u64],
-    index: &[u64],
-    cluster: Cluster,
-    row: Row,
-) -> Option<Hit>
-    requires { RowAsked cluster words.now profiles.now index.now row }
-    ensures { FoundIs cluster words.now profiles.now
-        (λ p. row_of p words.now row.swapping row.across row.m) (hit_of row.across result) }
+fn find_row(scene: &Scene, row: Row) -> Option<Hit>
+    requires { RowAsked scene.now row }
+    ensures { let h = scene.now.held in FoundIs h.cluster h.words.now h.profiles.now
+        (λ p. row_of p h.words.now row.swapping row.across row.m) (hit_of row.across result) }
 {
-    for n in row_start(row)..row_end(cluster, row) {
-        let hit = find_route(words, profiles, index, cluster, row, n);
+    for n in row_start(row)..row_end(scene.held.cluster, row) {
+        let hit = find_route(scene, row, n);
         if hit.is_some() {
             return hit;
         }
@@ -222,18 +200,12 @@ fn find_row(
 }
 
 // The first step of the kind to one of the targets.
-fn find_kind(
-    words: &[u64],
-    profiles: &[u64],
-    index: &[u64],
-    cluster: Cluster,
-    kind: Kind,
-    targets: u64,
-) -> Option<Step>
-    requires { KindSearchAsked cluster words.now profiles.now index.now kind targets }
-    ensures { FoundIs cluster words.now profiles.now
-        (λ p. kind_step p words.now (is_exchange kind) (is_across kind)) (step_of result) }
+fn find_kind(scene: &Scene, kind: Kind, targets: u64) -> Option<Step>
+    requires { KindSearchAsked scene.now kind targets }
+    ensures { let h = scene.now.held in FoundIs h.cluster h.words.now h.profiles.now
+        (λ p. kind_step p h.words.now (is_exchange kind) (is_across kind)) (step_of result) }
 {
+    let cluster = scene.held.cluster;
     let swapping = kind.is_exchange();
     let across = kind.is_across();
     let size = cluster.rack_size;
@@ -246,27 +218,28 @@ fn find_kind(
             m,
             targets,
         };
-        if let Some(hit) = find_row(words, profiles, index, cluster, row) {
+        if let Some(hit) = find_row(scene, row) {
             return Some(as_step(hit, across));
         }
     }
     None
 }
 
-// The next step, the first by kind: Move, Swap, RackMove, RackSwap.
-pub fn find(
-    words: &[u64],
-    profiles: &[u64],
-    index: &[u64],
-    copies: &[usize],
-    cluster: Cluster,
-) -> Option<Step>
-    requires { FindAsked cluster words.now profiles.now index.now copies.now }
-    ensures { NextFound cluster words.now profiles.now result }
+// The next step, the first by kind: Move, Swap, RackMove, RackSwap. A chain of `or_else` was tried: the proof knows nothing of what a
+// closure over the scene finds.
+pub fn find(scene: &Scene, copies: &[usize]) -> Option<Step>
+    requires { FindAsked scene.now copies.now }
+    ensures { let h = scene.now.held in NextFound h.cluster h.words.now h.profiles.now result }
 {
-    let room = loads::with_room(copies, cluster);
-    find_kind(words, profiles, index, cluster, Kind::Move, room)
-        .or_else(|| find_kind(words, profiles, index, cluster, Kind::Swap, ALL))
-        .or_else(|| find_kind(words, profiles, index, cluster, Kind::RackMove, room))
-        .or_else(|| find_kind(words, profiles, index, cluster, Kind::RackSwap, ALL))
+    let room = loads::with_room(copies, scene.held.cluster);
+    if let Some(step) = find_kind(scene, Kind::Move, room) {
+        return Some(step);
+    }
+    if let Some(step) = find_kind(scene, Kind::Swap, ALL) {
+        return Some(step);
+    }
+    if let Some(step) = find_kind(scene, Kind::RackMove, room) {
+        return Some(step);
+    }
+    find_kind(scene, Kind::RackSwap, ALL)
 }

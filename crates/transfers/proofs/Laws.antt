@@ -25,8 +25,9 @@ use Rattle.cluster.specs.Cluster.{machines_in, domain_in}
 use Rattle.cluster.specs.Blocks.{linked_to, share_in, spread_in, PlacementFits, PlacementOf}
 use Rattle.cluster.proofs.Laws.{cluster-blocks, cluster-domain, cluster-machines, mate-paired, mate-single, profiles-mate, placement-block, placement-share, placement-spread, placement-machine}
 use Rattle.transfers.specs.declared.Route.{Route}
-use Rattle.index.specs.Index.{words_by_number, words_by_rank, spot, rank_at, NextAsked, NoneFree, NextAt}
-use Rattle.transfers.specs.Route.{block_step, route_step, Shift, RouteIn, BlockAsked, Lies, InMargin, Passable, Free, NoReturn, ReturnAsked, RouteAsked, RouteScene, Return, FreeReturn, CandidateAsked}
+use Rattle.index.specs.declared.Index.{Index}
+use Rattle.index.specs.Index.{spot, rank_at, Indexed, NextAsked, NoneFree, NextAt}
+use Rattle.transfers.specs.Route.{block_step, route_step, Shift, RouteIn, BlockAsked, Lies, InMargin, Passable, Free, NoReturn, RouteScene, Return, FreeReturn, CandidateAsked}
 use Rattle.transfers.proofs.Searches.{step-found, none_found, test-found, test-none}
 
 -- ── BlockAsked: when a spread is kept ──────────────────────────────────────────────────────────────────────────────────
@@ -57,7 +58,7 @@ pub linked-below : {c : Cluster} {words profiles : List ℕ} → PlacementFits c
     → (i : ℕ) → i < c.blocks → linked_to (get_or profiles i 0) i < c.blocks
 linked-below fits i l = let linked = fits.profiles-fit.linked i l in omega (arith, linked.some, linked.below)
 
--- ── RouteAsked: the candidates, one after the other ─────────────────────────────────────────────────────────────────────
+-- ── Scene: the candidates, one after the other ──────────────────────────────────────────────────────────────────────────
 
 -- The search has come to block i: every block before it fails.
 pub record Passed (c : Cluster) (Fails : ℕ → Type 0) (i : ℕ) : Type 0 where
@@ -67,48 +68,47 @@ pub record Passed (c : Cluster) (Fails : ℕ → Type 0) (i : ℕ) : Type 0 wher
 pub passed_first : {c : Cluster} {Fails : ℕ → Type 0} → Passed c Fails 0
 passed_first = record { within = omega arith; before = λ k l. absurd (omega arith) }
 
-module _ {c : Cluster} {words profiles index : List ℕ} {route : Route} (asked : RouteAsked c words profiles index route) where
-  in-index : (k i : ℕ) → k < machines_in c → i < c.blocks → spot index words_by_number k i ≡ held words k i
-  in-index k i l b = asked.indexed.by_number k i (omega (arith, asked.route-in.in-range.machines-max)) b
+-- what the index is asked
+pub next-asked : {c : Cluster} {route : Route} {i : ℕ} → RouteIn c route → i ≤ c.blocks → NextAsked route.m route.n i c
+next-asked route-in l =
+    record {
+      m-below = omega (arith, route-in.m-below, route-in.in-range.machines-max);
+      n-below = omega (arith, route-in.n-below, route-in.in-range.machines-max);
+      from-max = omega (arith, route-in.in-range.blocks-max);
+      blocks-max = route-in.in-range.blocks-max;
+    }
 
-  pub next-asked : {part i : ℕ} → part ≤ words_by_rank → i ≤ c.blocks → NextAsked index part route.m route.n i c
-  next-asked part-max l =
-      let route-in = asked.route-in in
-      record {
-        sized = asked.indexed.ordered.sized;
-        part-max = part-max;
-        m-below = omega (arith, route-in.m-below, route-in.in-range.machines-max);
-        n-below = omega (arith, route-in.n-below, route-in.in-range.machines-max);
-        from-max = omega (arith, route-in.in-range.blocks-max);
-        blocks-max = route-in.in-range.blocks-max;
-      }
+module _ {c : Cluster} {words profiles : List ℕ} {index : Index} {route : Route}
+    (indexed : Indexed c words profiles index) (route-in : RouteIn c route) where
+  in-index : (k i : ℕ) → k < machines_in c → i < c.blocks → spot index.by_number k i ≡ held words k i
+  in-index k i l b = indexed.by_number k i (omega (arith, route-in.in-range.machines-max)) b
 
   -- the next candidate
-  pub next-candidate : {i r : ℕ} → NextAt index words_by_number route.m route.n i c r → CandidateAsked c words profiles index route r
+  pub next-candidate : {i r : ℕ} → NextAt index.by_number route.m route.n i c r → CandidateAsked c words route r
   next-candidate {i} {r} next =
       record {
-        asked = asked;
+        route-in = route-in;
         i-below = next.below;
-        holds = sym (in-index route.m r asked.route-in.m-below next.below) ∙ next.holds;
-        lacks = sym (in-index route.n r asked.route-in.n-below next.below) ∙ next.lacks;
+        holds = sym (in-index route.m r route-in.m-below next.below) ∙ next.holds;
+        lacks = sym (in-index route.n r route-in.n-below next.below) ∙ next.lacks;
       }
 
   -- a block that is no candidate fails
   module _ {Fails : ℕ → Type 0} (others : (k : ℕ) → k < c.blocks → (held words route.m k ≡ 1 → held words route.n k ≡ 0 → ⊥) → Fails k)
       {i : ℕ} (passed : Passed c Fails i) where
-    passed-free : (to : ℕ) → to ≤ c.blocks → NoneFree index words_by_number route.m route.n i to → (k : ℕ) → k < to → Fails k
+    passed-free : (to : ℕ) → to ≤ c.blocks → NoneFree index.by_number route.m route.n i to → (k : ℕ) → k < to → Fails k
     passed-free to within clear k l = elim (dec_lt k i) [
       | yes h ↦ passed.before k h
       | no h ↦
           let b : k < c.blocks = omega arith in
           others k b (λ holds lacks. clear k (omega arith) l
-          (in-index route.m k asked.route-in.m-below b ∙ holds) (in-index route.n k asked.route-in.n-below b ∙ lacks))
+          (in-index route.m k route-in.m-below b ∙ holds) (in-index route.n k route-in.n-below b ∙ lacks))
     ]
 
-    pub passed-all : NoneFree index words_by_number route.m route.n i c.blocks → (k : ℕ) → k < c.blocks → Fails k
+    pub passed-all : NoneFree index.by_number route.m route.n i c.blocks → (k : ℕ) → k < c.blocks → Fails k
     passed-all clear = passed-free c.blocks (omega arith) clear
 
-    module _ {r : ℕ} (next : NextAt index words_by_number route.m route.n i c r) where
+    module _ {r : ℕ} (next : NextAt index.by_number route.m route.n i c r) where
       pub passed-before : (k : ℕ) → k < r → Fails k
       passed-before = passed-free r (omega (arith, next.below)) next.passed
 
@@ -116,38 +116,22 @@ module _ {c : Cluster} {words profiles index : List ℕ} {route : Route} (asked 
       passed-next here = record { within = omega (arith, next.below); before = below_more _ r passed-before here }
 
 -- a candidate's word and profile
-pub return-block : {c : Cluster} {words profiles : List ℕ} {route : Route} {j : ℕ}
-    → ReturnAsked c words profiles route j → BlockAsked c route (word_of words j) (get_or profiles j 0)
-return-block {j} asked =
+pub candidate-block : {c : Cluster} {words profiles : List ℕ} {route : Route} {i : ℕ} → PlacementFits c words profiles
+    → CandidateAsked c words route i → BlockAsked c route (word_of words i) (get_or profiles i 0)
+candidate-block {i} fits candidate =
     record {
-      route-in = asked.route-in;
-      holds = asked.holds;
-      lacks = asked.lacks;
-      share-narrow = asked.fits.profiles-fit.narrow j asked.j-below;
-    }
-
-pub candidate-return : {c : Cluster} {words profiles index : List ℕ} {route : Route} {i : ℕ}
-    → CandidateAsked c words profiles index route i → ReturnAsked c words profiles route i
-candidate-return candidate =
-    record {
-      fits = candidate.asked.fits;
-      route-in = candidate.asked.route-in;
-      j-below = candidate.i-below;
+      route-in = candidate.route-in;
       holds = candidate.holds;
       lacks = candidate.lacks;
+      share-narrow = fits.profiles-fit.narrow i candidate.i-below;
     }
 
-pub candidate-block : {c : Cluster} {words profiles index : List ℕ} {route : Route} {i : ℕ}
-    → CandidateAsked c words profiles index route i → BlockAsked c route (word_of words i) (get_or profiles i 0)
-candidate-block candidate = return-block (candidate-return candidate)
-
-pub candidate-shift : {c : Cluster} {words profiles index : List ℕ} {route : Route} {i : ℕ}
-    → CandidateAsked c words profiles index route i → Shift c words route.m route.n i
+pub candidate-shift : {c : Cluster} {words : List ℕ} {route : Route} {i : ℕ}
+    → CandidateAsked c words route i → Shift c words route.m route.n i
 candidate-shift candidate =
-    let route-in = candidate.asked.route-in in
     record {
-      m-below = route-in.m-below;
-      n-below = route-in.n-below;
+      m-below = candidate.route-in.m-below;
+      n-below = candidate.route-in.n-below;
       i-below = candidate.i-below;
       holds = candidate.holds;
       lacks = candidate.lacks;
@@ -155,12 +139,10 @@ candidate-shift candidate =
 
 -- ── NoReturn: what the shares rule out ─────────────────────────────────────────────────────────────────────────────────
 
-pub no_return-block : (p : Plan) {c : Cluster} {words profiles index : List ℕ} {route : Route} {given : ℕ}
-    → RouteAsked c words profiles index route → NoReturn c index route given
+pub no_return-block : (p : Plan) {c : Cluster} {words profiles : List ℕ} {index : Index} {route : Route} {given : ℕ}
+    → Indexed c words profiles index → RouteIn c route → NoReturn c index route given
     → (k : ℕ) → k < c.blocks → Return p words profiles route given k → ⊥
-no_return-block p {index} {route} asked ruled k l t =
-    let indexed = asked.indexed in
-    let route-in = asked.route-in in
+no_return-block p {index} {route} indexed route-in ruled k l t =
     ruled (rank_at index k) (indexed.ordered.rank_below k l)
     (indexed.by_rank route.m k (omega (arith, route-in.m-below, route-in.in-range.machines-max)) l ∙ t.holds)
     (indexed.by_rank route.n k (omega (arith, route-in.n-below, route-in.in-range.machines-max)) l ∙ t.lacks)
@@ -178,21 +160,14 @@ apart-sym a b = elim (ℕ_discrete a b) [
   | no d ↦ rw (ne_eqb a b d, ne_eqb b a (λ q. d (sym q)))
 ]
 
-pub reversed-asked : (c : Cluster) (words profiles index : List ℕ) (route : Route)
-    → RouteAsked c words profiles index route → RouteAsked c words profiles index (reversed route)
-reversed-asked c words profiles index route asked =
-    let route-in = asked.route-in in
+pub reversed-in : {c : Cluster} {route : Route} → RouteIn c route → RouteIn c (reversed route)
+reversed-in {c} {route} route-in =
     record {
-      fits = asked.fits;
-      indexed = asked.indexed;
-      route-in =
-          record {
-            in-range = route-in.in-range;
-            m-below = route-in.n-below;
-            n-below = route-in.m-below;
-            parted-is = route-in.parted-is ∙ apart-sym (domain_in c route.m) (domain_in c route.n);
-            margin-narrow = route-in.margin-narrow;
-          };
+      in-range = route-in.in-range;
+      m-below = route-in.n-below;
+      n-below = route-in.m-below;
+      parted-is = route-in.parted-is ∙ apart-sym (domain_in c route.m) (domain_in c route.n);
+      margin-narrow = route-in.margin-narrow;
     }
 
 -- ── block_step, route_step ────────────────────────────────────────────────────────────────────────────────────────────────

@@ -7,9 +7,10 @@ use Rattle.theory.specs.Widths.{share_bound, load_bound}
 use Rattle.theory.specs.Steps.{Lowers}
 use Rattle.cluster.specs.declared.Cluster.{Cluster}
 use Rattle.cluster.specs.Cluster.{machines_in, domain_in, InRange, ClusterOf}
-use Rattle.cluster.specs.Blocks.{linked_to, share_in, spread_in, PlacementFits, PlacementOf}
+use Rattle.cluster.specs.Blocks.{linked_to, share_in, spread_in, PlacementOf}
 use Rattle.transfers.specs.declared.Route.{Route}
-use Rattle.index.specs.Index.{words_by_rank, spot, share_at, Indexed, AboveAsked}
+use Rattle.index.specs.declared.Index.{Index}
+use Rattle.index.specs.Index.{spot, share_at}
 use Rattle.transfers.specs.declared.Hit.{Hit}
 use Rattle.transfers.specs.declared.Hit.TheVariants.{Move, Swap}
 
@@ -87,19 +88,12 @@ PassableOf c route word spread given back r =
 abbrev pub Free : List ℕ → List ℕ → ℕ → ℕ → Type 0
 Free words profiles i n = held words n (linked_to (get_or profiles i 0) i) ≡ 0
 
-pub record FreeAsked (c : Cluster) (words profiles : List ℕ) (i n : ℕ) : Type 0 where
-  pub fits : PlacementFits c words profiles
+pub record FreeAsked (c : Cluster) (i n : ℕ) : Type 0 where
   pub i-below : i < c.blocks
   pub n-below : n < machines_in c
 
 abbrev pub FreeOf : List ℕ → List ℕ → ℕ → ℕ → Bool → Type 0
 FreeOf words profiles i n r = (r ≡ true) ↔ Free words profiles i n
-
--- What a search at a route is asked with.
-pub record RouteAsked (c : Cluster) (words profiles index : List ℕ) (route : Route) : Type 0 where
-  pub fits : PlacementFits c words profiles
-  pub indexed : Indexed c words profiles index
-  pub route-in : RouteIn c route
 
 -- The margin says which transfers lower m's load and keep n's below it.
 abbrev pub MarginOf : Plan → List ℕ → ℕ → ℕ → ℕ → Type 0
@@ -110,26 +104,20 @@ pub record RouteScene (p : Plan) (count : ℕ → ℕ) (c : Cluster) (words prof
   pub placement : PlacementOf p count c words profiles
   pub margin-is : MarginOf p words route.m route.n route.margin
 
--- What is asked about the shares of a route's blocks.
-pub record SharesAsked (c : Cluster) (index : List ℕ) (route : Route) : Type 0 where
-  pub above-asked : AboveAsked index c
-  pub route-in : RouteIn c route
-
 -- No block of m's that n lacks, at whatever rank, has a share that may come back for the share `given`.
-abbrev pub NoReturn : Cluster → List ℕ → Route → ℕ → Type 0
+abbrev pub NoReturn : Cluster → Index → Route → ℕ → Type 0
 NoReturn c index route given =
-    (r : ℕ) → r < c.blocks → spot index words_by_rank route.m r ≡ 1 → spot index words_by_rank route.n r ≡ 0
+    (r : ℕ) → r < c.blocks → spot index.by_rank route.m r ≡ 1 → spot index.by_rank route.n r ≡ 0
     → InMargin route.margin given (share_at index r) → ⊥
 
--- What is asked about a block j that may come back: it is on m and not on n.
-pub record ReturnAsked (c : Cluster) (words profiles : List ℕ) (route : Route) (j : ℕ) : Type 0 where
-  pub fits : PlacementFits c words profiles
+-- A block that is on m and not on n.
+pub record CandidateAsked (c : Cluster) (words : List ℕ) (route : Route) (i : ℕ) : Type 0 where
   pub route-in : RouteIn c route
-  pub j-below : j < c.blocks
-  pub holds : held words route.m j ≡ 1
-  pub lacks : held words route.n j ≡ 0
+  pub i-below : i < c.blocks
+  pub holds : held words route.m i ≡ 1
+  pub lacks : held words route.n i ≡ 0
 
--- It comes back for one of the share `given`, wherever its partner is.
+-- Such a block comes back for one of the share `given`, wherever its partner is.
 pub record Return (p : Plan) (words profiles : List ℕ) (route : Route) (given j : ℕ) : Type 0 where
   pub holds : held words route.m j ≡ 1
   pub lacks : held words route.n j ≡ 0
@@ -164,7 +152,6 @@ ReturnFound c words profiles route given None = NoneReturns c words profiles rou
 
 -- A block i whose partner is on m.
 pub record OwnAsked (c : Cluster) (words profiles : List ℕ) (route : Route) (i : ℕ) : Type 0 where
-  pub fits : PlacementFits c words profiles
   pub route-in : RouteIn c route
   pub i-below : i < c.blocks
   pub holds : held words route.m (linked_to (get_or profiles i 0) i) ≡ 1
@@ -182,13 +169,6 @@ OwnFound c words profiles route given i (Some r) = OwnAt c words profiles route 
 OwnFound c words profiles route given i None =
     (p : Plan) (count : ℕ → ℕ) → PlacementOf p count c words profiles
     → Return p words profiles route given (linked_to (get_or profiles i 0) i) → ⊥
-
--- A block that is on m and not on n.
-pub record CandidateAsked (c : Cluster) (words profiles index : List ℕ) (route : Route) (i : ℕ) : Type 0 where
-  pub asked : RouteAsked c words profiles index route
-  pub i-below : i < c.blocks
-  pub holds : held words route.m i ≡ 1
-  pub lacks : held words route.n i ≡ 0
 
 -- Block i can be exchanged for no block before `to`.
 abbrev pub NoneExchanged : Cluster → List ℕ → List ℕ → Route → ℕ → ℕ → Type 0

@@ -2,12 +2,16 @@
 // blocks of a pair are each other's partners; they share no machine.
 #![tactic(auto)]
 
-ghost use Rattle.std.specs.Prelude.{◌≡◌, Bool};
+ghost use Rattle.std.specs.Prelude.{◌≡◌, Bool, ◌≤◌};
 ghost use Rattle.cluster.specs.Blocks.{share_in, spread_in};
-ghost use Rattle.transfers.specs.Route.{route_step, block_step, BlockAsked, KeepsOf, PassableOf, FreeAsked, FreeOf, SharesAsked, NoReturn, ReturnAsked, ReturnOf, RouteAsked, ReturnFound, OwnAsked, OwnFound, CandidateAsked, ExchangeFound, HitOf};
+ghost use Rattle.index.specs.Index.{NextOf};
+ghost use Rattle.transfers.specs.Route.{route_step, block_step, BlockAsked, KeepsOf, PassableOf, RouteIn, FreeAsked, FreeOf, NoReturn, CandidateAsked, ReturnOf, ReturnFound, OwnAsked, OwnFound, ExchangeFound, HitOf};
+
+mod view;
 
 use cluster::Cluster;
-use index::{BY_NUMBER, BY_RANK, KEYS_AT};
+use held::Held;
+pub use view::Scene;
 
 // A route: a step takes a block from machine m to machine n. What m's load may fall by stays below `margin`; `parted` says whether the
 // two lie in different failure domains.
@@ -83,66 +87,68 @@ fn returnable(word: u64, profile: u64, cluster: Cluster, route: Route, given: u6
 }
 
 // Whether n does not hold the block that block i is linked to: its partner, or i itself where it has none.
-fn is_free(words: &[u64], profiles: &[u64], cluster: Cluster, i: usize, n: usize) -> bool
-    requires { FreeAsked cluster words.now profiles.now i n }
-    ensures { FreeOf words.now profiles.now i n result }
+fn is_free(held: &Held, i: usize, n: usize) -> bool
+    requires { FreeAsked held.now.cluster i n }
+    ensures { FreeOf held.now.words.now held.now.profiles.now i n result }
 {
-    let k = cluster::linked_to(profiles[i], i);
-    bits::bit_at(words[k], n) == 0
+    let k = held.linked(i);
+    bits::bit_at(held.words[k], n) == 0
 }
 
 // Whether a block of m's that n lacks may go to n in return for one of the share `given`, as far as the shares tell; where it says no,
 // none can.
-fn may_return(index: &[u64], cluster: Cluster, route: Route, given: u64) -> bool
-    requires { SharesAsked cluster index.now route }
-    ensures { result ≡ Bool.false → NoReturn cluster index.now route given }
+fn may_return(scene: &Scene, route: Route, given: u64) -> bool
+    requires { RouteIn scene.now.held.cluster route }
+    ensures { result ≡ Bool.false → NoReturn scene.now.held.cluster scene.now.index.now route given }
 {
     if given < route.margin {
         return true;
     }
-    let from = index::first_above(index, given - route.margin, cluster);
-    let Some(rank) = index::next(index, BY_RANK, route.m, route.n, from, cluster) else {
+    let index = scene.index;
+    let cluster = scene.held.cluster;
+    let from = index.first_above(given - route.margin, cluster);
+    let Some(rank) = index::next(&index.by_rank, route.m, route.n, from, cluster) else {
         return false;
     };
-    ranking::key_share(index[KEYS_AT + rank]) < given
+    ranking::key_share(index.keys[rank]) < given
 }
 
 // Whether block j can go from m to n in return for one of the share `given`, and its partner is not on n.
-fn can_return(
-    words: &[u64],
-    profiles: &[u64],
-    cluster: Cluster,
-    route: Route,
-    given: u64,
-    j: usize,
-) -> bool
-    requires { ReturnAsked cluster words.now profiles.now route j }
-    ensures { ReturnOf cluster words.now profiles.now route given j result }
+fn can_return(held: &Held, route: Route, given: u64, j: usize) -> bool
+    requires { CandidateAsked held.now.cluster held.now.words.now route j }
+    ensures { ReturnOf held.now.cluster held.now.words.now held.now.profiles.now route given j result }
 {
-    if !returnable(words[j], profiles[j], cluster, route, given) {
+    if !returnable(held.words[j], held.profiles[j], held.cluster, route, given) {
         return false;
     }
-    is_free(words, profiles, cluster, j, route.n)
+    is_free(held, j, route.n)
+}
+
+// The first candidate from `from` on: a block that is on m and not on n.
+fn next_candidate(scene: &Scene, route: Route, from: usize) -> Option<usize>
+    requires { RouteIn scene.now.held.cluster route × (from ≤ scene.now.held.cluster.blocks) }
+    ensures { NextOf scene.now.index.now.by_number route.m route.n from scene.now.held.cluster result }
+{
+    index::next(
+        &scene.index.by_number,
+        route.m,
+        route.n,
+        from,
+        scene.held.cluster,
+    )
 }
 
 // The first block of m's that can go to n in return for one of the share `given`, if there is one.
-fn first_return(
-    words: &[u64],
-    profiles: &[u64],
-    index: &[u64],
-    cluster: Cluster,
-    route: Route,
-    given: u64,
-) -> Option<usize>
-    requires { RouteAsked cluster words.now profiles.now index.now route }
-    ensures { ReturnFound cluster words.now profiles.now route given result }
+fn first_return(scene: &Scene, route: Route, given: u64) -> Option<usize>
+    requires { RouteIn scene.now.held.cluster route }
+    ensures { let h = scene.now.held in ReturnFound h.cluster h.words.now h.profiles.now route given result }
 {
-    if !may_return(index, cluster, route, given) {
+    if !may_return(scene, route, given) {
         return None;
     }
     let mut next_j: usize = 0;
-    while let Some(j) = index::next(index, BY_NUMBER, route.m, route.n, next_j, cluster) {
-        if can_return(words, profiles, cluster, route, given, j) {
+    while let Some(j) = next_candidate(scene, route, next_j) {
+        if can_return(&scene.held, route, given, j) {
             return Some(j);
         }
         next_j = j + 1;
@@ -151,41 +157,28 @@ fn first_return(
 }
 
 // The partner of block i, which is on m, where it can go to n in return for i, of the share `given`.
-fn own_return(
-    words: &[u64],
-    profiles: &[u64],
-    cluster: Cluster,
-    route: Route,
-    given: u64,
-    i: usize,
-) -> Option<usize>
-    requires { OwnAsked cluster words.now profiles.now route i }
-    ensures { OwnFound cluster words.now profiles.now route given i result }
+fn own_return(held: &Held, route: Route, given: u64, i: usize) -> Option<usize>
+    requires { OwnAsked held.now.cluster held.now.words.now held.now.profiles.now route i }
+    ensures { OwnFound held.now.cluster held.now.words.now held.now.profiles.now route given i result }
 {
-    let k = cluster::linked_to(profiles[i], i);
-    if bits::bit_at(words[k], route.n) == 1 {
+    let k = held.linked(i);
+    if bits::bit_at(held.words[k], route.n) == 1 {
         return None;
     }
-    returnable(words[k], profiles[k], cluster, route, given).then_some(k)
+    returnable(held.words[k], held.profiles[k], held.cluster, route, given).then_some(k)
 }
 
 // The first block that block i can be exchanged for, if there is one; it is i's partner where that is on n.
-fn first_exchange(
-    words: &[u64],
-    profiles: &[u64],
-    index: &[u64],
-    cluster: Cluster,
-    route: Route,
-    i: usize,
-) -> Option<usize>
-    requires { CandidateAsked cluster words.now profiles.now index.now route i }
-    ensures { ExchangeFound cluster words.now profiles.now route i result }
+fn first_exchange(scene: &Scene, route: Route, i: usize) -> Option<usize>
+    requires { CandidateAsked scene.now.held.cluster scene.now.held.words.now route i }
+    ensures { let h = scene.now.held in ExchangeFound h.cluster h.words.now h.profiles.now route i result }
 {
-    let given = cluster::share_of(profiles[i]);
+    let held = &scene.held;
+    let given = held.share(i);
     if given == 0 {
         return None;
     }
-    if !keeps(words[i], profiles[i], cluster, route) {
+    if !keeps(held.words[i], held.profiles[i], held.cluster, route) {
         return None;
     }
     let back = Route {
@@ -194,57 +187,43 @@ fn first_exchange(
         n: route.m,
         margin: route.margin,
     };
-    if is_free(words, profiles, cluster, i, route.n) {
-        return first_return(words, profiles, index, cluster, back, given);
+    if is_free(held, i, route.n) {
+        return first_return(scene, back, given);
     }
-    own_return(words, profiles, cluster, back, given, i)
+    own_return(held, back, given, i)
 }
 
 // The first step of the kind with block i from m to n.
-fn find_at(
-    words: &[u64],
-    profiles: &[u64],
-    index: &[u64],
-    cluster: Cluster,
-    route: Route,
-    swapping: bool,
-    i: usize,
-) -> Option<Hit>
-    requires { CandidateAsked cluster words.now profiles.now index.now route i }
-    ensures { HitOf cluster words.now profiles.now route swapping
-        (λ across p. block_step p words.now swapping across route.m route.n i) result }
+fn find_at(scene: &Scene, route: Route, swapping: bool, i: usize) -> Option<Hit>
+    requires { CandidateAsked scene.now.held.cluster scene.now.held.words.now route i }
+    ensures { let h = scene.now.held in HitOf h.cluster h.words.now h.profiles.now route swapping
+        (λ across p. block_step p h.words.now swapping across route.m route.n i) result }
 {
+    let held = &scene.held;
     let m = route.m;
     let n = route.n;
     if swapping {
-        let j = first_exchange(words, profiles, index, cluster, route, i)?;
+        let j = first_exchange(scene, route, i)?;
         return Some(Hit::Swap { m, n, i, j });
     }
-    if !movable(words[i], profiles[i], cluster, route) {
+    if !movable(held.words[i], held.profiles[i], held.cluster, route) {
         return None;
     }
-    if !is_free(words, profiles, cluster, i, n) {
+    if !is_free(held, i, n) {
         return None;
     }
     Some(Hit::Move { m, n, i })
 }
 
 // The first move from m to n, which has room, or the first exchange between them.
-pub fn find(
-    words: &[u64],
-    profiles: &[u64],
-    index: &[u64],
-    cluster: Cluster,
-    route: Route,
-    swapping: bool,
-) -> Option<Hit>
-    requires { RouteAsked cluster words.now profiles.now index.now route }
-    ensures { HitOf cluster words.now profiles.now route swapping
-        (λ across p. route_step p words.now swapping across route.m route.n) result }
+pub fn find(scene: &Scene, route: Route, swapping: bool) -> Option<Hit>
+    requires { RouteIn scene.now.held.cluster route }
+    ensures { let h = scene.now.held in HitOf h.cluster h.words.now h.profiles.now route swapping
+        (λ across p. route_step p h.words.now swapping across route.m route.n) result }
 {
     let mut next_i: usize = 0;
-    while let Some(i) = index::next(index, BY_NUMBER, route.m, route.n, next_i, cluster) {
-        let hit = find_at(words, profiles, index, cluster, route, swapping, i);
+    while let Some(i) = next_candidate(scene, route, next_i) {
+        let hit = find_at(scene, route, swapping, i);
         if hit.is_some() {
             return hit;
         }

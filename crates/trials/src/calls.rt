@@ -18,7 +18,7 @@ fn put_header(line: Line, h: Header) -> Line {
 pub fn plan_line(bytes: &[u8]) -> Line {
     let line = Line::new(b"plan");
     match plan::read(bytes) {
-        Ok(h) => put_header(line, h),
+        Ok(plan) => put_header(line, plan.header),
         Err(refusal) => line.refused(refusal),
     }
 }

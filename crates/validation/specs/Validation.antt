@@ -7,10 +7,9 @@ use Rattle.model.specs.Replication.{need}
 use Rattle.model.specs.Placement.{bit, word_of, count_of, used, all_within, all_spread, all_fit, all_apart}
 use Rattle.cluster.specs.declared.Cluster.{Cluster}
 use Rattle.cluster.specs.Cluster.{machines_in, InRange, ClusterOf}
-use Rattle.cluster.specs.Blocks.{least_in, most_in, linked_to, copies_in, DemandsOf, CountsFit, ProfilesOf, PlacementFits}
+use Rattle.cluster.specs.Blocks.{least_in, most_in, linked_to, copies_in, DemandsOf, CountsFit, ProfilesOf}
 use Rattle.needs.specs.Needs.{FigureAsked}
 use Rattle.loads.specs.declared.Loads.{Loads}
-use Rattle.loads.specs.Loads.{LoadsOf}
 
 -- A word for every block.
 pub record WordsAsked (c : Cluster) (words : List ℕ) : Type 0 where
@@ -64,8 +63,3 @@ abbrev pub Apart : List ℕ → List ℕ → ℕ → Type 0
 Apart words profiles i =
     let other = linked_to (get_or profiles i 0) i in
     (other ≡ i → ⊥) → (k : ℕ) → bit (word_of words i) k + bit (word_of words other) k ≤ 1
-
--- Words and profiles with room, and the loads and copies of the words.
-pub record LayoutAsked (c : Cluster) (words profiles : List ℕ) (loads : Loads) : Type 0 where
-  pub fits : PlacementFits c words profiles
-  pub loads-of : LoadsOf c words profiles loads.load loads.copies

@@ -2,16 +2,18 @@
 // and demands, before any share or load is made; the others hold at any counts that pass 14.
 #![tactic(auto)]
 
-ghost use Rattle.std.specs.Prelude.{◌≡◌, Bool, List, ◌↔◌, ℕ, ◌<◌, ◌≤◌, leb};
+ghost use Rattle.std.specs.Prelude.{◌≡◌, Bool, List, ◌↔◌, ℕ, ◌<◌, ◌≤◌, leb, get_or};
 ghost use Rattle.model.specs.Plan.{Plan};
 ghost use Rattle.model.specs.Refusal.{max_machines};
-ghost use Rattle.model.specs.Placement.{replicas, domains_used, all_within, all_spread, all_fit, all_apart};
+ghost use Rattle.model.specs.Placement.{word_of, replicas, domains_used, all_within, all_spread, all_fit, all_apart};
 ghost use Rattle.refusal.specs.Rows.{code_of};
-ghost use Rattle.cluster.specs.Cluster.{machines_in, InRange, ClusterOf};
-ghost use Rattle.cluster.specs.Blocks.{spread_in, PlacementFits};
-ghost use Rattle.validation.specs.Validation.{WordsAsked, CountsAsked, CountedAs, CountsJudged, HeldAt, CopiesOf, Apart, LayoutAsked, layout_refusal};
+ghost use Rattle.cluster.specs.Cluster.{machines_in, ClusterOf};
+ghost use Rattle.cluster.specs.Blocks.{spread_in};
+ghost use Rattle.loads.specs.Loads.{LoadsOf};
+ghost use Rattle.validation.specs.Validation.{WordsAsked, CountsAsked, CountedAs, CountsJudged, HeldAt, CopiesOf, Apart, layout_refusal};
 
 use cluster::Cluster;
+use held::Held;
 use loads::Loads;
 use refusal::Refusal;
 
@@ -55,25 +57,22 @@ pub fn check_counts(
     Ok(())
 }
 
-// Whether a block that has a copy lies in as many failure domains as its spread says. They are counted for a spread above one alone.
-fn is_spread(word: u64, profile: u64, cluster: Cluster) -> bool
-    requires { InRange cluster }
-    ensures { (p : Plan) → ClusterOf p cluster → 1 ≤ replicas p word → result ≡ leb (spread_in profile) (domains_used p word) }
+// Whether block i, which has a copy, lies in as many failure domains as its spread says. They are counted for a spread above one alone.
+fn is_spread(held: &Held, i: usize) -> bool
+    requires { i < held.now.cluster.blocks }
+    ensures { (p : Plan) → ClusterOf p held.now.cluster → let word = word_of held.now.words.now i in
+        1 ≤ replicas p word → result ≡ leb (spread_in (get_or held.now.profiles.now i 0)) (domains_used p word) }
 {
-    let spread = cluster::spread_of(profile);
-    if spread <= 1 {
-        return true;
-    }
-    spread <= bits::domains_used(word, cluster)
+    let spread = cluster::spread_of(held.profiles[i]);
+    spread <= 1 || spread <= bits::domains_used(held.words[i], held.cluster)
 }
 
 // Row 15: whether every block lies in as many failure domains as its spread says.
-fn all_spread(words: &[u64], profiles: &[u64], cluster: Cluster) -> bool
-    requires { PlacementFits cluster words.now profiles.now }
-    ensures { (p : Plan) (count : ℕ → ℕ) → HeldAt p count cluster words.now profiles.now
-        → result ≡ all_spread p words.now }
+fn all_spread(held: &Held) -> bool
+    ensures { (p : Plan) (count : ℕ → ℕ) → HeldAt p count held.now.cluster held.now.words.now held.now.profiles.now
+        → result ≡ all_spread p held.now.words.now }
 {
-    (0..cluster.blocks).all(|i| is_spread(words[i], profiles[i], cluster))
+    (0..held.cluster.blocks).all(|i| is_spread(held, i))
 }
 
 // Row 16: whether no machine holds more than C copies.
@@ -88,44 +87,35 @@ fn all_fit(loads: Loads, cluster: Cluster) -> bool
 }
 
 // Whether block i shares no machine with the block that its profile links it to, where that is another: its partner.
-fn is_apart(words: &[u64], profiles: &[u64], cluster: Cluster, i: usize) -> bool
-    requires { PlacementFits cluster words.now profiles.now × (i < cluster.blocks) }
-    ensures { (result ≡ Bool.true) ↔ Apart words.now profiles.now i }
+fn is_apart(held: &Held, i: usize) -> bool
+    requires { i < held.now.cluster.blocks }
+    ensures { (result ≡ Bool.true) ↔ Apart held.now.words.now held.now.profiles.now i }
 {
-    let partner = cluster::linked_to(profiles[i], i);
-    if partner == i {
-        return true;
-    }
-    bits::are_disjoint(words[i], words[partner])
+    let partner = held.linked(i);
+    partner == i || bits::are_disjoint(held.words[i], held.words[partner])
 }
 
 // Row 18: whether no machine holds both blocks of a pair. The words name only machines below M.
-fn all_apart(words: &[u64], profiles: &[u64], cluster: Cluster) -> bool
-    requires { PlacementFits cluster words.now profiles.now }
-    ensures { (p : Plan) (count : ℕ → ℕ) → HeldAt p count cluster words.now profiles.now
-        → all_within p words.now ≡ Bool.true → result ≡ all_apart p words.now }
+fn all_apart(held: &Held) -> bool
+    ensures { (p : Plan) (count : ℕ → ℕ) → HeldAt p count held.now.cluster held.now.words.now held.now.profiles.now
+        → all_within p held.now.words.now ≡ Bool.true → result ≡ all_apart p held.now.words.now }
 {
-    (0..cluster.blocks).all(|i| is_apart(words, profiles, cluster, i))
+    (0..held.cluster.blocks).all(|i| is_apart(held, i))
 }
 
 // Rows 15, 16 and 18 of a placement whose words have passed 13 and 14, with its loads, at whatever counts it holds.
-pub fn check_layout(
-    words: &[u64],
-    profiles: &[u64],
-    loads: Loads,
-    cluster: Cluster,
-) -> Result<(), Refusal>
-    requires { LayoutAsked cluster words.now profiles.now loads }
-    ensures { (p : Plan) (count : ℕ → ℕ) → HeldAt p count cluster words.now profiles.now
-        → all_within p words.now ≡ Bool.true → code_of result ≡ layout_refusal p words.now }
+pub fn check_layout(held: &Held, loads: Loads) -> Result<(), Refusal>
+    requires { LoadsOf held.now.cluster held.now.words.now held.now.profiles.now loads.load loads.copies }
+    ensures { (p : Plan) (count : ℕ → ℕ) → HeldAt p count held.now.cluster held.now.words.now held.now.profiles.now
+        → all_within p held.now.words.now ≡ Bool.true → code_of result ≡ layout_refusal p held.now.words.now }
 {
-    if !all_spread(words, profiles, cluster) {
+    if !all_spread(held) {
         return Err(Refusal::TooFewDomains);
     }
-    if !all_fit(loads, cluster) {
+    if !all_fit(loads, held.cluster) {
         return Err(Refusal::OverCapacity);
     }
-    if !all_apart(words, profiles, cluster) {
+    if !all_apart(held) {
         return Err(Refusal::PairTogether);
     }
     Ok(())

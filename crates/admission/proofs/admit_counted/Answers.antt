@@ -5,17 +5,11 @@ use Rattle.std.proofs.lemmas.Result.{err_from_is_err_and}
 use Rattle.admission.proofs.Laws.{prepared-of, held-at, within-all}
 use Rattle.admission.proofs.admit_counted.Goals as goal
 
-pub sum_words-loads-requires : goal.sum_words-loads-requires
-sum_words-loads-requires c =
-    let asked = c.requires in
-    record { profiles-fit = (c.fill_held-largest.ensures asked.plan asked.demands-of).fit; word_room = asked.fit.word_room }
-
-pub check_layout-requires : goal.check_layout-requires
-check_layout-requires c =
+pub invariant_of-held : goal.invariant_of-held
+invariant_of-held c =
     let asked = c.requires in
     record {
       fits = record { profiles-fit = (c.fill_held-largest.ensures asked.plan asked.demands-of).fit; word_room = asked.fit.word_room };
-      loads-of = c.sum_words-loads.ensures;
     }
 
 pub returns-in_err-check_layout : goal.returns-in_err-check_layout

@@ -9,7 +9,7 @@ use Rattle.admission.proofs.demand_all.Goals as goal
 
 pub overflow_mul-places : goal.overflow_mul-places
 overflow_mul-places c =
-    let laws = accepted-header _ _ c.requires.accepts in
+    let laws = accepted-header _ _ c.args.plan.now.accepts in
     omega (arith, mul-le-mul c.machines.ensures.1 (cluster-range _ _ laws.cluster-of).capacity-max)
 
 pub returns : goal.returns
@@ -17,5 +17,5 @@ returns c =
     let allowed = rw c.machines.ensures.0 at c.min.ensures in
     record {
       fit = c.decode.ensures.fit;
-      limited = limited-of _ _ (accepted-header _ _ c.requires.accepts) _ _ c.decode.ensures _ allowed;
+      limited = limited-of _ _ (accepted-header _ _ c.args.plan.now.accepts) _ _ c.decode.ensures _ allowed;
     }

@@ -18,8 +18,8 @@ loop-steps-preserved c =
       rw followed.words_are (along-more at.0 c.loop-steps-test.true _ found.0),
       record {
         asked = followed.loads-follow _ at.1.asked found.0.sound;
-        ordered = ordered-kept at.1.asked.fits.profiles-fit.in-range.blocks-max cleared.sized (λ k l h. cleared.kept k l) found.1;
-        cleared = cleared.clear;
+        ordered = ordered-kept cleared.1 found.1;
+        cleared = cleared.0;
       },
     )
 

@@ -1,14 +1,9 @@
 -- `balance::step` meets its contract: the step that was found is taken.
 -- Assumes nothing.
-use borrow.Author.Rules.{rules}
 use mathlib.Core.Path.{ap, ◌∙◌}
 use Rattle.model.specs.Steps.{after}
 use Rattle.search.specs.Scene.{step_of}
-use Rattle.index.proofs.Laws.{blank-cleared}
 use Rattle.balance.proofs.step.Goals as goal
-
-pub start-requires : goal.start-requires
-start-requires c = search (rules, blank-cleared)
 
 pub returns-in_err-step : goal.returns-in_err-step
 unfolding step_of after

@@ -6,4 +6,4 @@ use Rattle.codes.proofs.Laws.{verdict-told}
 use Rattle.capi.proofs.bpl_plan.Goals as goal
 
 pub returns : goal.returns
-returns c = c.tell.ensures ∙ verdict-told _ _ ∙ ap verdict_code c.read-reading.ensures
+returns c = c.tell.ensures ∙ verdict-told _ ∙ ap verdict_code c.read-reading.ensures.judged

@@ -11,7 +11,7 @@ put_numbers-requires c =
     -- the numbers that were read, in the new widths
     let numbers-are = record_bytes-numbers (as_format c.args.new) _ _ _ _ _
     c.popularity.ensures.0 c.min_replicas.ensures.0 c.min_domains.ensures.0 c.pair_byte.ensures in
-    record { few = omega arith; as_many = refl; room = room-same numbers-are c.requires.room }
+    record { few = omega arith; as_many = refl; room = room-same numbers-are c.requires.1 }
 
 pub returns : goal.returns
 returns c =

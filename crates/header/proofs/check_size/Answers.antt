@@ -7,7 +7,7 @@ use Rattle.header.proofs.check_size.Goals as goal
 
 pub returns-then-blocks-gt-MAX_BLOCKS : goal.returns-then-blocks-gt-MAX_BLOCKS
 unfolding check6
-returns-then-blocks-gt-MAX_BLOCKS c later = grind (arith, nat_tests, c.requires.counted)
+returns-then-blocks-gt-MAX_BLOCKS c later = grind (arith, nat_tests, c.requires)
 
 pub returns-then-size-record_at : goal.returns-then-size-record_at
 unfolding check6 check7

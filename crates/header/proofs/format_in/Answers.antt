@@ -6,5 +6,4 @@ use Rattle.header.proofs.format_in.Goals as goal
 
 pub returns : goal.returns
 returns c =
-    let format = c.format_of.ensures in
-    (format.0 ∙ ap format_of c.field_at.ensures.0, format.1)
+    c.format_of.ensures ∙ ap format_of c.field_at.ensures.0

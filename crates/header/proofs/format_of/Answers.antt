@@ -3,10 +3,9 @@
 use native.Mathlib.Omega.{arith}
 use Rattle.std.proofs.lemmas.Bool.Decides.{nat_tests}
 use Rattle.model.specs.Plan.{format_of}
-use Rattle.header.proofs.Laws.{format_of-fits}
 use Rattle.header.proofs.format_of.Goals as goal
 
 pub returns : goal.returns
 unfolding format_of
 returns c =
-    grind (arith, nat_tests, format_of-fits)
+    grind (arith, nat_tests)

@@ -55,14 +55,6 @@ returns-in_err-check_mark c =
 pub format_in-format-requires : goal.format_in-format-requires
 format_in-format-requires c = c.in_ok-check_mark.ensures.long refl
 
-pub fields-h-requires : goal.fields-h-requires
-fields-h-requires c =
-    record {
-      long = c.in_ok-check_mark.ensures.long refl;
-      format-is = c.format_in-format.ensures.0;
-      fits = c.format_in-format.ensures.1;
-    }
-
 pub returns-in_err-check_hall : goal.returns-in_err-check_hall
 unfolding refusal
 returns-in_err-check_hall c =
@@ -71,7 +63,7 @@ returns-in_err-check_hall c =
     record {
       is =
           c.in_ok-check_mark.ensures.code _
-          ∙ hall-code _ _ c.fields-h.ensures.0 _ c.in_err-check_hall.ensures _
+          ∙ hall-code _ _ c.header-h.ensures.0 _ c.in_err-check_hall.ensures _
           ∙ or_else-some _ _ (number_of-some _);
       some = number_of-pos _;
     }
@@ -79,11 +71,7 @@ returns-in_err-check_hall c =
 
 pub check_size-requires : goal.check_size-requires
 check_size-requires c =
-    let bytes = c.args.bytes.now in
-    record {
-      fits = c.format_in-format.ensures.1;
-      counted = counted_blocks-counted bytes _ _ c.format_in-format.ensures.0 (blocks-are _ _ c.fields-h.ensures.0);
-    }
+    counted_blocks-counted c.args.bytes.now _ _ c.format_in-format.ensures (blocks-are _ _ c.header-h.ensures.0)
 
 pub returns-in_err-check_size : goal.returns-in_err-check_size
 unfolding refusal
@@ -93,8 +81,8 @@ returns-in_err-check_size c =
     record {
       is =
           c.in_ok-check_mark.ensures.code _
-          ∙ hall-code _ _ c.fields-h.ensures.0 0 c.in_ok-check_hall.ensures _
-          ∙ size-code _ _ c.fields-h.ensures.0 _ _ c.format_in-format.ensures.0 c.in_err-check_size.ensures (plan_refusal (plan_in c.args.bytes.now))
+          ∙ hall-code _ _ c.header-h.ensures.0 0 c.in_ok-check_hall.ensures _
+          ∙ size-code _ _ c.header-h.ensures.0 _ _ c.format_in-format.ensures c.in_err-check_size.ensures (plan_refusal (plan_in c.args.bytes.now))
           ∙ or_else-some _ _ (number_of-some _);
       some = number_of-pos _;
     }
@@ -104,20 +92,20 @@ pub returns : goal.returns
 unfolding refusal
 returns c =
     let bytes = c.args.bytes.now in
-    let blocks = c.fields-h.result.cluster.blocks in
+    let blocks = c.header-h.result.cluster.blocks in
     let f = format_in bytes in
     let z4 = check4-zero _ _ _ (c.in_ok-check_hall.ensures 0) in
     let z22 = check22-zero _ _ _ z4.3 in
     let z5 = check5-zero _ _ z22.2 in
-    let rows = rw c.format_in-format.ensures.0 at (c.in_ok-check_size.ensures 0) in
+    let rows = rw c.format_in-format.ensures at (c.in_ok-check_size.ensures 0) in
     let size : length bytes ≡ record_at f blocks = sizes f (length bytes) blocks rows in
     let same : counted_blocks bytes ≡ block_count_in bytes = counted_blocks-long bytes (omega (arith, size)) in
     record {
-      fields = rw same at c.fields-h.ensures.0;
+      fields = rw same at c.header-h.ensures.0;
       left =
           c.in_ok-check_mark.ensures.code _
-          ∙ hall-code _ _ c.fields-h.ensures.0 0 c.in_ok-check_hall.ensures _
-          ∙ size-code _ _ c.fields-h.ensures.0 _ 0 c.format_in-format.ensures.0 c.in_ok-check_size.ensures (plan_refusal (plan_in bytes));
+          ∙ hall-code _ _ c.header-h.ensures.0 0 c.in_ok-check_hall.ensures _
+          ∙ size-code _ _ c.header-h.ensures.0 _ 0 c.format_in-format.ensures c.in_ok-check_size.ensures (plan_refusal (plan_in bytes));
       in-range =
           record {
             racks-pos = z4.0;

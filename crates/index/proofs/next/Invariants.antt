@@ -7,7 +7,7 @@ use Rattle.index.proofs.next.Given as goal
 
 abbrev pub invariant-loop-k : goal.invariant-loop-k
 invariant-loop-k l =
-    (l.from ≤ l.k) × NoneFree l.index l.part l.m l.n l.from l.k
+    (l.from ≤ l.k) × NoneFree l.part l.m l.n l.from l.k
 
 abbrev pub decreases-loop-k : goal.decreases-loop-k
 decreases-loop-k l = l.cluster.blocks - l.k

@@ -23,18 +23,18 @@ put_fields-listed-requires c =
     let room = asked _ _ _ _ _ _ _ c.count_of.ensures c.share_of.ensures c.requires in
     record { room = three-room _ _ _ _ _ _ room c.put_word-named.ensures; numbers-max = omega arith }
 
-pub put_holders-held-requires : goal.put_holders-held-requires
-put_holders-held-requires c =
+pub put_holders-ended-requires : goal.put_holders-ended-requires
+put_holders-ended-requires c =
     let room = asked _ _ _ _ _ _ _ c.count_of.ensures c.share_of.ensures c.requires in
     machines-room _ _ _ _ _ _ room c.put_word-named.ensures c.put_fields-listed.ensures
 
 pub put_byte-requires : goal.put_byte-requires
 put_byte-requires c =
     let room = asked _ _ _ _ _ _ _ c.count_of.ensures c.share_of.ensures c.requires in
-    block-end _ _ _ _ _ _ room c.put_word-named.ensures c.put_fields-listed.ensures c.put_holders-held.ensures
+    block-end _ _ _ _ _ _ room c.put_word-named.ensures c.put_fields-listed.ensures c.put_holders-ended.ensures
 
 pub returns : goal.returns
 returns c =
     let room = asked _ _ _ _ _ _ _ c.count_of.ensures c.share_of.ensures c.requires in
     rw (← c.count_of.ensures, ← c.share_of.ensures)
-    (block-put _ _ _ _ _ _ room c.put_word-named.ensures c.put_fields-listed.ensures c.put_holders-held.ensures c.put_byte.ensures)
+    (block-put _ _ _ _ _ _ room c.put_word-named.ensures c.put_fields-listed.ensures c.put_holders-ended.ensures c.put_byte.ensures)

@@ -7,4 +7,4 @@ use Rattle.lines.proofs.put_blocks.Given as goal
 
 abbrev pub invariant-loop-i : goal.invariant-loop-i
 invariant-loop-i l =
-    Put l.at (joined l.i (row_at l.profiles l.words)) l.initial.text l.text l.next
+    Put l.at (joined l.i (row_at l.held.profiles.now l.held.words.now)) l.initial.text l.text l.next

@@ -2,26 +2,18 @@
 -- Assumes nothing.
 use mathlib.Core.Path.{◌≡◌, sym}
 use Prim.Native.Nat.{ℕ, ◌≤◌}
+use native.Mathlib.Omega.{arith}
 use lib.ListN.{length, take, replicate}
 use lib.Seq.{length-take-le}
 use Rattle.model.specs.Refusal.{max_blocks}
-use Rattle.cluster.proofs.Laws.{cluster-range}
-use Rattle.plan.proofs.Laws.{accepted-header}
 use Rattle.listing.proofs.list_accepted.Goals as goal
 
 -- the first of 1,024 words
 prefix-length : (n : ℕ) → n ≤ max_blocks → length (take n (replicate {A = ℕ} max_blocks 0)) ≡ n
 prefix-length n l = length-take-le n (replicate {A = ℕ} max_blocks 0) l
 
-pub slice_bounds-words-end : goal.slice_bounds-words-end
-slice_bounds-words-end c = (cluster-range _ _ (accepted-header _ _ c.requires.accepts).cluster-of).blocks-max
-
 pub slice_bounds-put_listing-end : goal.slice_bounds-put_listing-end
-slice_bounds-put_listing-end c = sym (prefix-length _ (cluster-range _ _ (accepted-header _ _ c.requires.accepts).cluster-of).blocks-max)
+slice_bounds-put_listing-end c = sym (prefix-length _ (omega (arith, c.args.plan.now.blocks_are, c.args.plan.now.records.blocks_max)))
 
 pub put_listing-requires : goal.put_listing-requires
-put_listing-requires c =
-    record {
-      asked = c.requires;
-      words_are = prefix-length _ (cluster-range _ _ (accepted-header _ _ c.requires.accepts).cluster-of).blocks-max;
-    }
+put_listing-requires c = (c.requires, prefix-length _ (omega (arith, c.args.plan.now.blocks_are, c.args.plan.now.records.blocks_max)))

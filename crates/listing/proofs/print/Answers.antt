@@ -4,7 +4,8 @@ use Rattle.std.proofs.Common.{ℕ, List, ap, sym, ◌∙◌, arith}
 use Rattle.std.proofs.lemmas.Result.{err_from_is_err_and}
 use Rattle.model.specs.Listing.{refused_line, wrote}
 use Rattle.theory.proofs.Listing.{refused_line-length, printed-refused, printed-accepted, print_call-short, print_call-made}
-use Rattle.plan.specs.Reading.{verdict_of}
+use Rattle.plan.specs.Verdict.{verdict_of}
+use Rattle.refusal.specs.Rows.{code_of}
 use Rattle.listing.specs.Entries.{listing_outcome}
 use Rattle.text.proofs.Laws.{put-wrote}
 use Rattle.listing.proofs.print.Goals as goal
@@ -23,21 +24,17 @@ put_line-requires c =
     let long = c.in_ok-check_room.ensures in
     record { room = record { fits = omega arith }; numbers-max = omega arith }
 
-pub returns-in-Err : goal.returns-in-Err
+pub returns-in_default : goal.returns-in_default
 unfolding refused_line verdict_of listing_outcome
-returns-in-Err c =
+returns-in_default c =
     put-wrote _ _ _ _ c.put_line.ensures
-    ∙ ap (λ (n : ℕ). wrote (refused_line n) c.args.text.now) (c.from.ensures ∙ c.from-code.ensures)
-    ∙ ap (λ (out : List ℕ). wrote out c.args.text.now) (sym (printed-refused _ _ _ (sym c.in-Err.ensures)))
+    ∙ ap (λ (n : ℕ). wrote (refused_line n) c.args.text.now) (c.from.ensures ∙ c.refusal_code-code.ensures ∙ ap code_of c.in_default.is)
+    ∙ ap (λ (out : List ℕ). wrote out c.args.text.now) (sym (printed-refused _ _ _ (sym c.in_default.ensures.judged)))
     ∙ sym (print_call-made _ _ _ c.in_ok-check_room.ensures)
 
-pub list_accepted-requires : goal.list_accepted-requires
-unfolding verdict_of
-list_accepted-requires c = record { accepts = sym c.in-Ok.ensures; room = c.in_ok-check_room.ensures }
-
-pub returns-in-Ok : goal.returns-in-Ok
+pub returns : goal.returns
 unfolding verdict_of listing_outcome
-returns-in-Ok c =
+returns c =
     put-wrote _ _ _ _ c.list_accepted.ensures
-    ∙ ap (λ (out : List ℕ). wrote out c.args.text.now) (sym (printed-accepted _ _ _ (sym c.in-Ok.ensures)))
+    ∙ ap (λ (out : List ℕ). wrote out c.args.text.now) (sym (printed-accepted _ _ _ (sym c.in-Ok.ensures.judged)))
     ∙ sym (print_call-made _ _ _ c.in_ok-check_room.ensures)

@@ -14,9 +14,29 @@ pub lay_all-requires : goal.lay_all-requires
 lay_all-requires c =
     let prepared = c.prepare-top.ensures in
     record {
-      fits = record { profiles-fit = prepared.fit; word_room = le_of_eq (sym c.requires.words_are) };
+      fits = record { profiles-fit = prepared.fit; word_room = le_of_eq (sym c.requires.1) };
       plan = _;
       profiles-of = prepared.profiles-of;
+    }
+
+pub invariant_of-laid : goal.invariant_of-laid
+invariant_of-laid c =
+    record {
+      fits =
+          record {
+            profiles-fit = c.prepare-top.ensures.fit;
+            word_room = le_of_eq (sym (c.lay_all.auto.words ∙ c.requires.1));
+          };
+    }
+
+pub invariant_of-moved : goal.invariant_of-moved
+invariant_of-moved c =
+    record {
+      fits =
+          record {
+            profiles-fit = c.prepare-top.ensures.fit;
+            word_room = le_of_eq (sym (c.run-ran.auto.words ∙ c.lay_all.auto.words ∙ c.requires.1));
+          };
     }
 
 pub run-ran-requires : goal.run-ran-requires
@@ -30,12 +50,12 @@ report-report-requires c =
 pub returns : goal.returns
 returns c =
     let prepared = c.prepare-top.ensures in
-    let first = first-placement _ _ _ prepared.profiles-of _ _ c.requires.words_are (c.lay_all.ensures _ prepared.profiles-of) in
+    let first = first-placement _ _ _ prepared.profiles-of _ _ c.requires.1 (c.lay_all.ensures _ prepared.profiles-of) in
     let ran = c.run-ran.ensures _ _ first.0 ∙ ap (run _ c.args.limit) first.1 in
     let placement = run-placement _ _ _ _ prepared.profiles-of _ _ ran in
     let loads = c.sum_words-last.ensures in
     record {
-      fits = record { profiles-fit = prepared.fit; word_room = le_of_eq (sym (c.run-ran.auto.words ∙ c.lay_all.auto.words ∙ c.requires.words_are)) };
+      fits = record { profiles-fit = prepared.fit; word_room = le_of_eq (sym (c.run-ran.auto.words ∙ c.lay_all.auto.words ∙ c.requires.1)) };
       profiles-of = prepared.profiles-of;
       run_is = ran;
       max-is = report-max _ _ _ _ _ _ _ placement loads c.report-report.ensures;

@@ -5,4 +5,4 @@ use Rattle.loads.proofs.Adding.{up_to}
 use Rattle.loads.proofs.sum_words.Given as goal
 
 abbrev pub invariant-loop-i : goal.invariant-loop-i
-invariant-loop-i l = LoadsOf (up_to l.fn.cluster l.i) l.words l.profiles l.load l.copies
+invariant-loop-i l = LoadsOf (up_to l.held.cluster l.i) l.held.words.now l.held.profiles.now l.load l.copies

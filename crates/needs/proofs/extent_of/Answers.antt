@@ -2,7 +2,6 @@
 -- Assumes nothing.
 use mathlib.Core.Path.{◌≡◌, ap, ap₂, sym, ◌∙◌}
 use Prim.Native.Nat.{ℕ, ◌+◌, ◌<◌, max}
-use native.Mathlib.Nat.{le_of_eq}
 use native.Mathlib.Omega.{arith}
 use Rattle.order.proofs.Extremes.{largest_step, largest-zero}
 use Rattle.order.proofs.Sums.{sum-zero, sum_step}
@@ -12,7 +11,7 @@ use Rattle.theory.specs.Widths.{popularity_bound}
 use Rattle.theory.proofs.Replication.{share-bound}
 use Rattle.cluster.specs.Blocks.{popularity_in, least_in, most_in, DemandInRange}
 use Rattle.cluster.proofs.Laws.{cluster-blocks, demands-popularity, demands-least, demands-most}
-use Rattle.needs.specs.Needs.{FractionFits}
+use Rattle.needs.specs.Fractions.{FractionFits}
 use Rattle.std.proofs.lemmas.List.{length-take-le}
 use Rattle.needs.proofs.Laws.{fraction-of, block-here}
 use Rattle.needs.proofs.extent_of.Invariants.{most_share, least_share}
@@ -23,31 +22,13 @@ module _ (demand popularity count : ℕ) (d : DemandInRange demand) (popular : p
   popularity-here : popularity < popularity_bound
   popularity-here = rw popular d.popularity-narrow
 
-  -- with its upper count, and with its least copies
-  most-here : count ≡ most_in demand → FractionFits record { popularity = popularity; count = count }
-  most-here e = fraction-of demand popularity count d popular (omega (arith, d.least-pos, d.least-most)) (le_of_eq e)
-
-  least-here : count ≡ least_in demand → FractionFits record { popularity = popularity; count = count }
+  -- with its least copies
+  least-here : count ≡ least_in demand → FractionFits popularity count
   least-here e = fraction-of demand popularity count d popular (omega (arith, d.least-pos)) (omega (arith, d.least-most))
 
 pub loop-demand-init : goal.loop-demand-init
 loop-demand-init c =
     (omega arith, omega arith, omega arith, omega arith, λ p of. (sym (largest-zero _), sym (largest-zero _), sym (sum-zero _)))
-
-pub raised-low-requires : goal.raised-low-requires
-raised-low-requires c =
-    let here = block-here c.args.cluster c.args.demands.now c.requires c.loop-demand.demand-index (omega arith) in
-    let d = here.2 in
-    (c.loop-demand.invariant.0, most-here _ _ _ d c.popularity_of-popularity.ensures c.most_of-count.ensures)
-
-pub raised-high-requires : goal.raised-high-requires
-raised-high-requires c =
-    let here = block-here c.args.cluster c.args.demands.now c.requires c.loop-demand.demand-index (omega arith) in
-    let d = here.2 in
-    let popular = c.popularity_of-popularity.ensures in
-    let inv = c.loop-demand.invariant in
-    let low_narrow = share-bound _ c.most_of-count.result (popularity-here _ _ 0 d popular) in
-    (omega (arith, inv.0, inv.1, c.raised-low.ensures, low_narrow), least-here _ _ _ d popular c.least_of-count.ensures)
 
 pub overflow_add-total : goal.overflow_add-total
 overflow_add-total c =

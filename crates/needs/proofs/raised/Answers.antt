@@ -11,23 +11,19 @@ use Rattle.needs.proofs.Laws.{fraction-divides}
 use Rattle.needs.proofs.raised.Goals as goal
 
 pub overflow_mul-top : goal.overflow_mul-top
-overflow_mul-top c = let asked = c.requires in omega (arith, mul-le-mul asked.0 asked.1.count-max)
+overflow_mul-top c = omega (arith, mul-le-mul c.requires c.args.share.fits.count-max)
 
 pub overflow_mul-share : goal.overflow_mul-share
-overflow_mul-share c = omega (arith, c.requires.1.popularity-max)
-
-pub share_at-requires : goal.share_at-requires
-share_at-requires c = c.requires.1
+overflow_mul-share c = omega (arith, c.args.share.fits.popularity-max)
 
 pub returns-then-top-share : goal.returns-then-top-share
 returns-then-top-share c =
     let top = c.args.top in
     let share = c.args.share in
-    let within = (share-within share.popularity share.count top (fraction-divides share c.requires.1)).0 in
+    let within = (share-within share.popularity share.count top (fraction-divides share)).0 in
     let above : top < fraction_share share = lt_of_not-le (λ l. omega (arith, c.if-top-share.true, within l)) in
     c.share_at.ensures ∙ sym (max-eq_right (le_of_lt above))
 
 pub returns : goal.returns
 returns c =
-    let asked = c.requires in
-    sym (max-eq_left ((share-within _ _ _ (fraction-divides _ asked.1)).1 c.if-top-share.false))
+    sym (max-eq_left ((share-within _ _ _ (fraction-divides c.args.share)).1 c.if-top-share.false))

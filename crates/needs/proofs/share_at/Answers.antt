@@ -9,10 +9,10 @@ use Rattle.needs.proofs.share_at.Goals as goal
 
 pub overflow_mul-result : goal.overflow_mul-result
 overflow_mul-result c =
-    let max = c.requires.popularity-max in
+    let max = c.args.at.fits.popularity-max in
     record {
       fits = lt_of_le_of_lt (mul-le-mul {n₂ = popularity_bound} (omega arith) (div-le_self _ _)) (omega arith);
     }
 
 pub returns : goal.returns
-returns c = share-quotient _ _ (fraction-divides _ c.requires)
+returns c = share-quotient _ _ (fraction-divides c.args.at)

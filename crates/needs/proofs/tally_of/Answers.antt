@@ -20,13 +20,12 @@ use Rattle.theory.specs.Refusal.{ValidBlock}
 use Rattle.theory.proofs.Replication.{share-bound, need-same, need-less, need-less-above}
 use mathlib.Core.List.{List}
 use Rattle.cluster.specs.declared.Cluster.{Cluster}
-use Rattle.cluster.specs.Blocks.{popularity_in, least_in, DemandInRange, DemandsFit, DemandsOf}
-use Rattle.needs.specs.declared.Fraction.{Fraction}
+use Rattle.cluster.specs.Blocks.{popularity_in, least_in, DemandsFit, DemandsOf}
 use Rattle.cluster.proofs.Laws.{cluster-blocks, cluster-block, demands-popularity, demands-least}
 use Rattle.needs.specs.declared.NextShare.{NextShare}
-use Rattle.needs.specs.Needs.{FractionFits, fraction_share, next_share, next_blocks, NextFits, Joined, NextAs, NeedOf, TallyOf}
+use Rattle.needs.specs.Needs.{fraction_share, next_share, next_blocks, Joined, NeedOf, TallyOf}
 use Rattle.std.proofs.lemmas.List.{length-take-le}
-use Rattle.needs.proofs.Laws.{fraction-of, need-of, block-here}
+use Rattle.needs.proofs.Laws.{need-of, block-here}
 use Rattle.needs.proofs.tally_of.Invariants.{Stays, Passed}
 use Rattle.needs.proofs.tally_of.Goals as goal
 use Rattle.needs.proofs.tally_of.Goals.{then-count-least_of+in_default, else-count-least_of, in_default-via-in-None-1, in_default-via-in-Some+else-is_less}
@@ -127,22 +126,15 @@ tally-least p wanted total passed narrow =
       ];
     }
 
--- one copy less is a count, too
-less-fits : (demand wanted count popularity least : ℕ) → DemandInRange demand → NeedOf demand wanted count → popularity ≡ popularity_in demand
-    → least ≡ least_in demand → least < count → FractionFits record { popularity = popularity; count = count - 1 }
-less-fits demand wanted count popularity least d found popular low more =
-    fraction-of demand popularity (count - 1) d popular (omega (arith, d.least-pos)) (omega (arith, found.high))
-
 -- what a turn makes of the next share
 module _ (c : Cluster) (demands : List ℕ) (wanted : ℕ) (fit : DemandsFit c demands) (i total : ℕ) (next : Option NextShare) (l : i < c.blocks)
     (count least : ℕ) (found : NeedOf (get_or demands i 0) wanted count) (low : least ≡ least_in (get_or demands i 0))
-    (fits : NextFits next) (above : wanted < next_share next)
+    (above : wanted < next_share next)
     (passed : (p : Plan) → DemandsOf p c demands → Passed p wanted (next_share next) (next_blocks next) total i)
   where
     abbrev IsNext : Option NextShare → Type 0
     IsNext new =
         (next_blocks new ≤ suc (next_blocks next))
-        × NextFits new
         × (wanted < next_share new)
         × ((p : Plan) → DemandsOf p c demands → Passed p wanted (next_share new) (next_blocks new) (total + count) (i + 1))
 
@@ -164,7 +156,6 @@ module _ (c : Cluster) (demands : List ℕ) (wanted : ℕ) (fit : DemandsFit c d
     turn-least : count ≤ least → IsNext next
     turn-least few = (
       omega arith,
-      fits,
       above,
       λ p of.
           subst (λ (k : ℕ). Passed p wanted (next_share next) (next_blocks next) (total + k) (i + 1))
@@ -174,17 +165,16 @@ module _ (c : Cluster) (demands : List ℕ) (wanted : ℕ) (fit : DemandsFit c d
     )
 
     module _ (popularity : ℕ) (popular : popularity ≡ popularity_in (get_or demands i 0)) (more : least < count) where
-      abbrev fewer : Fraction
-      fewer = record { popularity = popularity; count = count - 1 }
+      abbrev fewer : ℕ
+      fewer = share popularity (count - 1)
 
-      same : (p : Plan) → DemandsOf p c demands → fraction_share fewer ≡ share (block_of p i).popularity (need p wanted i - 1)
+      same : (p : Plan) → DemandsOf p c demands → fewer ≡ share (block_of p i).popularity (need p wanted i - 1)
       same p of = ap₂ (λ (P k : ℕ). share P (k - 1)) (popular ∙ demands-popularity p c demands of i l) (need-here p of)
 
       -- one share more: above the next one
-      turn-kept : next_share next < fraction_share fewer → IsNext next
+      turn-kept : next_share next < fewer → IsNext next
       turn-kept kept = (
         omega arith,
-        fits,
         above,
         λ p of.
             subst (λ (k : ℕ). Passed p wanted (next_share next) (next_blocks next) (total + k) (i + 1))
@@ -195,20 +185,19 @@ module _ (c : Cluster) (demands : List ℕ) (wanted : ℕ) (fit : DemandsFit c d
       )
 
       -- and not above it
-      turn-more : (new : NextShare) → NextAs next fewer new → IsNext (Some new)
+      turn-more : (new : NextShare) → Joined (next_share next) (next_blocks next) fewer (fraction_share new.share) new.blocks → IsNext (Some new)
       turn-more new is =
           let less-above = found.less-above (omega arith) in
           let less-is = ap (λ (P : ℕ). share P (count - 1)) popular in
-          let bounds = joined-bounds _ _ _ _ _ wanted is.joined above (omega (arith, less-above, less-is)) in (
+          let bounds = joined-bounds _ _ _ _ _ wanted is above (omega (arith, less-above, less-is)) in (
             bounds.0,
-            is.fits,
             bounds.1,
             λ p of.
                 subst (λ (k : ℕ). Passed p wanted (fraction_share new.share) new.blocks (total + k) (i + 1))
                 (sym (need-here p of))
                 (passed-more p wanted i _ _ total (block p of) (passed p of) (in-upper p of) above
                 (omega (arith, least-here p of, need-here p of)) _ _
-                (rw (← same p of) is.joined)),
+                (rw (← same p of) is)),
           )
 
 pub scale_of-scale-requires : goal.scale_of-scale-requires
@@ -219,7 +208,6 @@ loop-demand-init c = (
   omega arith,
   omega arith,
   omega arith,
-  tt,
   c.requires.wanted-narrow,
   λ p of. record { total-is = sym (sum-zero _); stays = below_none _; fewer-is = omega (arith, sum-zero (need p share_bound)) },
 )
@@ -252,13 +240,13 @@ next_with-requires c =
     share-bound _ (c.needed-count.result - 1) (rw popular d.popularity-narrow) in
     let kept : c.in_default.next ≡ c.loop-demand.next =
     elim c.in_default.branch [ in_default-via-in-None-1 w ↦ w.next-is | in_default-via-in-Some+else-is_less w ↦ w.next-is ∙ sym w.in-Some.is ] in
+    let same-share : c.in_default.share ≡ (c.popularity_of-popularity.result, (c.needed-count.result - 1, tt)) =
+    elim c.in_default.branch [ in_default-via-in-None-1 w ↦ w.share-is | in_default-via-in-Some+else-is_less w ↦ w.share-is ] in
     record {
-      next_fits = rw kept inv.3;
-      share-fits = less-fits _ c.args.wanted _ _ _ d c.needed-count.ensures popular c.least_of.ensures c.if-count-least_of.true;
-      share-narrow = narrow;
+      share-narrow = rw same-share narrow;
       share-max = elim c.in_default.branch [
-        | in_default-via-in-None-1 w ↦ let none : c.loop-demand.next ≡ None = cc in rw (w.next-is, none) (omega arith)
-        | in_default-via-in-Some+else-is_less w ↦ rw w.next-is (ltb-false _ _ (sym w.is_less.ensures ∙ w.if-is_less.false))
+        | in_default-via-in-None-1 w ↦ let none : c.loop-demand.next ≡ None = cc in rw (w.next-is, none, same-share) (omega (arith, narrow))
+        | in_default-via-in-Some+else-is_less w ↦ rw (w.next-is, same-share) (ltb-false _ _ (sym w.is_less.ensures ∙ w.if-is_less.false))
       ];
       blocks-room = rw kept (omega (arith, inv.1, c.requires.fit.in-range.blocks-max));
     }
@@ -275,7 +263,7 @@ loop-demand-preserved-then-count-least_of c =
     let l = here.0 in
     let is = c.in-Some.is in
     let next = rw is at
-    (turn-kept _ _ _ fit _ _ _ l _ _ found low inv.3 inv.4 inv.5 _ (rw here.1 at c.popularity_of-popularity.ensures) c.if-count-least_of.true
+    (turn-kept _ _ _ fit _ _ _ l _ _ found low inv.3 inv.4 _ (rw here.1 at c.popularity_of-popularity.ensures) c.if-count-least_of.true
     (rw is (ltb-true _ _ (sym c.is_less.ensures ∙ c.if-is_less.true)))) in
     let before = rw is at inv.1 in
     let before' = rw is at inv.2 in (
@@ -284,7 +272,6 @@ loop-demand-preserved-then-count-least_of c =
       omega (arith, before', found.low, d.least-pos),
       next.1,
       next.2,
-      next.3,
     )
 
 pub loop-demand-preserved : goal.loop-demand-preserved
@@ -296,16 +283,18 @@ loop-demand-preserved c =
     let found = rw here.1 at c.needed-count.ensures in
     let low = rw here.1 at c.least_of.ensures in
     let l = here.0 in
-    let next : IsNext c.args.cluster c.args.demands.now c.args.wanted fit c.loop-demand.demand-index c.loop-demand.total c.loop-demand.next l c.needed-count.result _ found low inv.3 inv.4 inv.5 c.if-count-least_of.next =
+    let next : IsNext c.args.cluster c.args.demands.now c.args.wanted fit c.loop-demand.demand-index c.loop-demand.total c.loop-demand.next l c.needed-count.result _ found low inv.3 inv.4 c.if-count-least_of.next =
     elim c.if-count-least_of.branch [
       | then-count-least_of+in_default w ↦
           let kept : w.in_default.next ≡ c.loop-demand.next =
           elim w.in_default.branch [ in_default-via-in-None-1 v ↦ v.next-is | in_default-via-in-Some+else-is_less v ↦ v.next-is ∙ sym v.in-Some.is ] in
+          let same-share : w.in_default.share ≡ (w.popularity_of-popularity.result, (c.needed-count.result - 1, tt)) =
+          elim w.in_default.branch [ in_default-via-in-None-1 v ↦ v.share-is | in_default-via-in-Some+else-is_less v ↦ v.share-is ] in
           rw w.next-is
-          (turn-more _ _ _ fit _ _ _ l _ _ found low inv.3 inv.4 inv.5 _ (rw here.1 at w.popularity_of-popularity.ensures) w.if-count-least_of.true
-          _ (rw kept at w.next_with.ensures))
+          (turn-more _ _ _ fit _ _ _ l _ _ found low inv.3 inv.4 _ (rw here.1 at w.popularity_of-popularity.ensures) w.if-count-least_of.true
+          w.next_with.result (rw (kept, same-share) at w.next_with.ensures))
       | else-count-least_of w ↦ rw w.next-is
-          (turn-least _ _ _ fit _ _ _ l _ _ found low inv.3 inv.4 inv.5 w.if-count-least_of.false)
+          (turn-least _ _ _ fit _ _ _ l _ _ found low inv.3 inv.4 w.if-count-least_of.false)
     ]
     in (
       omega (arith, found.high, d.most-max),
@@ -313,7 +302,6 @@ loop-demand-preserved c =
       omega (arith, next.0, inv.2, found.low, d.least-pos),
       next.1,
       next.2,
-      next.3,
     )
 
 pub returns-in_default : goal.returns-in_default
@@ -324,7 +312,7 @@ returns-in_default c =
       record { total-max = omega arith; fewer-max = omega arith; next-above = omega arith },
       λ p of.
           let all : c.loop-demand.demand-index ≡ block_count p = omega (arith, cluster-blocks p _ of.cluster) in
-          tally-least p c.args.wanted c.loop-demand.total (rw (is, all) at (inv.5 p of)) c.requires.wanted-narrow,
+          tally-least p c.args.wanted c.loop-demand.total (rw (is, all) at (inv.4 p of)) c.requires.wanted-narrow,
     )
 
 pub returns : goal.returns
@@ -333,11 +321,11 @@ returns c =
     let blocks = length-take-le c.args.cluster.blocks c.args.demands.now c.requires.fit.room in
     let is = c.in-Some-next.is in
     let next-is = c.share_at.ensures in
-    let above : c.args.wanted < fraction_share c.in-Some-next.next.share = rw is at inv.4 in (
+    let above : c.args.wanted < fraction_share c.in-Some-next.next.share = rw is at inv.3 in (
       record { total-max = omega arith; fewer-max = omega arith; next-above = rw next-is above },
       λ p of.
           let all : c.loop-demand.demand-index ≡ block_count p = omega (arith, cluster-blocks p _ of.cluster) in
-          let passed = rw (is, all) at (inv.5 p of) in
+          let passed = rw (is, all) at (inv.4 p of) in
           record {
             total-is = passed.total-is;
             in-upper = λ i l. (passed.stays i l).0;

@@ -8,7 +8,7 @@ use Rattle.model.specs.Plan.{Plan, upper}
 use Rattle.model.specs.Replication.{need}
 use Rattle.theory.specs.Widths.{most_replicas}
 use Rattle.cluster.specs.Blocks.{DemandsOf}
-use Rattle.needs.specs.Needs.{NextFits, next_share, next_blocks}
+use Rattle.needs.specs.Needs.{next_share, next_blocks}
 use Rattle.needs.proofs.tally_of.Given as goal
 
 -- block i's need is lawful, and the same for a figure from `wanted` on and below `next`
@@ -26,6 +26,5 @@ invariant-loop-demand l =
     (l.total ≤ most_replicas * l.demand-index)
     × (next_blocks l.next ≤ l.demand-index)
     × (next_blocks l.next ≤ l.total)
-    × NextFits l.next
     × (l.wanted < next_share l.next)
     × ((p : Plan) → DemandsOf p l.fn.cluster l.demands → Passed p l.wanted (next_share l.next) (next_blocks l.next) l.total l.demand-index)

@@ -6,15 +6,16 @@ use Prim.Native.Nat.{ℕ, ◌*◌}
 use native.Mathlib.Nat.{mul-le-mul}
 use native.Mathlib.Omega.{arith}
 use Rattle.std.proofs.lemmas.Result.{err_from_is_err_and}
-use Rattle.model.specs.Plan.{plan_in}
+use Rattle.model.specs.Plan.{Format, record_at, plan_in}
 use Rattle.model.specs.Refusal.{check23, check10, check11, pairs_refusal, max_machines, max_capacity, refusal, accepted}
 use Rattle.theory.proofs.Refusal.{judge-refused, judge-accepted}
 use Rattle.refusal.proofs.Laws.{number_of-pos}
 use Rattle.cluster.specs.Cluster.{machines_in}
 use Rattle.header.specs.declared.Header.{Header}
 use Rattle.header.specs.Header.{PassedAs}
-use Rattle.plan.specs.Reading.{verdict_of, TotalAs}
-use Rattle.plan.proofs.Laws.{plan_of-in, refusal-fault, refusal-pairs, refusal-sums}
+use Rattle.plan.specs.Reading.{TotalAs}
+use Rattle.plan.specs.Verdict.{verdict_of}
+use Rattle.plan.proofs.Laws.{plan_of-in, passed-format, passed-blocks, refusal-fault, refusal-pairs, refusal-sums}
 use Rattle.plan.proofs.read.Goals as goal
 
 -- where check 17 passes, the tests of the sum decide
@@ -26,29 +27,37 @@ left-sums : (bytes : List ℕ) (h : Header) (total machines code : ℕ) → Pass
 left-sums bytes h total machines code passed summed paired is-machines is-code =
     refusal-sums bytes h passed total summed.none (sym paired) summed.is ∙ (rw (is-code, is-machines))
 
-pub returns-in_err-h : goal.returns-in_err-h
+pub returns-in_err-h-clause-judged : goal.returns-in_err-h-clause-judged
 unfolding verdict_of
-returns-in_err-h c =
+returns-in_err-h-clause-judged c =
     let p = err_from_is_err_and c.from_residual.result c.from_residual.ensures.1 in
     let refused = c.in_err-h.ensures in
     rw (p.1, p.2) (sym (judge-refused _ _ refused.is refused.some))
 
+pub invariant_of-records : goal.invariant_of-records
+invariant_of-records c =
+    let passed = c.in_ok-h.ensures in
+    let format = c.format_of-format.ensures ∙ passed-format _ _ passed in
+    record {
+      format_is = format;
+      blocks_are = passed-blocks _ _ passed;
+      blocks_max = passed.in-range.blocks-max;
+      room = omega (arith, passed.length-is, ap (λ (f : Format). record_at f c.in_ok-h.h.cluster.blocks) format);
+    }
+
 pub scan_records-requires : goal.scan_records-requires
 scan_records-requires c = c.in_ok-h.ensures
 
-pub returns-in_err-total : goal.returns-in_err-total
+pub returns-in_err-total-clause-judged : goal.returns-in_err-total-clause-judged
 unfolding verdict_of
-returns-in_err-total c =
+returns-in_err-total-clause-judged c =
     let p = err_from_is_err_and c.from_residual-in_err-total.result c.from_residual-in_err-total.ensures.1 in
     let fault = c.in_err-total.ensures in
     rw (p.1, p.2) (sym (judge-refused _ _ (refusal-fault _ _ c.in_ok-h.ensures _ fault.is fault.some) fault.some))
 
-pub scan_pairs-requires : goal.scan_pairs-requires
-scan_pairs-requires c = c.in_ok-h.ensures
-
-pub returns-in_err-scan_pairs : goal.returns-in_err-scan_pairs
+pub returns-in_err-scan_pairs-clause-judged : goal.returns-in_err-scan_pairs-clause-judged
 unfolding verdict_of
-returns-in_err-scan_pairs c =
+returns-in_err-scan_pairs-clause-judged c =
     let p = err_from_is_err_and c.from_residual-in_err-scan_pairs.result c.from_residual-in_err-scan_pairs.ensures.1 in
     let some = number_of-pos c.in_err-scan_pairs.field-0.0 in
     rw (p.1, p.2)
@@ -58,17 +67,23 @@ pub overflow_mul-places : goal.overflow_mul-places
 overflow_mul-places c =
     omega (arith, mul-le-mul {n₂ = max_machines} {m₂ = max_capacity} c.machines.ensures.1 c.in_ok-h.ensures.in-range.capacity-max)
 
-pub returns-in_err-check_total : goal.returns-in_err-check_total
+pub returns-in_err-check_total-clause-judged : goal.returns-in_err-check_total-clause-judged
 unfolding verdict_of
-returns-in_err-check_total c =
+returns-in_err-check_total-clause-judged c =
     let p = err_from_is_err_and c.from_residual-in_err-check_total.result c.from_residual-in_err-check_total.ensures.1 in
     let left = left-sums _ _ _ _ _ c.in_ok-h.ensures c.in_ok-total.ensures c.in_ok-scan_pairs.ensures
     c.machines.ensures.0 c.in_err-check_total.ensures in
     rw (p.1, p.2) (sym (judge-refused _ _ left (number_of-pos _)))
 
-pub returns : goal.returns
+pub invariant_of-result-clause-accepts : goal.invariant_of-result-clause-accepts
+invariant_of-result-clause-accepts c =
+    let left = left-sums _ _ _ _ _ c.in_ok-h.ensures c.in_ok-total.ensures c.in_ok-scan_pairs.ensures
+    c.machines.ensures.0 c.in_ok-check_total.ensures in
+    judge-accepted _ left ∙ ap accepted (sym (plan_of-in _ _ c.in_ok-h.ensures.fields))
+
+pub returns-clause-judged : goal.returns-clause-judged
 unfolding verdict_of
-returns c =
+returns-clause-judged c =
     let left = left-sums _ _ _ _ _ c.in_ok-h.ensures c.in_ok-total.ensures c.in_ok-scan_pairs.ensures
     c.machines.ensures.0 c.in_ok-check_total.ensures in
     ap accepted (plan_of-in _ _ c.in_ok-h.ensures.fields) ∙ sym (judge-accepted _ left)

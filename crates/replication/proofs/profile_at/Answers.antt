@@ -8,10 +8,10 @@ use Rattle.theory.proofs.Replication.{share-bound}
 use Rattle.needs.proofs.Laws.{fraction-of}
 use Rattle.replication.proofs.profile_at.Goals as goal
 
-pub share_at-share-requires : goal.share_at-share-requires
-share_at-share-requires c =
+pub invariant_of-share_at : goal.invariant_of-share_at
+invariant_of-share_at c =
     let asked = c.requires in
-    fraction-of _ _ _ asked.in-range c.popularity_of-popularity.ensures asked.count-pos asked.count-max
+    record { fits = fraction-of _ _ _ asked.in-range c.popularity_of-popularity.ensures asked.count-pos asked.count-max }
 
 pub profile-requires : goal.profile-requires
 profile-requires c =

@@ -15,4 +15,4 @@ loop-word-preserved c =
     let next : (word + 1) * 64 ≡ word * 64 + 64 = omega arith in
     rw next
     (c.in-Some.ensures (ranked_on index a.m) (ranked_on index a.n) a.cluster.blocks c.requires.rising
-    (record { of-mine = spot-word index a.m word; of-theirs = spot-word index a.n word }) c.loop-word.invariant)
+    (record { of-mine = spot-word index.by_rank a.m word; of-theirs = spot-word index.by_rank a.n word }) c.loop-word.invariant)

@@ -3,7 +3,6 @@
 -- Assumes nothing.
 use mathlib.Core.Path.{◌≡◌, refl, ap, sym, ◌∙◌}
 use mathlib.Core.Bool.{Bool, true, false}
-use mathlib.Core.List.{List}
 use Prim.Native.Nat.{ℕ, ◌+◌, ◌-◌, ◌%◌, ◌^◌, ◌<◌, ◌≤◌}
 use native.Mathlib.Nat.{add_assoc}
 use native.Mathlib.Decide.{dec_lt, ℕ_discrete}
@@ -15,6 +14,7 @@ use Rattle.model.specs.Placement.{bit}
 use Rattle.theory.proofs.Placement.{bit_le, bit-take, bit-zero}
 use Rattle.bits.specs.Words.{Lowest}
 use Rattle.ranking.proofs.Laws.{key_share-narrow}
+use Rattle.index.specs.declared.Index.{Index}
 use Rattle.screen.specs.declared.Sweep.{Sweep}
 use Rattle.screen.specs.Screen.{Side, Bits}
 use Rattle.screen.proofs.Laws.{skip}
@@ -26,7 +26,7 @@ equal-bits : (a b t : ℕ) → (bit a t + bit b t) % 2 ≡ 0 → bit a t ≡ bit
 equal-bits a b t e = omega (arith, bit_le a t, bit_le b t)
 
 -- passing over the ranks at which no bit is left
-pass : (a b : ℕ) (index : List ℕ) (base margin : ℕ) (s r : Sweep) (rest c later : ℕ) → c ≤ later → later ≤ 64 → Left a b rest c
+pass : (a b : ℕ) (index : Index) (base margin : ℕ) (s r : Sweep) (rest c later : ℕ) → c ≤ later → later ≤ 64 → Left a b rest c
     → ((t : ℕ) → t < later → bit rest t ≡ 0) → Reached a b index base margin s c r → Reached a b index base margin s later r
 pass a b index base margin s r rest c later l h left none reached mine theirs blocks rises bits swept =
     skip mine theirs index margin blocks r.top r.reach r.under (base + c) (base + later) (omega arith) same
@@ -75,7 +75,7 @@ cleared a b rest c t later left low is =
 pub sweep_block-requires : goal.sweep_block-requires
 sweep_block-requires c =
     record {
-      share-narrow = rw c.key_share-share.ensures (key_share-narrow _ (c.type_inv.index _).fits);
+      share-narrow = rw c.key_share-share.ensures (key_share-narrow _ (omega arith));
       margin-narrow = c.requires.margin-narrow;
     }
 

@@ -2,15 +2,15 @@
 -- c on at which a and b differ.
 -- Assumes nothing.
 use mathlib.Core.Path.{◌≡◌}
-use mathlib.Core.List.{List}
 use Prim.Native.Nat.{ℕ, ◌+◌, ◌%◌, ◌<◌, ◌≤◌}
 use Rattle.model.specs.Placement.{bit}
+use Rattle.index.specs.declared.Index.{Index}
 use Rattle.screen.specs.declared.Sweep.{Sweep}
 use Rattle.screen.specs.Screen.{SweptBelow, SharesRise, Bits}
 use Rattle.screen.proofs.sweep_word.Given as goal
 
 -- the ranks from base to base + c are swept
-abbrev pub Reached : ℕ → ℕ → List ℕ → ℕ → ℕ → Sweep → ℕ → Sweep → Type 0
+abbrev pub Reached : ℕ → ℕ → Index → ℕ → ℕ → Sweep → ℕ → Sweep → Type 0
 Reached a b index base margin s c r =
     (mine theirs : ℕ → ℕ) (blocks : ℕ) → SharesRise index blocks → Bits mine theirs a b base
     → SweptBelow mine theirs index margin blocks base s.top s.reach s.under

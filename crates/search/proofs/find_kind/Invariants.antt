@@ -6,4 +6,5 @@ use Rattle.search.proofs.find_kind.Given as goal
 
 abbrev pub invariant-loop-m : goal.invariant-loop-m
 invariant-loop-m l =
-    Passed l.cluster l.words l.profiles (λ p. row_of p l.words l.swapping l.across) l.m
+    let held = l.scene.held in
+    Passed held.cluster held.words.now held.profiles.now (λ p. row_of p held.words.now l.swapping l.across) l.m

@@ -10,5 +10,5 @@ returns-then-rules_out c =
     record {
       sound = λ across. tt;
       is = λ p count placement margin-is room across.
-          route_step-ruled c.requires p count placement margin-is c.args.row.swapping across (c.rules_out.ensures c.if-rules_out.true);
+          route_step-ruled c.args.scene.now.held.fits c.args.scene.now.indexed c.requires p count placement margin-is c.args.row.swapping across (c.rules_out.ensures c.if-rules_out.true);
     }

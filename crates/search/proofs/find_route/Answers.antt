@@ -2,20 +2,19 @@
 -- Assumes nothing.
 use mathlib.Core.Path.{◌≡◌, sym, ◌∙◌}
 use mathlib.Core.Bool.{Bool, true}
-use mathlib.Core.List.{List}
 use Prim.Native.Nat.{ℕ}
 use native.Mathlib.Omega.{arith}
 use Rattle.theory.proofs.Placement.{bit_le}
 use Rattle.search.proofs.Routes.{kind_here, nothing-other, nothing-level, nothing-full, open-asked, open-found}
-use Rattle.cluster.specs.declared.Cluster.{Cluster}
 use Rattle.transfers.specs.Route.{hit_of}
+use Rattle.transfers.specs.declared.view.Scene.{Scene}
 use Rattle.search.specs.declared.Row.{Row}
 use Rattle.search.specs.Scene.{OfKind, RouteAt}
 use Rattle.search.proofs.find_route.Goals as goal
 
 -- past the second test the route is of the kind
-kind-here : {c : Cluster} {words profiles index : List ℕ} {row : Row} {n : ℕ} {r : Bool} (asked : RouteAt c words profiles index row n)
-    → OfKind row.low c.rack_size n row.across r → r ≡ true → true ≡ kind_here asked
+kind-here : {scene : Scene} {row : Row} {n : ℕ} {r : Bool} (asked : RouteAt scene row n)
+    → OfKind row.low scene.held.cluster.rack_size n row.across r → r ≡ true → true ≡ kind_here asked
 kind-here asked told e = sym e ∙ told _ asked.asked.row_in.low-is
 
 pub returns-then-from-to : goal.returns-then-from-to

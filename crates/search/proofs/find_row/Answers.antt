@@ -21,9 +21,10 @@ below c row n end l ends = omega (arith, ends.within)
 pub loop-n-init : goal.loop-n-init
 loop-n-init c =
     let a = c.args in
+    let held = a.scene.now.held in
     let asked = c.requires in
-    let from = c.row_start-n.ensures a.cluster asked.all.fits.profiles-fit.in-range asked.row_in in
-    record { within = from.0; none-at = λ k l. kind_at-other a.cluster _ _ a.row k (from.1 k l) }
+    let from = c.row_start-n.ensures held.cluster held.fits.profiles-fit.in-range asked.row_in in
+    record { within = from.0; none-at = λ k l. kind_at-other held.cluster _ _ a.row k (from.1 k l) }
 
 pub returns-then-is_some : goal.returns-then-is_some
 unfolding row_of
@@ -40,5 +41,6 @@ unfolding row_of hit_of
 returns c =
     let ends = c.row_end-n-end.ensures in
     let a = c.args in
+    let held = a.scene.now.held in
     passed-rest c.loop-n.invariant
-    (λ k l h. kind_at-other a.cluster _ _ a.row k (ends.past k (omega (arith, c.loop-n-test.false)) h))
+    (λ k l h. kind_at-other held.cluster _ _ a.row k (ends.past k (omega (arith, c.loop-n-test.false)) h))

@@ -6,4 +6,5 @@ use Rattle.search.proofs.find_row.Given as goal
 
 abbrev pub invariant-loop-n : goal.invariant-loop-n
 invariant-loop-n l =
-    Passed l.cluster l.words l.profiles (λ p. route_of p l.words l.row.swapping l.row.across l.row.m) l.n
+    let held = l.scene.held in
+    Passed held.cluster held.words.now held.profiles.now (λ p. route_of p held.words.now l.row.swapping l.row.across l.row.m) l.n

@@ -11,7 +11,7 @@ returns-then-not-returnable c =
     λ p count of. (
       λ e. no-contradiction (sym e),
       λ t.
-          let passes = (c.returnable.ensures p (lies_at p count _ _ _ of _ asked.j-below)).1 t.back.test in
+          let passes = (c.returnable.ensures p (lies_at p count _ _ _ of _ asked.i-below)).1 t.back.test in
           no-contradiction (sym passes ∙ c.if-not-returnable.true),
     )
 
@@ -21,7 +21,7 @@ returns c =
     let free = c.is_free.ensures in
     λ p count of. (
       λ e.
-          let told = c.returnable.ensures p (lies_at p count _ _ _ of _ asked.j-below) in
+          let told = c.returnable.ensures p (lies_at p count _ _ _ of _ asked.i-below) in
           record {
             back = record { holds = asked.holds; lacks = asked.lacks; test = told.0 c.if-not-returnable.false };
             free = free.0 e;

@@ -31,14 +31,14 @@ returns-then-is_some c =
       is = λ p count scene room across.
           route_step-found p _ _ _ _ _ c.in-Some.i (hit_of across hit.result)
           (placement-block p count _ _ _ scene.placement c.in-Some.i next.below)
-          (λ k l. passed-before asked (others asked.route-in) c.loop-i.invariant next k l p count scene room across)
+          (λ k l. passed-before c.args.scene.now.indexed asked (others asked) c.loop-i.invariant next k l p count scene room across)
           (hit.ensures.is p count scene room across) (hit-is_step across _ ∙ sym c.is_some.ensures ∙ c.if-is_some.true);
     }
 
 pub loop-i-preserved : goal.loop-i-preserved
 loop-i-preserved c =
     let asked = c.requires in
-    passed-next asked (others asked.route-in) c.loop-i.invariant c.in-Some.ensures
+    passed-next c.args.scene.now.indexed asked (others asked) c.loop-i.invariant c.in-Some.ensures
     (λ p count scene room across.
     rw (c.find_at-hit.ensures.is p count scene room across)
     at (hit-is_step across _ ∙ sym c.is_some.ensures ∙ c.if-is_some.false))
@@ -52,5 +52,5 @@ returns c =
       is = λ p count scene room across.
           let blocks = cluster-blocks p _ scene.placement.profiles-of.cluster in
           route_step-none p _ _ _ _ _
-          (λ k l. passed-all asked (others asked.route-in) c.loop-i.invariant c.in_default.ensures k (omega arith) p count scene room across);
+          (λ k l. passed-all c.args.scene.now.indexed asked (others asked) c.loop-i.invariant c.in_default.ensures k (omega arith) p count scene room across);
     }

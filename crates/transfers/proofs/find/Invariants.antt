@@ -19,7 +19,9 @@ Fails cluster words profiles route swapping k =
     → (across : Bool) → is_step (block_step p words swapping across route.m route.n k) ≡ false
 
 abbrev pub invariant-loop-i : goal.invariant-loop-i
-invariant-loop-i l = Passed l.cluster (Fails l.cluster l.words l.profiles l.route l.swapping) l.next_i
+invariant-loop-i l =
+    let held = l.scene.held in
+    Passed held.cluster (Fails held.cluster held.words.now held.profiles.now l.route l.swapping) l.next_i
 
 abbrev pub decreases-loop-i : goal.decreases-loop-i
-decreases-loop-i l = l.cluster.blocks - l.next_i
+decreases-loop-i l = l.scene.held.cluster.blocks - l.next_i

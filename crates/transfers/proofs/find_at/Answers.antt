@@ -30,8 +30,8 @@ returns-then-swapping c =
       sound = λ across. (
         candidate-shift asked,
         record {
-          m-below = asked.asked.route-in.n-below;
-          n-below = asked.asked.route-in.m-below;
+          m-below = asked.route-in.n-below;
+          n-below = asked.route-in.m-below;
           i-below = found.below;
           holds = found.holds;
           lacks = found.lacks;
@@ -51,7 +51,7 @@ returns-then-not-movable c =
     record {
       sound = λ across. tt;
       is = λ p count scene room across.
-          let told = move-told p count _ _ _ _ scene asked.asked.route-in i asked.i-below asked.holds asked.lacks (room moves) in
+          let told = move-told p count _ _ _ _ scene asked.route-in i asked.i-below asked.holds asked.lacks (room moves) in
           let test = c.movable.ensures p (lies_at p count _ _ _ scene.placement i asked.i-below) in
           sym (block_step-none p _ _ _ _ _ _
           (λ e. not_so _ (λ t. no-contradiction (sym (test.1 (told.0 t).0) ∙ c.if-not-movable.true)))
@@ -67,7 +67,7 @@ returns-then-not-is_free c =
     record {
       sound = λ across. tt;
       is = λ p count scene room across.
-          let told = move-told p count _ _ _ _ scene asked.asked.route-in i asked.i-below asked.holds asked.lacks (room moves) in
+          let told = move-told p count _ _ _ _ scene asked.route-in i asked.i-below asked.holds asked.lacks (room moves) in
           sym (block_step-none p _ _ _ _ _ _
           (λ e. not_so _ (λ t. no-contradiction (sym (c.is_free.ensures.1 (told.0 t).1) ∙ c.if-not-is_free.true)))
           (λ e. no-contradiction (sym e ∙ moves)));
@@ -82,7 +82,7 @@ returns c =
     record {
       sound = λ across. candidate-shift asked;
       is = λ p count scene room across.
-          let told = move-told p count _ _ _ _ scene asked.asked.route-in i asked.i-below asked.holds asked.lacks (room moves) in
+          let told = move-told p count _ _ _ _ scene asked.route-in i asked.i-below asked.holds asked.lacks (room moves) in
           let test = c.movable.ensures p (lies_at p count _ _ _ scene.placement i asked.i-below) in
           sym (block_step-move p _ _ _ _ _ _ moves (told.1 (
             test.0 c.if-not-movable.false,

@@ -18,16 +18,16 @@ use Rattle.cluster.specs.declared.Cluster.{Cluster}
 use Rattle.cluster.specs.Blocks.{linked_to, share_in, spread_in, PlacementOf}
 use Rattle.transfers.specs.declared.Route.{Route}
 use Rattle.transfers.specs.Route.{Free, FreeOf, RouteScene, CandidateAsked, NoneReturns, ReturnFound, OwnFound, NoneExchanged, ExchangeFound}
-use Rattle.transfers.proofs.Laws.{reversed, reversed-asked, lies_at, linked-back, Exchange, exchange-free, exchange-own, swap-exchange}
+use Rattle.transfers.proofs.Laws.{reversed, reversed-in, lies_at, linked-back, Exchange, exchange-free, exchange-own, swap-exchange}
 use Rattle.transfers.proofs.first_exchange.Goals as goal
 
-module _ {c : Cluster} {words profiles index : List ℕ} {route : Route} {i : ℕ} (asked : CandidateAsked c words profiles index route i) where
+module _ {c : Cluster} {words profiles : List ℕ} {route : Route} {i : ℕ} (asked : CandidateAsked c words route i) where
   -- where every exchange of i is ruled out, there is none
   no-exchange : {to : ℕ} → to ≤ c.blocks
       → ((k : ℕ) → k < to → (p : Plan) (count : ℕ → ℕ) → RouteScene p count c words profiles route → Exchange p words profiles route i k → ⊥)
       → NoneExchanged c words profiles route i to
   no-exchange within none k l p count scene =
-      not_so _ (λ t. none k l p count scene ((swap-exchange p count _ _ _ _ scene asked.asked.route-in i asked.i-below k (omega arith)).0 t))
+      not_so _ (λ t. none k l p count scene ((swap-exchange p count _ _ _ _ scene asked.route-in i asked.i-below k (omega arith)).0 t))
 
   -- the blocks that may come back, where i's own spread is kept
   module _ (kept : (p : Plan) (count : ℕ → ℕ) → PlacementOf p count c words profiles
@@ -54,7 +54,7 @@ module _ {c : Cluster} {words profiles index : List ℕ} {route : Route} {i : �
               passed = none-before r (omega (arith, back.below)) back.passed;
               found = λ p count scene.
                   let returns = back.found p count scene.placement in
-                  (swap-exchange p count _ _ _ _ scene asked.asked.route-in i asked.i-below r back.below).1
+                  (swap-exchange p count _ _ _ _ scene asked.route-in i asked.i-below r back.below).1
                   (record {
                     holds = asked.holds;
                     lacks = asked.lacks;
@@ -80,7 +80,7 @@ module _ {c : Cluster} {words profiles index : List ℕ} {route : Route} {i : �
           passed = no-exchange (omega (arith, own.below)) (λ k l p count scene x.
               omega (arith, own.is, exchange-own p count _ _ _ scene.placement route i k x taken));
           found = λ p count scene.
-              (swap-exchange p count _ _ _ _ scene asked.asked.route-in i asked.i-below r own.below).1
+              (swap-exchange p count _ _ _ _ scene asked.route-in i asked.i-below r own.below).1
               (record {
                 holds = asked.holds;
                 lacks = asked.lacks;
@@ -113,7 +113,7 @@ returns-then-not-keeps c =
 
 pub first_return-requires : goal.first_return-requires
 first_return-requires c =
-    reversed-asked _ _ _ _ c.args.route c.requires.asked
+    reversed-in c.requires.route-in
 
 pub returns-then-is_free : goal.returns-then-is_free
 returns-then-is_free c =
@@ -121,17 +121,16 @@ returns-then-is_free c =
     returns_free asked
     (λ p count of. (c.keeps.ensures p (lies_at p count _ _ _ of _ asked.i-below)).0 c.if-not-keeps.false)
     (c.is_free.ensures.0 c.if-is_free.true) _
-    (rw c.share_of-given.ensures at c.first_return.ensures)
+    (rw c.share-given.ensures at c.first_return.ensures)
 
 pub own_return-requires : goal.own_return-requires
 own_return-requires c =
     let args = c.args in
     let asked = c.requires in
     record {
-      fits = asked.asked.fits;
-      route-in = (reversed-asked _ _ _ _ c.args.route asked.asked).route-in;
+      route-in = reversed-in asked.route-in;
       i-below = asked.i-below;
-      holds = linked-held args.words.now args.profiles.now args.i args.route.n c.is_free.ensures c.if-is_free.false;
+      holds = linked-held args.scene.now.held.words.now args.scene.now.held.profiles.now args.i args.route.n c.is_free.ensures c.if-is_free.false;
     }
 
 pub returns : goal.returns
@@ -142,6 +141,6 @@ returns c =
     let taken = c.if-is_free.false in
     returns_own asked
     (λ p count of. (c.keeps.ensures p (lies_at p count _ _ _ of _ asked.i-below)).0 c.if-not-keeps.false)
-    (linked-held args.words.now args.profiles.now args.i args.route.n told taken)
-    (not_free args.words.now args.profiles.now args.i args.route.n told taken) _
-    (rw c.share_of-given.ensures at c.own_return.ensures)
+    (linked-held args.scene.now.held.words.now args.scene.now.held.profiles.now args.i args.route.n told taken)
+    (not_free args.scene.now.held.words.now args.scene.now.held.profiles.now args.i args.route.n told taken) _
+    (rw c.share-given.ensures at c.own_return.ensures)

@@ -16,39 +16,26 @@ others : {cluster : Cluster} {words profiles : List ℕ} {route : Route} {given 
     → (held words route.m k ≡ 1 → held words route.n k ≡ 0 → ⊥) → Fails cluster words profiles route given k
 others k l other p count of t = other t.back.holds t.back.lacks
 
-pub may_return-requires : goal.may_return-requires
-may_return-requires c =
-    let asked = c.requires in
-    record {
-      above-asked =
-          record {
-            sized = asked.indexed.ordered.sized;
-            blocks-max = asked.route-in.in-range.blocks-max;
-            rising = asked.indexed.ordered.rising;
-          };
-      route-in = asked.route-in;
-    }
-
 pub returns-then-not-may_return : goal.returns-then-not-may_return
 returns-then-not-may_return c =
     let none = c.may_return.ensures c.if-not-may_return.true in
-    λ k l p count of t. no_return-block p c.requires none k l t.back
+    λ k l p count of t. no_return-block p c.args.scene.now.indexed c.requires none k l t.back
 
 pub returns-then-can_return : goal.returns-then-can_return
 returns-then-can_return c =
-    let candidate = next-candidate c.requires c.in-Some.ensures in
+    let candidate = next-candidate c.args.scene.now.indexed c.requires c.in-Some.ensures in
     record {
       below = candidate.i-below;
       holds = candidate.holds;
       lacks = candidate.lacks;
-      passed = passed-before c.requires others c.loop-j.invariant c.in-Some.ensures;
+      passed = passed-before c.args.scene.now.indexed c.requires others c.loop-j.invariant c.in-Some.ensures;
       found = λ p count of. (c.can_return.ensures p count of).0 c.if-can_return.true;
     }
 
 pub loop-j-preserved : goal.loop-j-preserved
 loop-j-preserved c =
-    passed-next c.requires others c.loop-j.invariant c.in-Some.ensures
+    passed-next c.args.scene.now.indexed c.requires others c.loop-j.invariant c.in-Some.ensures
     (λ p count of t. no-contradiction (sym ((c.can_return.ensures p count of).1 t) ∙ c.if-can_return.false))
 
 pub returns : goal.returns
-returns c = passed-all c.requires others c.loop-j.invariant c.in_default.ensures
+returns c = passed-all c.args.scene.now.indexed c.requires others c.loop-j.invariant c.in_default.ensures

@@ -16,7 +16,9 @@ Fails cluster words profiles route given k =
     (p : Plan) (count : ℕ → ℕ) → PlacementOf p count cluster words profiles → FreeReturn p words profiles route given k → ⊥
 
 abbrev pub invariant-loop-j : goal.invariant-loop-j
-invariant-loop-j l = Passed l.cluster (Fails l.cluster l.words l.profiles l.route l.given) l.next_j
+invariant-loop-j l =
+    let held = l.scene.held in
+    Passed held.cluster (Fails held.cluster held.words.now held.profiles.now l.route l.given) l.next_j
 
 abbrev pub decreases-loop-j : goal.decreases-loop-j
-decreases-loop-j l = l.cluster.blocks - l.next_j
+decreases-loop-j l = l.scene.held.cluster.blocks - l.next_j

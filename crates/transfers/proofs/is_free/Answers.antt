@@ -8,7 +8,7 @@ use Rattle.transfers.proofs.is_free.Goals as goal
 
 pub returns : goal.returns
 returns c =
-    let words = c.args.words.now in
+    let words = c.args.held.now.words.now in
     let n = c.args.n in
-    let e = c.bit_at.ensures ∙ ap (λ (k : ℕ). held words n k) c.linked_to-k.ensures in
+    let e = c.bit_at.ensures ∙ ap (λ (k : ℕ). held words n k) c.linked-k.ensures in
     (λ t. sym e ∙ eqb-true _ 0 t, λ f. eq-eqb _ 0 (e ∙ f))

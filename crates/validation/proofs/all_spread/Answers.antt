@@ -13,9 +13,9 @@ use Rattle.validation.proofs.all_spread.Goals as goal
 
 pub returns : goal.returns
 returns c p count of =
-    let words = c.args.words.now in
-    let profiles = c.args.profiles.now in
-    let n = c.args.cluster.blocks in
+    let words = c.args.held.now.words.now in
+    let profiles = c.args.held.now.profiles.now in
+    let n = c.args.held.now.cluster.blocks in
     let test = is_spread p words profiles in
     let cluster = of.profiles-of.cluster in
     let some : (i : ℕ) → i < n → 1 ≤ replicas p (word_of words i) = λ i l. of.some i (rw (cluster-blocks p _ cluster) at l) in
@@ -24,4 +24,4 @@ returns c p count of =
     (YieldsList-from_range 0 n n refl (omega arith)) (λ x q k. search (rules, tests)) (λ x q k. search (rules, tests)))
     (λ each. allb-intro n test (λ i l. each i l l))
     (λ i l fails. allb-false n test i l (fails l))
-    ∙ spread_row p words c.args.cluster count profiles of
+    ∙ spread_row p words c.args.held.now.cluster count profiles of

@@ -7,17 +7,18 @@ use Rattle.loads.proofs.Laws.{copies-used}
 use mathlib.Core.List.{List}
 use Rattle.cluster.specs.declared.Cluster.{Cluster}
 use Rattle.loads.specs.declared.Loads.{Loads}
-use Rattle.validation.specs.Validation.{LayoutAsked, HeldAt, CopiesOf, layout_refusal}
+use Rattle.loads.specs.Loads.{LoadsOf}
+use Rattle.validation.specs.Validation.{HeldAt, CopiesOf, layout_refusal}
 use Rattle.validation.proofs.check_layout.Goals as goal
 
 -- the loads' copies are those of the plan's machines
-copies : (c : Cluster) (words profiles : List ℕ) (loads : Loads) → LayoutAsked c words profiles loads → (p : Plan) (count : ℕ → ℕ)
+copies : (c : Cluster) (words profiles : List ℕ) (loads : Loads) → LoadsOf c words profiles loads.load loads.copies → (p : Plan) (count : ℕ → ℕ)
     → HeldAt p count c words profiles → CopiesOf p words c loads
 copies c words profiles loads asked p count of =
     let cluster = of.profiles-of.cluster in
     record {
       cluster-of = cluster;
-      copies-are = copies-used c words profiles loads.load loads.copies asked.loads-of p cluster;
+      copies-are = copies-used c words profiles loads.load loads.copies asked p cluster;
     }
 
 pub returns-then-not-all_spread : goal.returns-then-not-all_spread
