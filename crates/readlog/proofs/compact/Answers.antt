@@ -1,15 +1,12 @@
-use Rattle.std.proofs.Common.{◌≡◌, ◌≤◌, ◌+◌, get_or, set, sym, ap, ap₂, ◌∙◌, ℕ, List, Bool, true, false, cond, refl, arith}
+use Rattle.std.proofs.Common.{◌≡◌, ◌+◌, get_or, set, sym, ap, ap₂, ◌∙◌, ℕ, List, Bool, true, false, cond, refl, arith}
 use Rattle.std.specs.Int.{from_bool}
 use Rattle.model.specs.declared.Entry.{Entry}
 use Rattle.model.specs.ReadLog.{no_entry}
 use Rattle.readwindow.specs.Window.{is_current, kept_with}
 use Rattle.readlog.specs.Records.{Swept, sweep, swept}
+use Rattle.readlog.proofs.CountLaws.{at_most_one}
 use Rattle.readlog.proofs.SweptLaws.{swept_none, swept-next}
 use Rattle.readlog.proofs.compact.Goals as goal
-
-at_most_one : (more : ℕ) (test : Bool) → more ≡ from_bool test → more ≤ 1
-at_most_one more true adds = omega (arith, adds)
-at_most_one more false adds = omega (arith, adds)
 
 -- the entry counts if it is in the window
 kept_more : (kept now tick more : ℕ) (test : Bool) → more ≡ from_bool test → test ≡ is_current now tick → kept + more ≡ kept_with kept now tick
