@@ -1,19 +1,22 @@
 -- Laws of the new file's pieces.
 -- Assumes nothing.
-use mathlib.Core.Path.{◌≡◌}
+use mathlib.Core.Path.{◌≡◌, ap}
 use mathlib.Core.List.{List, ◌++◌}
-use Prim.Native.Nat.{ℕ}
+use Prim.Native.Nat.{ℕ, ◌<◌}
 use Rattle.order.specs.Table.{joined}
-use Rattle.model.specs.Plan.{Format, block_of, format_of, plan_in}
+use Rattle.model.specs.Plan.{Format, block_of, format_of, block_in, plan_in}
 use Rattle.model.specs.Writing.{header_bytes, record_bytes, plan_bytes}
 use Rattle.model.specs.Conversion.{written_version, converted}
 use Rattle.header.specs.declared.Header.{Header}
-use Rattle.records.proofs.Laws.{records-count}
+use Rattle.header.specs.Format.{as_format}
+use Rattle.records.specs.declared.view.Records.{Records}
+use Rattle.records.specs.Files.{OfFile}
+use Rattle.records.proofs.Laws.{file-block}
 use Rattle.encoding.specs.Pieces.{header_with}
 use Rattle.plan.specs.declared.passed.Accepted.{Accepted}
 use Rattle.plan.specs.Reading.{plan_of}
 use Rattle.plan.specs.Verdict.{accepted_plan}
-use Rattle.plan.proofs.Laws.{plan_of-blocks, accepted-of}
+use Rattle.plan.proofs.Laws.{plan_of-blocks, plan_in-blocks, accepted-of}
 use Rattle.conversion.specs.Pieces.{new_records}
 
 -- ── new_records ─────────────────────────────────────────────────────────────────────────────────────────────────────────
@@ -23,8 +26,15 @@ abbrev pub renewed : Format → List ℕ → ℕ → List ℕ
 renewed new bytes i = record_bytes new (block_of (plan_in bytes) i)
 
 -- an accepted plan's new records are made from the old ones
-pub new_records-read : (a : Accepted) (new : Format) → new_records new (accepted_plan a) ≡ joined a.records.blocks (renewed new a.records.bytes.now)
-new_records-read a new = rw ((accepted-of a.records.bytes.now a.header a.accepts).held, records-count a.records)
+pub new_records-read : (a : Accepted) (new : Format) → new_records new (accepted_plan a) ≡ joined a.header.cluster.blocks (renewed new a.records.bytes.now)
+new_records-read a new =
+    let of = accepted-of a.records.bytes.now a.header a.accepts in
+    rw (of.held, plan_in-blocks _ _ of)
+
+-- block i of a file's records is the plan's
+pub renewed-block : (r : Records) → OfFile r → (bytes : List ℕ) → r.bytes.now ≡ bytes → (new : Format) (i : ℕ) → i < r.blocks
+    → record_bytes new (block_in (as_format r.format) r.bytes.now i) ≡ renewed new bytes i
+renewed-block r of bytes same new i l = ap (record_bytes new) (file-block r of bytes same i l)
 
 -- ── converted ──────────────────────────────────────────────────────────────────────────────────────────────────────────
 

@@ -6,12 +6,12 @@ ghost use Rattle.model.specs.Plan.{format_of};
 ghost use Rattle.model.specs.Refusal.{accepted};
 ghost use Rattle.model.specs.Conversion.{written_version, converted, convert_verdict, convert_call};
 ghost use Rattle.text.specs.Pasted.{Room, Put};
-ghost use Rattle.header.specs.Format.{as_format};
 ghost use Rattle.plan.specs.Verdict.{accepted_plan};
+ghost use Rattle.encoding.specs.Widths.{as_widths};
 ghost use Rattle.conversion.specs.Pieces.{new_records};
 ghost use Rattle.conversion.specs.Entries.{convert_outcome};
 
-use header::Format;
+use encoding::Widths;
 use plan::Accepted;
 use refusal::Refusal;
 
@@ -21,20 +21,21 @@ const CONVERTED_VERSION: usize = 2;
 const WRITTEN_VERSION: usize = 3;
 
 // Puts the records of an accepted plan in file order.
-fn put_records(plan: &Accepted, new: Format, buffer: &mut [u8], at: usize) -> usize
-    requires { Room at (new_records (as_format new) (accepted_plan plan.now)) buffer.old }
-    ensures { Put at (new_records (as_format new) (accepted_plan plan.now)) buffer.old buffer.new result }
+fn put_records(plan: &Accepted, new: Widths, buffer: &mut [u8], at: usize) -> usize
+    requires { Room at (new_records (as_widths new) (accepted_plan plan.now)) buffer.old }
+    ensures { Put at (new_records (as_widths new) (accepted_plan plan.now)) buffer.old buffer.new result }
 {
+    let records = plan.reread();
     let mut next = at;
-    for i in 0..plan.records.blocks {
-        next = encoding::put_record(&plan.records, new, i, buffer, next);
+    for i in 0..records.blocks {
+        next = encoding::put_record(&records, new, i, buffer, next);
     }
     next
 }
 
 // Puts the new file of an accepted plan.
-fn put_plan(plan: &Accepted, new: Format, buffer: &mut [u8]) -> usize
-    requires { (as_format new ≡ format_of written_version) × Room 0 (converted (accepted_plan plan.now)) buffer.old }
+fn put_plan(plan: &Accepted, new: Widths, buffer: &mut [u8]) -> usize
+    requires { (as_widths new ≡ format_of written_version) × Room 0 (converted (accepted_plan plan.now)) buffer.old }
     ensures { Put 0 (converted (accepted_plan plan.now)) buffer.old buffer.new result }
 {
     let next = encoding::put_header(plan.header, WRITTEN_VERSION, new, buffer);
@@ -50,7 +51,7 @@ fn convert_accepted(plan: &Accepted, buffer: &mut [u8]) -> Result<usize, Refusal
     if buffer.len() < new.record_at(plan.records.blocks) {
         return Err(Refusal::ShortBuffer);
     }
-    Ok(put_plan(plan, new, buffer))
+    Ok(put_plan(plan, encoding::widths_of(new), buffer))
 }
 
 // Converts any bytes' plan into a lent buffer. A refusal writes nothing.

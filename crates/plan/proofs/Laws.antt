@@ -7,9 +7,10 @@ use native.Mathlib.Omega.{arith}
 use lib.ListN.{get_or}
 use Rattle.order.specs.Table.{filled}
 use Rattle.order.proofs.Tables.{length-table, get_d-filled}
-use Rattle.model.specs.Plan.{Plan, machines, domains, block_count, min_total, block_count_in, format_of, format_in, record_at, block_in, plan_in}
+use Rattle.model.specs.Plan.{Plan, machines, domains, block_count, min_total, block_count_in, Format, format_of, format_in, record_at, block_in, plan_in}
 use Rattle.model.specs.Refusal.{check23, check10, check11, blocks_refusal, pairs_refusal, plan_refusal, refusal, judge, accepted}
 use Rattle.theory.specs.Refusal.{Valid}
+use Rattle.theory.proofs.Plan.{plan_in-block_count}
 use Rattle.theory.proofs.Refusal.{or_else-some, accepted-laws}
 use Rattle.cluster.specs.declared.Cluster.{Cluster}
 use Rattle.cluster.specs.Cluster.{machines_in, InRange, ClusterOf}
@@ -17,7 +18,9 @@ use Rattle.cluster.specs.Blocks.{demand_of, DemandsOf}
 use Rattle.cluster.proofs.Laws.{cluster-range}
 use Rattle.header.specs.declared.Header.{Header}
 use Rattle.header.specs.Header.{header_counted, header_in, PassedAs}
-use Rattle.plan.specs.Reading.{plan_of, AcceptedHeader}
+use Rattle.records.specs.Files.{OfFile}
+use Rattle.plan.specs.declared.passed.Accepted.{Accepted}
+use Rattle.plan.specs.Reading.{plan_of, FileAsked, AcceptedHeader}
 
 -- ── plan_of ─────────────────────────────────────────────────────────────────────────────────────────────────────────────
 
@@ -72,6 +75,16 @@ module _ (bytes : List ℕ) (h : Header) (passed : PassedAs bytes h) where
   unfolding header_counted
   passed-blocks = ap (λ (g : Header). g.cluster.blocks) passed.fields
 
+-- so that the records of its file are asked for rightly, in the format that either gives
+pub passed-file : (bytes : List ℕ) (h : Header) → PassedAs bytes h → (f : Format) → f ≡ format_in bytes → FileAsked bytes f h.cluster.blocks
+passed-file bytes h passed f is =
+    record {
+      format-is = is;
+      blocks-are = passed-blocks bytes h passed;
+      blocks-max = passed.in-range.blocks-max;
+      room = omega (arith, passed.length-is, ap (λ (g : Format). record_at g h.cluster.blocks) is);
+    }
+
 pub accepted-of : (bytes : List ℕ) (h : Header) → judge bytes ≡ accepted (plan_of bytes h) → HeaderOf bytes h
 accepted-of bytes h e =
     let laws = accepted-header bytes h e in
@@ -92,6 +105,25 @@ module _ (bytes : List ℕ) (h : Header) (of : HeaderOf bytes h) where
   pub plan_in-machines : machines_in h.cluster ≡ machines (plan_in bytes)
   unfolding plan_of
   plan_in-machines = ap machines of.held
+
+-- the records of an accepted plan's file are asked for rightly, too
+pub accepted-file : (bytes : List ℕ) (h : Header) → judge bytes ≡ accepted (plan_of bytes h)
+    → (f : Format) → f ≡ format_in bytes → FileAsked bytes f h.cluster.blocks
+accepted-file bytes h e f is =
+    let laws = accepted-header bytes h e in
+    let of = accepted-of bytes h e in
+    record {
+      format-is = is;
+      blocks-are = plan_in-blocks bytes h of ∙ plan_in-block_count bytes;
+      blocks-max = of.in-range.blocks-max;
+      room = omega (arith, laws.length-is, ap (λ (g : Format). record_at g h.cluster.blocks) is);
+    }
+
+-- what an accepted plan keeps are the records of its file
+pub accepted-records : (a : Accepted) → OfFile a.records
+accepted-records a =
+    let of = accepted-of a.records.bytes.now a.header a.accepts in
+    record { format-is = a.format_is; blocks-are = a.blocks_are ∙ plan_in-blocks _ a.header of ∙ plan_in-block_count _ }
 
 -- ── DemandsOf ──────────────────────────────────────────────────────────────────────────────────────────────────────────
 

@@ -1,8 +1,8 @@
 -- What the passes over a plan's bytes say, in the model's terms.
 use Rattle.std.specs.Prelude.{◌≡◌, List, ℕ, ◌≤◌, length, Result, Ok, Err}
 use Rattle.order.specs.Table.{table, filled}
-use Rattle.model.specs.Plan.{Plan, min_total, format_in, record_at, block_in, plan_in}
-use Rattle.model.specs.Refusal.{blocks_refusal}
+use Rattle.model.specs.Plan.{Plan, min_total, block_count_in, Format, format_in, record_at, block_in, plan_in}
+use Rattle.model.specs.Refusal.{max_blocks, blocks_refusal}
 use Rattle.refusal.specs.declared.Refusal.{Refusal}
 use Rattle.refusal.specs.Rows.{number_of}
 use Rattle.cluster.specs.Cluster.{ClusterOf}
@@ -21,6 +21,13 @@ plan_of bytes h =
       budget = h.budget;
       blocks = table h.cluster.blocks (block_in (format_in bytes) bytes);
     }
+
+-- The bytes hold so many records in the format, as their own header says.
+pub record FileAsked (bytes : List ℕ) (f : Format) (blocks : ℕ) : Type 0 where
+  pub format-is : f ≡ format_in bytes
+  pub blocks-are : blocks ≡ block_count_in bytes
+  pub blocks-max : blocks ≤ max_blocks
+  pub room : record_at f blocks ≤ length bytes
 
 pub record FaultAs (bytes : List ℕ) (code : ℕ) : Type 0 where
   pub is : blocks_refusal (plan_in bytes) ≡ code

@@ -6,24 +6,41 @@ ghost use Rattle.model.specs.Plan.{plan_in};
 ghost use Rattle.model.specs.Refusal.{check23, check10, check11, pairs_refusal, judge};
 ghost use Rattle.refusal.specs.Rows.{code_of};
 ghost use Rattle.header.specs.Header.{PassedAs};
-ghost use Rattle.plan.specs.Reading.{RecordsRead};
+ghost use Rattle.header.specs.Format.{as_format};
+ghost use Rattle.records.specs.Files.{OfFile};
+ghost use Rattle.plan.specs.Reading.{FileAsked, RecordsRead};
 ghost use Rattle.plan.specs.Verdict.{verdict_of};
 
 mod passed;
 
-use header::Header;
+use header::{Format, Header};
 pub use passed::Accepted;
 use records::Records;
 use refusal::Refusal;
 
-// Checks 8 and 9 block by block, and the sum of the least copies, in one pass over the records.
-fn scan_records(records: &Records, h: Header) -> Result<usize, Refusal>
-    requires { PassedAs records.now.bytes.now h }
-    ensures { RecordsRead records.now.bytes.now result }
+// The records of a file, in its own format.
+fn file_records<'a>(bytes: &'a [u8], format: Format, blocks: usize) -> Records<'a>
+    requires { FileAsked bytes.now (as_format format) blocks }
+    ensures { (result.bytes.now ≡ bytes.now) × (result.blocks ≡ blocks) × (result.format ≡ format) × OfFile result }
+{
+    Records {
+        bytes,
+        format,
+        blocks,
+    }
+}
+
+// Checks 8 and 9 block by block, and the sum of the least copies, in one pass over the records. Compiled by itself, as is the pass over
+// the pairs: within `read` each keeps more values across its loop, which costs four to eight instructions a block.
+#[inline(never)]
+fn scan_records(bytes: &[u8], h: Header) -> Result<usize, Refusal>
+    requires { PassedAs bytes.now h }
+    ensures { RecordsRead bytes.now result }
 {
     let cluster = h.cluster;
+    let records = file_records(bytes, header::format_in(bytes), cluster.blocks);
     let mut total: usize = 0;
-    for i in 0..records.blocks {
+    for i in 0..cluster.blocks {
         let least = records.min_replicas(i);
         let spread = records.min_domains(i);
         let most = records::upper_count(h.version, cluster, records.link(i));
@@ -34,9 +51,12 @@ fn scan_records(records: &Records, h: Header) -> Result<usize, Refusal>
 }
 
 // Check 17 over all blocks.
-fn scan_pairs(records: &Records) -> Result<(), Refusal>
-    ensures { code_of result ≡ pairs_refusal (plan_in records.now.bytes.now) }
+#[inline(never)]
+fn scan_pairs(bytes: &[u8], h: Header) -> Result<(), Refusal>
+    requires { PassedAs bytes.now h }
+    ensures { code_of result ≡ pairs_refusal (plan_in bytes.now) }
 {
+    let records = file_records(bytes, header::format_of(h.version), h.cluster.blocks);
     if records.format.pair_byte_width == 0 {
         return Ok(());
     }
@@ -68,16 +88,10 @@ pub fn read(bytes: &[u8]) -> Result<Accepted<'_>, Refusal>
     ensures same { IfOk result (λ plan. plan.records.bytes.now ≡ bytes.now) }
 {
     let h = header::read(bytes)?;
-    let cluster = h.cluster;
-    let format = header::format_of(h.version);
-    let records = Records {
-        bytes,
-        format,
-        blocks: cluster.blocks,
-    };
-    let total = scan_records(&records, h)?;
-    scan_pairs(&records)?;
-    let places = cluster.machines() * cluster.capacity;
+    let total = scan_records(bytes, h)?;
+    scan_pairs(bytes, h)?;
+    let places = h.cluster.machines() * h.cluster.capacity;
     check_total(h.version, places, h.budget, total)?;
+    let records = file_records(bytes, header::format_of(h.version), h.cluster.blocks);
     Ok(Accepted { header: h, records })
 }

@@ -30,7 +30,7 @@ returns-then-buffer-record_at c =
 pub put_plan-requires : goal.put_plan-requires
 put_plan-requires c =
     let size = size_is c.args.plan.now _ _ c.format_of-new.ensures c.record_at.ensures.0 in
-    (c.format_of-new.ensures, record { fits = omega (arith, size, c.if-buffer-record_at.false) })
+    (c.widths_of.ensures ∙ c.format_of-new.ensures, record { fits = omega (arith, size, c.if-buffer-record_at.false) })
 
 pub returns : goal.returns
 unfolding convert_outcome

@@ -6,16 +6,17 @@ use Prim.Native.Nat.{ℕ, ◌*◌}
 use native.Mathlib.Nat.{mul-le-mul}
 use native.Mathlib.Omega.{arith}
 use Rattle.std.proofs.lemmas.Result.{err_from_is_err_and}
-use Rattle.model.specs.Plan.{Format, record_at, plan_in}
-use Rattle.model.specs.Refusal.{check23, check10, check11, pairs_refusal, max_machines, max_capacity, refusal, accepted}
+use Rattle.model.specs.Plan.{plan_in}
+use Rattle.model.specs.Refusal.{check23, check10, check11, pairs_refusal, max_machines, max_capacity, refusal, judge, accepted}
 use Rattle.theory.proofs.Refusal.{judge-refused, judge-accepted}
 use Rattle.refusal.proofs.Laws.{number_of-pos}
 use Rattle.cluster.specs.Cluster.{machines_in}
 use Rattle.header.specs.declared.Header.{Header}
 use Rattle.header.specs.Header.{PassedAs}
-use Rattle.plan.specs.Reading.{TotalAs}
+use Rattle.records.specs.declared.view.Records.{Records}
+use Rattle.plan.specs.Reading.{plan_of, TotalAs}
 use Rattle.plan.specs.Verdict.{verdict_of}
-use Rattle.plan.proofs.Laws.{plan_of-in, passed-format, passed-blocks, refusal-fault, refusal-pairs, refusal-sums}
+use Rattle.plan.proofs.Laws.{plan_of-in, passed-format, passed-file, refusal-fault, refusal-pairs, refusal-sums}
 use Rattle.plan.proofs.read.Goals as goal
 
 -- where check 17 passes, the tests of the sum decide
@@ -34,19 +35,15 @@ returns-in_err-h-clause-judged c =
     let refused = c.in_err-h.ensures in
     rw (p.1, p.2) (sym (judge-refused _ _ refused.is refused.some))
 
-pub invariant_of-records : goal.invariant_of-records
-invariant_of-records c =
-    let passed = c.in_ok-h.ensures in
-    let format = c.format_of-format.ensures ∙ passed-format _ _ passed in
-    record {
-      format_is = format;
-      blocks_are = passed-blocks _ _ passed;
-      blocks_max = passed.in-range.blocks-max;
-      room = omega (arith, passed.length-is, ap (λ (f : Format). record_at f c.in_ok-h.h.cluster.blocks) format);
-    }
+pub file_records-records-requires : goal.file_records-records-requires
+file_records-records-requires c =
+    passed-file _ _ c.in_ok-h.ensures _ (c.format_of.ensures ∙ passed-format _ _ c.in_ok-h.ensures)
 
 pub scan_records-requires : goal.scan_records-requires
 scan_records-requires c = c.in_ok-h.ensures
+
+pub scan_pairs-requires : goal.scan_pairs-requires
+scan_pairs-requires c = c.in_ok-h.ensures
 
 pub returns-in_err-total-clause-judged : goal.returns-in_err-total-clause-judged
 unfolding verdict_of
@@ -75,15 +72,25 @@ returns-in_err-check_total-clause-judged c =
     c.machines.ensures.0 c.in_err-check_total.ensures in
     rw (p.1, p.2) (sym (judge-refused _ _ left (number_of-pos _)))
 
+-- the records answered are those of the bytes that were read
+accepts-same : (r : Records) (bytes : List ℕ) (h : Header) → r.bytes.now ≡ bytes → judge bytes ≡ accepted (plan_of bytes h)
+    → judge r.bytes.now ≡ accepted (plan_of r.bytes.now h)
+accepts-same r bytes h same is = rw same is
+
 pub invariant_of-result-clause-accepts : goal.invariant_of-result-clause-accepts
 invariant_of-result-clause-accepts c =
     let left = left-sums _ _ _ _ _ c.in_ok-h.ensures c.in_ok-total.ensures c.in_ok-scan_pairs.ensures
     c.machines.ensures.0 c.in_ok-check_total.ensures in
-    judge-accepted _ left ∙ ap accepted (sym (plan_of-in _ _ c.in_ok-h.ensures.fields))
+    accepts-same c.file_records-records.result _ _ c.file_records-records.ensures.0
+    (judge-accepted _ left ∙ ap accepted (sym (plan_of-in _ _ c.in_ok-h.ensures.fields)))
+
+pub invariant_of-result-clause-format_is : goal.invariant_of-result-clause-format_is
+invariant_of-result-clause-format_is c = c.file_records-records.ensures.3.format-is
 
 pub returns-clause-judged : goal.returns-clause-judged
 unfolding verdict_of
 returns-clause-judged c =
     let left = left-sums _ _ _ _ _ c.in_ok-h.ensures c.in_ok-total.ensures c.in_ok-scan_pairs.ensures
     c.machines.ensures.0 c.in_ok-check_total.ensures in
-    ap accepted (plan_of-in _ _ c.in_ok-h.ensures.fields) ∙ sym (judge-accepted _ left)
+    rw c.file_records-records.ensures.0
+    (ap accepted (plan_of-in _ _ c.in_ok-h.ensures.fields) ∙ sym (judge-accepted _ left))

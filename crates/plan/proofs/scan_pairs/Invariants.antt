@@ -9,4 +9,4 @@ use Rattle.plan.proofs.scan_pairs.Given as goal
 
 abbrev pub invariant-loop-i : goal.invariant-loop-i
 invariant-loop-i l =
-    ((k : ℕ) → k < l.i → is_refusal (pair_refusal (plan_in l.records.bytes.now) k) ≡ false)
+    ((k : ℕ) → k < l.i → is_refusal (pair_refusal (plan_in l.bytes) k) ≡ false)

@@ -10,6 +10,6 @@ use Rattle.plan.proofs.scan_records.Given as goal
 
 abbrev pub invariant-loop-i : goal.invariant-loop-i
 invariant-loop-i l =
-    (l.total ≡ sum l.i (λ k. (block_of (plan_in l.records.bytes.now) k).min_replicas))
+    (l.total ≡ sum l.i (λ k. (block_of (plan_in l.bytes) k).min_replicas))
     × (l.total ≤ 255 * l.i)
-    × ((k : ℕ) → k < l.i → is_refusal (block_refusal (plan_in l.records.bytes.now) k) ≡ false)
+    × ((k : ℕ) → k < l.i → is_refusal (block_refusal (plan_in l.bytes) k) ≡ false)

@@ -1,20 +1,21 @@
 -- `plan::Accepted::decode` meets its contract. The loop's invariant: the demands are filled as far as the loop has come, and these blocks'
 -- popularities fit.
 -- Assumes nothing.
-use mathlib.Core.Path.{◌≡◌, refl}
+use mathlib.Core.Path.{◌≡◌, refl, ap, ◌∙◌}
 use mathlib.Core.List.{List}
 use Prim.Native.Nat.{ℕ, ◌<◌, ◌≤◌}
 use native.Mathlib.Omega.{arith}
 use borrow.Author.Count.{below_none, below_more}
 use lib.ListN.{length, length-set}
 use Rattle.order.proofs.Tables.{filled_none, filled_more}
-use Rattle.model.specs.Plan.{Plan, machines, block_of, upper, plan_in}
+use Rattle.model.specs.Plan.{Plan, Block, machines, block_count, block_of, upper, plan_in}
 use Rattle.theory.specs.Widths.{popularity_bound}
 use Rattle.theory.proofs.Plan.{upper-max}
 use Rattle.cluster.specs.declared.Cluster.{Cluster}
 use Rattle.cluster.specs.Cluster.{machines_in}
 use Rattle.cluster.specs.Blocks.{link_of, demand_word, demand_of, DemandInRange, Linked, DemandsFit, DemandsOf}
 use Rattle.cluster.proofs.Laws.{cluster-range, cluster-blocks, cluster-block, linked-mate, demand_of-popularity, demand_of-least, demand_of-most, demand_of-link}
+use Rattle.records.proofs.Laws.{file-count, file-block, file-of}
 use Rattle.plan.specs.declared.passed.Accepted.{Accepted}
 use Rattle.plan.proofs.Laws.{accepted-header, accepted-of, plan_in-version, plan_in-machines, demands-of}
 use Rattle.plan.proofs.passed.Accepted.decode.Goals as goal
@@ -70,11 +71,18 @@ upper_count-requires c =
 
 pub loop-i-preserved : goal.loop-i-preserved
 loop-i-preserved c =
-    let demand = demand-is c.args.self.now _ _ _ _ _ _ _
-    c.popularity.ensures.0 c.min_replicas.ensures.0 c.min_domains.ensures.0
-    c.link-linked.ensures.0 c.upper_count.ensures.0 c.demand.ensures in (
+    let p = plan_in c.args.self.now.records.bytes.now in
+    let r = c.reread-records in
+    let of = r.ensures.2 in
+    let block = file-block r.result of _ r.ensures.0 c.loop-i.i c.loop-i-test.true in
+    let within : c.loop-i.i < block_count p = rw (← (file-count r.result of _ r.ensures.0)) c.loop-i-test.true in
+    let popular = c.popularity.ensures.0 ∙ ap (λ (b : Block). b.popularity) block in
+    let demand = demand-is c.args.self.now _ _ _ _ _ _ _ popular
+    (c.min_replicas.ensures.0 ∙ ap (λ (b : Block). b.min_replicas) block)
+    (c.min_domains.ensures.0 ∙ ap (λ (b : Block). b.min_domains) block)
+    (c.link-linked.ensures.0 p (file-of r.result of _ r.ensures.0) within) c.upper_count.ensures.0 c.demand.ensures in (
       filled_more c.loop-i.i _ _ _ _ c.loop-i.invariant.0 (omega arith) demand,
-      below_more _ c.loop-i.i c.loop-i.invariant.1 (rw c.popularity.ensures.0 at c.popularity.ensures.1),
+      below_more _ c.loop-i.i c.loop-i.invariant.1 (rw popular at c.popularity.ensures.1),
       simp length-set c.loop-i.invariant.2,
     )
 

@@ -6,9 +6,8 @@ use native.Mathlib.Numerals.{add-one}
 use native.Mathlib.Omega.{arith}
 use lib.Dec.{eqb}
 use Rattle.std.proofs.lemmas.Bool.Decides.{nat_tests}
-use Rattle.model.specs.Plan.{Plan, block_count, block_of, plan_in}
+use Rattle.model.specs.Plan.{Plan, block_count, block_of}
 use Rattle.model.specs.Refusal.{check17, pair_refusal}
-use Rattle.records.proofs.Laws.{records-count}
 use Rattle.records.proofs.view.Records.check_pair.Goals as goal
 
 -- what is judged of a block
@@ -17,15 +16,19 @@ unfolding pair_refusal
 judged p i = rw (add-one i)
 
 pub returns-then-byte-eq0 : goal.returns-then-byte-eq0
-unfolding check17 pair_refusal
-returns-then-byte-eq0 c = grind (arith, nat_tests)
+unfolding check17
+returns-then-byte-eq0 c p of count =
+    let here = of c.args.i (rw (← count) c.requires) in
+    rw (judged p c.args.i, here) (grind (arith, nat_tests))
 
 pub returns-then-byte-gt1 : goal.returns-then-byte-gt1
 unfolding check17
-returns-then-byte-gt1 c =
-    rw (judged (plan_in c.args.self.now.bytes.now) c.args.i) (grind (arith, nat_tests, records-count c.args.self.now))
+returns-then-byte-gt1 c p of count =
+    let here = of c.args.i (rw (← count) c.requires) in
+    rw (judged p c.args.i, here) (grind (arith, nat_tests))
 
 pub returns : goal.returns
 unfolding check17
-returns c =
-    rw (judged (plan_in c.args.self.now.bytes.now) c.args.i) (grind (arith, nat_tests, records-count c.args.self.now))
+returns c p of count =
+    let here = of c.args.i (rw (← count) c.requires) in
+    rw (judged p c.args.i, here) (grind (arith, nat_tests))

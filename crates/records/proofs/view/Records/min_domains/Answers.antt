@@ -3,7 +3,6 @@
 use native.Mathlib.Nat.{add_assoc}
 use Rattle.model.specs.Plan.{block_in}
 use Rattle.theory.proofs.Plan.{field-narrow}
-use Rattle.records.proofs.Laws.{records-block}
 use Rattle.records.proofs.view.Records.min_domains.Goals as goal
 
 pub returns : goal.returns
@@ -11,7 +10,7 @@ unfolding block_in
 returns c =
     let r = c.byte_at.ensures in
     let format = c.args.self.now.format in (
-      rw (records-block c.args.self.now c.args.i c.requires, ← c.record_at.ensures.0, ← (add_assoc c.record_at.result format.popularity_width format.min_replicas_width))
+      rw (← c.record_at.ensures.0, ← (add_assoc c.record_at.result format.popularity_width format.min_replicas_width))
           r.0,
       field-narrow _ _ 1 r.1 format.domains_max,
     )

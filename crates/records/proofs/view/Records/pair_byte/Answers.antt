@@ -3,7 +3,6 @@
 use Prim.Native.Nat.{◌+◌}
 use native.Mathlib.Nat.{add_assoc}
 use Rattle.model.specs.Plan.{block_in}
-use Rattle.records.proofs.Laws.{records-block}
 use Rattle.records.proofs.view.Records.pair_byte.Goals as goal
 
 pub returns : goal.returns
@@ -12,7 +11,6 @@ returns c =
     let format = c.args.self.now.format in
     let r = c.record_at.result in
     rw (
-      records-block c.args.self.now c.args.i c.requires,
       ← c.record_at.ensures.0,
       ← (add_assoc r (format.popularity_width + format.min_replicas_width) format.min_domains_width),
       ← (add_assoc r format.popularity_width format.min_replicas_width),
