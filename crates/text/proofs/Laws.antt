@@ -3,7 +3,7 @@
 use mathlib.Core.Path.{◌≡◌, refl, ap, ap₂, sym, ◌∙◌}
 use mathlib.Core.List.{List, [], ◌∷◌, ◌++◌, append_assoc, append-nil}
 use Prim.Native.Nat.{ℕ, suc, ◌+◌, ◌<◌, ◌≤◌}
-use native.Mathlib.Nat.{zero-add, add-zero}
+use native.Mathlib.Nat.{zero-add, add-zero, add_assoc}
 use native.Mathlib.Numerals.{add-one}
 use native.Mathlib.Omega.{arith}
 use lib.ListN.{length, get_or, take, drop, set, length-append, length-drop, take-append-drop}
@@ -79,6 +79,23 @@ module _ (at : ℕ) (piece later old : List ℕ) (room : Room at (piece ++ later
             ∙ pasted-more at piece old room-first later room;
         next-is = simp length-append (omega arith);
       }
+
+-- a byte stored, and a word byte by byte
+pub put-set : (at byte : ℕ) (old : List ℕ) → Room at (byte ∷ []) old → Put at (byte ∷ []) old (set old at byte) (at + 1)
+put-set at byte old room = record { text-is = pasted-set at byte old (omega arith); next-is = refl }
+
+take-room : (at i : ℕ) (word old : List ℕ) → i ≤ length word → Room at word old → Room at (take i word) old
+take-room at i word old l room = let e = length-take-le i word l in record { fits = omega arith }
+
+pub word_more : (at i : ℕ) (word old text : List ℕ) → i < length word → Room at word old
+    → Put at (take i word) old text (at + i)
+    → Put at (take (i + 1) word) old (set text (at + i) (get_or word i 0)) (at + (i + 1))
+word_more at i word old text l room put =
+    let one = take-suc word i 0 l in
+    let fits : Room at (take i word ++ get_or word i 0 ∷ []) old = rw (← one) (take-room at (suc i) word old l room) in
+    let inside = room_next at (take i word) (get_or word i 0 ∷ []) old fits text (at + i) put in
+    rw (← add_assoc at i 1, add-one i, one)
+    (put_then at (take i word) (get_or word i 0 ∷ []) old fits text _ (at + i) _ put (put-set (at + i) (get_or word i 0) text inside))
 
 -- fields, number by number
 fields-none : fields [] ≡ []

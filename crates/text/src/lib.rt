@@ -14,14 +14,16 @@ pub fn put_byte(text: &mut [u8], at: usize, byte: u8) -> usize
     at + 1
 }
 
-// Puts the bytes of a word.
+// Puts the bytes of a word, one by one: a copy of a slice whose length the compiler does not see would call `memmove`, which the archive
+// does not ask for.
 pub fn put_word(text: &mut [u8], at: usize, word: &[u8]) -> usize
     requires { Room at word.now text.old }
     ensures { Put at word.now text.old text.new result }
 {
-    let past = at + word.len();
-    text[at..past].copy_from_slice(word);
-    past
+    for i in 0..word.len() {
+        text[at + i] = word[i];
+    }
+    at + word.len()
 }
 
 // Puts a number in decimal: the digits of n / 10 first, where it has any.

@@ -1,13 +1,24 @@
--- `text::put_word` meets its contract: the text's part that holds the word lies between the bytes before and behind it.
+-- `text::put_word` meets its contract. The loop's invariant: the bytes passed stand in the text.
 -- Assumes nothing.
-use Rattle.std.proofs.Common.{◌≡◌, ℕ, List, length, refl, arith, append_assoc, drop-drop}
-use borrow.Rule.Slice.PartMut.{put_mid}
-use Rattle.text.specs.Pasted.{pasted}
+use mathlib.Core.Path.{◌≡◌, refl}
+use native.Mathlib.Nat.{add-zero}
+use native.Mathlib.Omega.{arith}
+use lib.ListN.{length, length-set}
+use lib.Seq.{take_all}
+use Rattle.text.proofs.Laws.{put-none, word_more}
 use Rattle.text.proofs.put_word.Goals as goal
 
-mid-pasted : (at k : ℕ) (word old new : List ℕ) → k ≡ length word → new ≡ word → put_mid at k old new ≡ pasted at word old
-unfolding pasted
-mid-pasted at k word old new size same = rw (same, size) (simp (append_assoc, drop-drop))
+pub loop-i-init : goal.loop-i-init
+loop-i-init c = (refl, rw (add-zero c.args.at) (put-none _ _))
+
+pub loop-i-preserved : goal.loop-i-preserved
+loop-i-preserved c =
+    (simp length-set c.loop-i.invariant.0, word_more _ _ _ _ _ c.loop-i-test.true c.requires c.loop-i.invariant.1)
+
+pub shape_of-text : goal.shape_of-text
+shape_of-text c = c.loop-i.invariant.0
 
 pub returns : goal.returns
-returns c = record { text-is = mid-pasted _ _ _ _ _ (omega arith) c.copy_from_slice.ensures.after; next-is = refl }
+returns c =
+    let all : c.loop-i.i ≡ length c.args.word.now = omega arith in
+    rw (take_all (length c.args.word.now) c.args.word.now (omega arith)) at (rw all at c.loop-i.invariant.1)
