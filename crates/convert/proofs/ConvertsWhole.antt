@@ -11,6 +11,6 @@ use Rattle.convert.specs.Output.{output_for, errors_for, ConvertsWhole}
 pub converts-whole : ConvertsWhole
 converts-whole =
     record {
-      output-is = λ E. on-whole (List ℕ) E [] output_for (λ whole long. ap converted_output (conversions.long whole long));
-      errors-is = λ E. on-whole (List ℕ) E [] errors_for (λ whole long. ap converted_errors (conversions.long whole long));
+      output-is = on-whole (List ℕ) [] output_for (λ whole long. ap converted_output (conversions.long whole long));
+      errors-is = on-whole (List ℕ) [] errors_for (λ whole long. ap converted_errors (conversions.long whole long));
     }

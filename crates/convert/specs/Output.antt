@@ -1,5 +1,5 @@
 -- What the program writes to both streams for what it read, and that this is due for its whole input, however long.
-use Rattle.std.specs.Prelude.{◌≡◌, List, [], ℕ, ◌≤◌, length, take, Result, Ok, Err}
+use Rattle.std.specs.Prelude.{◌≡◌, List, [], ℕ, ◌≤◌, length, take, Option, Result, Ok, Err}
 use Rattle.model.specs.Plan.{format_of, record_at}
 use Rattle.model.specs.Refusal.{max_blocks}
 use Rattle.model.specs.Listing.{refused_line}
@@ -16,10 +16,10 @@ abbrev pub errors_for : List ℕ → List ℕ
 errors_for bytes = converted_errors (convert_verdict bytes)
 
 -- The same for the bytes that came; nothing at all where a read failed.
-abbrev pub converted_stream : {E : Type 0} → Result (List ℕ) E → List ℕ
+abbrev pub converted_stream : Option (List ℕ) → List ℕ
 converted_stream came = on_input [] output_for came
 
-abbrev pub errors_of : {E : Type 0} → Result (List ℕ) E → List ℕ
+abbrev pub errors_of : Option (List ℕ) → List ℕ
 errors_of came = on_input [] errors_for came
 
 -- Bytes that every new file fits in: the largest plan of the version that is written. And every line of a refusal.
@@ -48,8 +48,8 @@ pub record Sends (answer : Result ℕ Refusal) (buffer output errors : List ℕ)
   pub errors-is : answer_errors answer ≡ errors
 
 -- What is written is what is due for the whole input.
-pub record ConvertsWhole : Type 1 where
-  pub output-is : (E : Type 0) (came : Result (List ℕ) E) (whole : List ℕ) → InputIs came whole
+pub record ConvertsWhole : Type 0 where
+  pub output-is : (came : Option (List ℕ)) (whole : List ℕ) → InputIs came whole
       → converted_stream came ≡ converted_output (convert_verdict whole)
-  pub errors-is : (E : Type 0) (came : Result (List ℕ) E) (whole : List ℕ) → InputIs came whole
+  pub errors-is : (came : Option (List ℕ)) (whole : List ℕ) → InputIs came whole
       → errors_of came ≡ converted_errors (convert_verdict whole)

@@ -2,11 +2,14 @@
 // `refused` and the number to standard error.
 #![tactic(auto)]
 
-ghost use Rattle.std.specs.Prelude.{◌≡◌, ◌≤◌, length, IfSome, OnOk};
+ghost use Rattle.std.specs.Prelude.{◌≡◌, ◌≤◌, length, option_map, IfSome, IfNone, OnOk};
 ghost use Rattle.std.specs.Io.KnownBytes.{Appends};
 ghost use Rattle.model.specs.Conversion.{convert_verdict, converted_output, converted_errors};
-ghost use Rattle.convert.specs.Output.{output_for, errors_for, result_room, line_room, result_size, answer_output, answer_errors, Sends};
+ghost use Rattle.input.specs.Source.{source_bytes};
+ghost use Rattle.convert.specs.Output.{converted_stream, errors_of, result_room, line_room, result_size, answer_output, answer_errors, Sends};
+ghost use Rattle.convert.specs.Failure.{OnInputFailure, IsInputFailure};
 
+use input::Source;
 use refusal::Refusal;
 use std::io::{Read, Write};
 use std::process::ExitCode;
@@ -17,12 +20,15 @@ const RESULT_ROOM: usize = 7183;
 
 const LINE_ROOM: usize = 12;
 
-// Converts the bytes into a buffer with room for every new file.
-fn answer(bytes: &[u8], buffer: &mut [u8]) -> Result<usize, Refusal>
+// Converts the bytes that came; where a read failed, no byte is converted and nothing is refused.
+fn answer(came: &Option<Source>, buffer: &mut [u8]) -> Result<usize, Refusal>
     requires { result_room ≤ length buffer.old }
-    ensures { Sends result buffer.new (output_for bytes.now) (errors_for bytes.now) }
+    ensures { Sends result buffer.new (converted_stream (option_map source_bytes came.now)) (errors_of (option_map source_bytes came.now)) }
 {
-    conversion::convert(bytes, buffer)
+    match came {
+        Some(source) => conversion::convert(source.bytes(), buffer),
+        None => Ok(0),
+    }
 }
 
 // The part of the buffer that goes to standard output: the new file, nothing after a refusal.
@@ -68,38 +74,48 @@ impl fmt::Display for Failure {
     }
 }
 
-// Writes to both streams what is due for the bytes that came, and nothing else.
+// Writes to both streams what is due for what came, and nothing else.
 fn write<W: Write, E: Write>(
     out: &mut W,
     err: &mut E,
-    bytes: &[u8],
+    came: &Option<Source>,
     output: &[u8],
     errors: &[u8],
 ) -> Result<(), Failure>
-    requires { (output.now ≡ output_for bytes.now) × (errors.now ≡ errors_for bytes.now) }
+    requires { (output.now ≡ converted_stream (option_map source_bytes came.now))
+        × (errors.now ≡ errors_of (option_map source_bytes came.now)) }
     ensures output { OnOk result
-        (Appends (W.contents out.old) (W.contents out.new) (output_for bytes.now)) }
+        (Appends (W.contents out.old) (W.contents out.new) (converted_stream (option_map source_bytes came.now))) }
     ensures errors { OnOk result
-        (Appends (E.contents err.old) (E.contents err.new) (errors_for bytes.now)) }
+        (Appends (E.contents err.old) (E.contents err.new) (errors_of (option_map source_bytes came.now))) }
+    ensures failed { IfNone came.now (IsInputFailure result) }
+    ensures nothing { OnInputFailure result
+        ((W.contents out.new ≡ W.contents out.old) × (E.contents err.new ≡ E.contents err.old)) }
 {
+    if came.is_none() {
+        return Err(Failure::Input(input::read_failed()));
+    }
     err.write_all(errors).map_err(Failure::Errors)?;
     out.write_all(output).map_err(Failure::Output)
 }
 
-// Writes to both streams what is due for the whole input, however long, or says which stream failed.
+// Writes to both streams what is due for the whole input, however long, or says which stream failed: where it is standard input, nothing
+// was written.
 fn run<R: Read, W: Write, E: Write>(reader: &mut R, out: &mut W, err: &mut E) -> Result<(), Failure>
     ensures output { OnOk result (IfSome (R.remaining reader.old)
         (λ whole. Appends (W.contents out.old) (W.contents out.new) (converted_output (convert_verdict whole)))) }
     ensures errors { OnOk result (IfSome (R.remaining reader.old)
         (λ whole. Appends (E.contents err.old) (E.contents err.new) (converted_errors (convert_verdict whole)))) }
+    ensures nothing { OnInputFailure result
+        ((W.contents out.new ≡ W.contents out.old) × (E.contents err.new ≡ E.contents err.old)) }
 {
-    let source = input::fill(reader).map_err(Failure::Input)?;
     let mut buffer = [0u8; RESULT_ROOM];
     let mut line = [0u8; LINE_ROOM];
-    let answer = answer(source.bytes(), &mut buffer);
+    let came = input::fill(reader).map_err(Failure::Input)?;
+    let answer = answer(&came, &mut buffer);
     let output = output(answer, &mut buffer);
     let errors = errors(answer, &mut line);
-    write(out, err, source.bytes(), output, errors)
+    write(out, err, &came, output, errors)
 }
 
 fn main(rt: HostRuntime) -> ExitCode {

@@ -1,7 +1,8 @@
 -- What is got from the bytes that came is got from the whole input, where a full buffer alone decides.
 -- Assumes nothing.
-use Rattle.std.proofs.Common.{◌≡◌, ℕ, List, Result, Ok, Err, arith, length, take, ap, ◌∙◌, take_all}
+use Rattle.std.proofs.Common.{◌≡◌, ℕ, List, None, Some, arith, length, take, ap, ◌∙◌, take_all}
 use native.Mathlib.Decide.{dec_lt}
+use Rattle.std.specs.declared.option.Option.{Option}
 use Rattle.model.specs.Listing.{input_room}
 use Rattle.input.specs.Input.{on_input, InputIs, ByFirstBytes, OnWhole}
 
@@ -12,10 +13,10 @@ module _ {A : Type 0} (none : A) (f : List ℕ → A) (decided : ByFirstBytes f)
     | no enough ↦ decided whole (omega arith)
   ]
 
-  same : {E : Type 0} (came : Result (List ℕ) E) (whole : List ℕ) → InputIs came whole → on_input none f came ≡ f whole
+  same : (came : Option (List ℕ)) (whole : List ℕ) → InputIs came whole → on_input none f came ≡ f whole
   unfolding on_input InputIs
-  same (Ok bytes) whole is = ap f is ∙ first-bytes whole
-  same (Err error) whole is = absurd is
+  same None whole is = absurd is
+  same (Some bytes) whole is = ap f is ∙ first-bytes whole
 
 pub on-whole : OnWhole
-on-whole A E none f decided came whole is = same none f decided came whole is
+on-whole A none f decided came whole is = same none f decided came whole is

@@ -8,4 +8,4 @@ use Rattle.input.proofs.OnWhole.{on-whole}
 use Rattle.place.specs.Output.{printed_for, ListsWhole}
 
 pub lists-whole : ListsWhole
-lists-whole E = on-whole (List ℕ) E [] printed_for (λ whole long. long-input whole long step_limit)
+lists-whole = on-whole (List ℕ) [] printed_for (λ whole long. long-input whole long step_limit)

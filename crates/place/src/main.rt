@@ -1,11 +1,15 @@
 // The program: reads a plan from standard input and prints its listing, or `refused` and the number.
 #![tactic(auto)]
 
-ghost use Rattle.std.specs.Prelude.{◌≡◌, ◌≤◌, length, IfSome, OnOk};
+ghost use Rattle.std.specs.Prelude.{◌≡◌, ◌≤◌, length, option_map, IfSome, IfNone, OnOk};
 ghost use Rattle.std.specs.Io.KnownBytes.{Appends};
 ghost use Rattle.model.specs.Listing.{printed, step_limit, listing_room, print_call};
 ghost use Rattle.listing.specs.Entries.{listing_outcome};
+ghost use Rattle.input.specs.Source.{source_bytes};
+ghost use Rattle.place.specs.Output.{listed_output};
+ghost use Rattle.place.specs.Failure.{OnInputFailure, IsInputFailure};
 
+use input::Source;
 use refusal::Refusal;
 use std::io::{Read, Write};
 use std::process::ExitCode;
@@ -31,6 +35,17 @@ fn list<'a>(bytes: &[u8], text: &'a mut [u8]) -> &'a mut [u8]
     &mut text[..size]
 }
 
+// The part of a lent text that holds the output: what is printed for the bytes that came, nothing where a read failed.
+fn output<'a>(came: &Option<Source>, text: &'a mut [u8]) -> &'a mut [u8]
+    requires { listing_room ≤ length text.old }
+    ensures { result.now ≡ listed_output (option_map source_bytes came.now) }
+{
+    match came {
+        Some(source) => list(source.bytes(), text),
+        None => &mut text[..0],
+    }
+}
+
 // Why nothing was printed, or not all of it: standard input or standard output failed.
 #[derive(Drop)]
 enum Failure {
@@ -47,23 +62,30 @@ impl fmt::Display for Failure {
     }
 }
 
-// Writes what is printed for the bytes that came, and nothing else.
-fn write<W: Write>(out: &mut W, bytes: &[u8], text: &[u8]) -> Result<(), Failure>
-    requires { text.now ≡ printed bytes.now step_limit }
-    ensures { OnOk result (Appends (W.contents out.old) (W.contents out.new) (printed bytes.now step_limit)) }
+// Writes the output for what came, and nothing else.
+fn write<W: Write>(out: &mut W, came: &Option<Source>, text: &[u8]) -> Result<(), Failure>
+    requires { text.now ≡ listed_output (option_map source_bytes came.now) }
+    ensures output { OnOk result
+        (Appends (W.contents out.old) (W.contents out.new) (listed_output (option_map source_bytes came.now))) }
+    ensures failed { IfNone came.now (IsInputFailure result) }
+    ensures nothing { OnInputFailure result (W.contents out.new ≡ W.contents out.old) }
 {
+    if came.is_none() {
+        return Err(Failure::Input(input::read_failed()));
+    }
     out.write_all(text).map_err(Failure::Output)
 }
 
-// Prints what is due for the whole input, however long, or says which stream failed.
+// Prints what is due for the whole input, however long, or says which stream failed: where it is standard input, nothing was printed.
 fn run<R: Read, W: Write>(reader: &mut R, out: &mut W) -> Result<(), Failure>
-    ensures { OnOk result (IfSome (R.remaining reader.old)
+    ensures output { OnOk result (IfSome (R.remaining reader.old)
         (λ whole. Appends (W.contents out.old) (W.contents out.new) (printed whole step_limit))) }
+    ensures nothing { OnInputFailure result (W.contents out.new ≡ W.contents out.old) }
 {
-    let source = input::fill(reader).map_err(Failure::Input)?;
     let mut text = [0u8; 65536];
-    let part = list(source.bytes(), &mut text);
-    write(out, source.bytes(), part)
+    let came = input::fill(reader).map_err(Failure::Input)?;
+    let part = output(&came, &mut text);
+    write(out, &came, part)
 }
 
 fn main(rt: HostRuntime) -> ExitCode {
