@@ -1,4 +1,5 @@
 // Records of the stream, read from standard input.
+ghost use Rattle.std.specs.Prelude.{◌≡◌, length};
 
 use std::io;
 use std::io::Read;
@@ -33,14 +34,23 @@ pub fn next_head<R: Read>(reader: &mut R) -> io::Result<Option<Head>> {
     }
     Ok(Some(Head {
         op: bytes[0],
-        n: usize::from(u16::from_be_bytes([bytes[2], bytes[3]])),
-        number: u32::from_be_bytes([bytes[4], bytes[5], bytes[6], bytes[7]]),
+        n: header::field_at(&bytes, 2, 2),
+        number: header::field_at(&bytes, 4, 4) as u32,
     }))
 }
 
-// Puts the first words of the raw bytes in their places, each from 8 bytes, high byte first.
+// The word in 8 bytes, high byte first.
+fn word_in(bytes: &[u8]) -> u64
+    requires { length bytes.now ≡ 8 }
+{
+    let high = header::field_at(bytes, 0, 4) as u64;
+    let low = header::field_at(bytes, 4, 4) as u64;
+    high * 4294967296 + low
+}
+
+// Puts the first words of the raw bytes in their places.
 pub fn decode(raw: &[u8; 8800], words: &mut [u64]) {
     for (word, bytes) in words.iter_mut().zip(raw.chunks_exact(8)) {
-        *word = u64::from_be_bytes(bytes.try_into().unwrap());
+        *word = word_in(bytes);
     }
 }
